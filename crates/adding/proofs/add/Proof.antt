@@ -1,0 +1,134 @@
+-- `adding::add` meets its contract: each return is the row that its tests led to. Assumes nothing.
+use mathlib.Core.Path.{_≡_, _∙_, ap, sym, refl}
+use mathlib.Core.List.{List}
+use Prim.Native.Nat.{ℕ, _≤_}
+use lib.ListN.{length, take, getD}
+use mir.Val.{Fits}
+use mir.Syntax.{w8}
+use Rattle.scope.specs.Outcome.{answer}
+use Rattle.scope.specs.Table.{nodeBytes, readRecord}
+use Rattle.scope.specs.Calls.{exchanged}
+use Rattle.record.specs.Read.{readOf}
+use Rattle.table.specs.Counted.{countedOf}
+use Rattle.codec.specs.Valid.{Bytes}
+use Rattle.codec.proofs.Bytes.{bytes-take}
+use Rattle.codec.proofs.Records.{reads, record-bytes}
+use Rattle.adding.specs.declared.Added.the-variants.{Refused}
+use Rattle.adding.specs.Added.{countPassed, readPassed, usedCount, usedNodes}
+use Rattle.adding.proofs.Rows.{refuses, row-9, used-rows, record-rows, add-is, used-nodes, used-count, ready}
+use native.Mathlib.Omega.{arith}
+use borrow.Author.Needs.{needs}
+use Rattle.adding.proofs.add.Statement.{statement}
+use Rattle.adding.proofs.add.Tie as tie
+
+-- past the count: the used part reads, and its nodes are as many
+counted : (c : tie.After-known-told) → usedCount (take (c .before .before .before .before .before .before .before .args .used) (c .before .before .before .before .before .before .before .args .buf .now)) ≡ answer (c .before .c .given .0 .0)
+counted c = sym (c .before .before .before .used-nodes .ensures) ∙ ap countedOf (c .before .c .given .1)
+
+-- past the reading of the record: what was read
+given : (c : tie.After-read-record)
+    → readRecord (exchanged (c .before .before .before .before .before .before .before .before .before .before .args .r)) (length (usedNodes (c .before .before .before .before .before .before .before .before .before .before .args .buf .now) (c .before .before .before .before .before .before .before .before .before .before .args .used) (c .before .before .before .before .c .given .0 .0))) ≡ readOf (c .read-record .result)
+given c =
+    let a = c .before .before .before .before .before .before .before .before .before .before .args in
+    let n : ℕ = c .before .before .before .before .c .given .0 .0 in
+    ap (readRecord (exchanged (a .r))) (used-count (a .buf .now) (a .used) n (counted (c .before .before .before)))
+    ∙ ap (λ (l : List ℕ). readRecord l n) (sym (c .before .before .exchange .ensures))
+    ∙ sym (c .read-record .ensures)
+
+returns : tie.Need-returns
+returns c = refuses (c .before .before .args .buf .now) _ _ (Refused (record { number = 9; place = 0 })) refl (row-9 _ _ _ (c .if1 .taken))
+
+used-nodes-requires : tie.Need-used-nodes-requires
+used-nodes-requires c κs = search needs
+
+enum-known-c : tie.Need-enum-known-c
+enum-known-c c = search needs
+
+enum-told : tie.Need-enum-told
+enum-told c = search needs
+
+pass-count-requires : tie.Need-pass-count-requires
+pass-count-requires c κs = search needs
+
+same-length : tie.Need-same-length
+same-length c = search needs
+
+returns-2 : tie.Need-returns-2
+returns-2 c =
+    let told = c .before .enum-told .given .1 in
+    refuses (c .before .before .before .before .before .before .before .args .buf .now) _ _ (c .pass-count .result) (c .pass-count .ensures ∙ ap countPassed told) (used-rows _ _ _ (c .before .before .before .before .before .if1 .left) (sym (c .before .before .before .used-nodes .ensures) ∙ ap countedOf told))
+
+exchange-requires : tie.Need-exchange-requires
+exchange-requires c κs = search needs
+
+slice-aggregate-read-record : tie.Need-slice-aggregate-read-record
+slice-aggregate-read-record c = search needs
+
+read-record-requires : tie.Need-read-record-requires
+read-record-requires c κs = search needs
+
+enum-known-v : tie.Need-enum-known-v
+enum-known-v c = search needs
+
+enum-told-2 : tie.Need-enum-told-2
+enum-told-2 c = search needs
+
+pass-read-requires : tie.Need-pass-read-requires
+pass-read-requires c κs = search needs
+
+same-length-2 : tie.Need-same-length-2
+same-length-2 c = search needs
+
+returns-3 : tie.Need-returns-3
+returns-3 c =
+    let a = c .before .before .before .before .before .before .before .before .before .before .before .before .before .args in
+    let known = c .before .before .before .before .before .before in
+    let told = c .before .enum-told2 .given .1 in
+    refuses (a .buf .now) (a .used) (a .r) (c .pass-read .result) (c .pass-read .ensures ∙ ap readPassed told)
+    (record-rows (a .buf .now) (a .used) (a .r) (c .before .before .before .before .before .before .before .before .before .before .before .if1 .left) _ (used-nodes (a .buf .now) (a .used) _ (counted known)) (given (c .before .before .before) ∙ ap readOf told))
+
+add-node-requires : tie.Need-add-node-requires
+add-node-requires c κs =
+    let a = c .before .before .before .before .before .before .before .before .before .before .before .before .before .before .args in
+    let y : List ℕ = c .before .before .before .before .before .before .exchange .result in
+    let n : ℕ = c .before .before .before .before .before .before .before .before .c .given .0 .0 in
+    let all : Bytes (a .buf .now) = λ i. c .before .before .before .before .before .before .before .before .before .before .before .before .before .slice-known .given i .fits in
+    let bytes : Bytes y = λ i. let f : Fits w8 (getD y i 0) = search needs in f .fits in
+    let x = sym (c .before .before .before .before .read-record .ensures) ∙ ap readOf (c .before .before .v .given .1) in (
+      ready (a .buf .now) (a .used) n (counted (c .before .before .before .before .before .before .before)) (c .before .before .before .before .before .before .before .before .before .before .before .before .if1 .left) (bytes-take (a .used) (a .buf .now) all),
+      record-bytes y n (search needs) bytes (reads y n x),
+    )
+
+same-length-3 : tie.Need-same-length-3
+same-length-3 c = search needs
+
+returns-4 : tie.Need-returns-4
+returns-4 c =
+    let a = c .before .before .before .before .before .before .before .before .before .before .before .before .before .before .before .before .before .args in
+    let known = c .before .before .before .before .before .before .before .before .before .before in
+    let e = add-is (a .buf .now) (a .used) (a .r) (c .before .before .before .before .before .before .before .before .before .before .before .before .before .before .before .if1 .left) _ (used-nodes (a .buf .now) (a .used) _ (counted known)) (given (c .before .before .before .before .before .before .before) ∙ ap readOf (c .before .before .before .before .before .v .given .1)) in
+    let done = c .before .before .add-node .ensures in
+    rw e (done .answered, done .bytes)
+
+pub add-spec : {M : Type 1} → statement M
+add-spec =
+    tie.close
+    (tie.spec
+    returns
+    used-nodes-requires
+    enum-known-c
+    enum-told
+    pass-count-requires
+    same-length
+    returns-2
+    exchange-requires
+    slice-aggregate-read-record
+    read-record-requires
+    enum-known-v
+    enum-told-2
+    pass-read-requires
+    same-length-2
+    returns-3
+    add-node-requires
+    same-length-3
+    returns-4)

@@ -1,0 +1,36 @@
+-- The answers for a host in C: number 0 and the values, or the refusal's number and place and every value 0. Assumes nothing.
+use mathlib.Core.Bool.{Bool, true, false}
+use Prim.Native.Nat.{ℕ}
+use Rattle.scope.specs.declared.Node.{Node}
+use Rattle.scope.specs.Outcome.{Outcome, answer, refused}
+use Rattle.scope.specs.Calls.{Added}
+use Rattle.adding.specs.declared.Mark.{Mark}
+use Rattle.adding.specs.Added.{marked}
+use Rattle.bevaridhom.specs.declared.BevCount.{BevCount}
+use Rattle.bevaridhom.specs.declared.BevRecord.{BevRecord}
+use Rattle.bevaridhom.specs.declared.BevTruth.{BevTruth}
+use Rattle.bevaridhom.specs.declared.BevAdded.{BevAdded}
+
+abbrev pub countAnswer : Outcome ℕ → BevCount
+countAnswer (answer n) = record { number = 0; place = 0; nodes = n }
+countAnswer (refused n p) = record { number = n; place = p; nodes = 0 }
+
+abbrev pub recordAnswer : Outcome Node → BevRecord
+recordAnswer (answer x) = record { number = 0; place = 0; kind = x .kind; a = x .a; b = x .b }
+recordAnswer (refused n p) = record { number = n; place = p; kind = 0; a = 0; b = 0 }
+
+-- 'yes' is 1, 'no' is 0
+abbrev pub bit : Bool → ℕ
+bit true = 1
+bit false = 0
+
+abbrev pub truthAnswer : Outcome Bool → BevTruth
+truthAnswer (answer b) = record { number = 0; place = 0; truth = bit b }
+truthAnswer (refused n p) = record { number = n; place = p; truth = 0 }
+
+abbrev pub markAnswer : Outcome Mark → BevAdded
+markAnswer (answer m) = record { number = 0; place = 0; literal = m .literal; used = m .used }
+markAnswer (refused n p) = record { number = n; place = p; literal = 0; used = 0 }
+
+abbrev pub addAnswer : Outcome Added → BevAdded
+addAnswer w = markAnswer (marked w)

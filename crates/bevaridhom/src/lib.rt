@@ -1,0 +1,127 @@
+// The calls for a host in C: numbers and byte slices in, a struct by value out. A slice is a pointer and a length.
+ghost use mathlib.Core.Path.{_≡_};
+ghost use Rattle.scope.specs.Calls.{tableCount, tableRecord, evaluate, add, bytesAfter};
+ghost use Rattle.bevaridhom.specs.Answers.{countAnswer, recordAnswer, truthAnswer, addAnswer};
+use adding::Added;
+use record::Read;
+use table::Counted;
+use truth::Evaluated;
+
+// In each answer: number 0 and the values, or the refusal's number and place and every value 0.
+#[repr(C)]
+pub struct BevCount {
+    pub number: u16,
+    pub place: usize,
+    pub nodes: usize,
+}
+
+#[repr(C)]
+pub struct BevRecord {
+    pub number: u16,
+    pub place: usize,
+    pub kind: u8,
+    pub a: u16,
+    pub b: u16,
+}
+
+#[repr(C)]
+pub struct BevTruth {
+    pub number: u16,
+    pub place: usize,
+    pub truth: u8,
+}
+
+#[repr(C)]
+pub struct BevAdded {
+    pub number: u16,
+    pub place: usize,
+    pub literal: usize,
+    pub used: usize,
+}
+
+// Table reading: the node count.
+#[no_mangle]
+pub extern "C" fn bev_count(t: &[u8]) -> BevCount
+    ensures { λ r. ⌜ r ≡ countAnswer (tableCount (now (t .entry))) ⌝ }
+{
+    let c = table::count(t);
+    match c {
+        Counted::Nodes(nodes) => BevCount {
+            number: 0,
+            place: 0,
+            nodes,
+        },
+        Counted::Refused(f) => BevCount {
+            number: f.number,
+            place: f.place,
+            nodes: 0,
+        },
+    }
+}
+
+// Table reading: the record of a literal's node.
+#[no_mangle]
+pub extern "C" fn bev_record(t: &[u8], literal: usize) -> BevRecord
+    ensures { λ r. ⌜ r ≡ recordAnswer (tableRecord (now (t .entry)) literal) ⌝ }
+{
+    let c = table::record_of(t, literal);
+    match c {
+        Read::Found(x) => BevRecord {
+            number: 0,
+            place: 0,
+            kind: x.kind,
+            a: x.a,
+            b: x.b,
+        },
+        Read::Refused(f) => BevRecord {
+            number: f.number,
+            place: f.place,
+            kind: 0,
+            a: 0,
+            b: 0,
+        },
+    }
+}
+
+// The truth of a literal under a setting: 1 yes, 0 no.
+#[no_mangle]
+pub extern "C" fn bev_evaluate(t: &[u8], literal: usize, s: &[u8]) -> BevTruth
+    ensures { λ r. ⌜ r ≡ truthAnswer (evaluate (now (t .entry)) literal (now (s .entry))) ⌝ }
+{
+    let c = truth::evaluate(t, literal, s);
+    match c {
+        Evaluated::Truth(yes) => BevTruth {
+            number: 0,
+            place: 0,
+            truth: yes as u8,
+        },
+        Evaluated::Refused(f) => BevTruth {
+            number: f.number,
+            place: f.place,
+            truth: 0,
+        },
+    }
+}
+
+// Adds a record of 8 bytes to the table in the used part of a buffer.
+#[no_mangle]
+pub extern "C" fn bev_add(buf: &mut [u8], used: usize, r: &[u8; 8]) -> BevAdded
+    ensures answered { λ v. ⌜ v ≡ addAnswer (add (now (buf .entry)) used (now (r .entry))) ⌝ }
+    ensures bytes { λ v. ⌜ now (buf .exit) ≡ bytesAfter (now (buf .entry)) (add (now (buf .entry)) used (now (r .entry))) ⌝ }
+{
+    let c = adding::add(buf, used, *r);
+    match c {
+        Added::At(m) => BevAdded {
+            number: 0,
+            place: 0,
+            literal: m.literal,
+            used: m.used,
+        },
+        Added::Refused(f) => BevAdded {
+            number: f.number,
+            place: f.place,
+            literal: 0,
+            used: 0,
+        },
+    }
+}

@@ -1,0 +1,12 @@
+-- The theory of the search: what its moves say, that it ends, and that its answers are right. Assumes nothing.
+pub mod Lists
+pub mod Literals
+pub mod Count
+pub mod Moves
+pub mod Rows
+pub mod Fresh
+pub mod Search
+pub mod Truth
+pub mod Sound
+pub mod Complete
+pub mod Setting

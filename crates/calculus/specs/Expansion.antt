@@ -1,0 +1,49 @@
+-- 01, 'Expansion': the clauses of a literal. Assumes nothing.
+use mathlib.Core.List.{List, [], _∷_, map}
+use mathlib.Core.Bool.{cond}
+use Prim.Native.Nat.{ℕ, _+_, _-_, _*_, _/_, _%_}
+use lib.Dec.{eqb, ltb}
+use lib.ListN.{getD}
+use Rattle.scope.specs.declared.Node.{Node}
+
+-- '¬ is negation': 2n and 2n + 1 are each other's
+abbrev pub neg : ℕ → ℕ
+neg l = l + 1 - 2 * (l % 2)
+
+-- an operand choice of a clause template: 0 is a, 1 is ¬a, 2 is b, 3 is ¬b
+unfoldable pub chosen : Node → ℕ → ℕ
+chosen x choice =
+    cond (eqb choice 0) (x .a)
+    (cond (eqb choice 1) (neg (x .a))
+    (cond (eqb choice 2) (x .b)
+    (neg (x .b))))
+
+-- 'The clauses of a literal, in order, held in a table by kind and sign': row 2 × kind + sign
+unfoldable pub templates : List (List (List ℕ))
+templates =
+    -- there is no kind 0
+    []
+    ∷ []
+    -- 'TRUE: none; its negation: one empty clause'
+    ∷ []
+    ∷ ([] ∷ [])
+    -- 'ATOM, either sign: none'
+    ∷ []
+    ∷ []
+    -- 'AND: {a} {b}; negated {¬a, ¬b}'
+    ∷ ((0 ∷ []) ∷ (2 ∷ []) ∷ [])
+    ∷ ((1 ∷ 3 ∷ []) ∷ [])
+    -- 'OR: {a, b}; negated {¬a} {¬b}'
+    ∷ ((0 ∷ 2 ∷ []) ∷ [])
+    ∷ ((1 ∷ []) ∷ (3 ∷ []) ∷ [])
+    -- 'IMP: {¬a, b}; negated {a} {¬b}'
+    ∷ ((1 ∷ 2 ∷ []) ∷ [])
+    ∷ ((0 ∷ []) ∷ (3 ∷ []) ∷ [])
+    -- 'IFF: {¬a, b} {a, ¬b}; negated {a, b} {¬a, ¬b}'
+    ∷ ((1 ∷ 2 ∷ []) ∷ (0 ∷ 3 ∷ []) ∷ [])
+    ∷ ((0 ∷ 2 ∷ []) ∷ (1 ∷ 3 ∷ []) ∷ [])
+    ∷ []
+
+-- the clauses of a literal of a table's nodes
+unfoldable pub expand : (ℕ → Node) → ℕ → List (List ℕ)
+expand t l = map (map (chosen (t (l / 2)))) (getD templates (2 * t (l / 2) .kind + l % 2) [])

@@ -1,0 +1,6 @@
+-- What a reader must believe of the solver, in the order of the scope paper (01). Assumes nothing.
+pub mod Expansion
+pub mod Order
+pub mod Model
+pub mod Decide
+pub mod Samples

@@ -1,0 +1,2 @@
+-- What the theorems about tables and their bytes speak of. Assumes nothing.
+pub mod Valid

@@ -1,0 +1,1 @@
+// No code: theorems about tables and their bytes, in proofs/.

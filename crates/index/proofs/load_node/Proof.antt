@@ -1,0 +1,122 @@
+-- `index::load_node` meets its contract: the five stores write the node that the record holds. Assumes nothing.
+use lib.ListN.{length-set}
+use Rattle.index.proofs.Nodes.{node-read, loaded-more}
+use native.Mathlib.Omega.{arith}
+use borrow.Author.Needs.{needs}
+use Rattle.index.proofs.load_node.Statement.{statement}
+use Rattle.index.proofs.load_node.Tie as tie
+
+place-requires : tie.Need-place-requires
+place-requires c κs = search needs
+
+add-end : tie.Need-add-end
+add-end c = search needs
+
+sub-fields : tie.Need-sub-fields
+sub-fields c = search needs
+
+part-fields-start : tie.Need-part-fields-start
+part-fields-start c = search needs
+
+part-fields-end : tie.Need-part-fields-end
+part-fields-end c = search needs
+
+fields-requires : tie.Need-fields-requires
+fields-requires c κs = search needs
+
+cast-x : tie.Need-cast-x
+cast-x c = search needs
+
+mul-x : tie.Need-mul-x
+mul-x c = search needs
+
+mul-x-2 : tie.Need-mul-x-2
+mul-x-2 c = search needs
+
+slice-write-x : tie.Need-slice-write-x
+slice-write-x c = search needs
+
+mul-x-3 : tie.Need-mul-x-3
+mul-x-3 c = search needs
+
+add-x : tie.Need-add-x
+add-x c = search needs
+
+mul-x-4 : tie.Need-mul-x-4
+mul-x-4 c = search needs
+
+slice-write-x-2 : tie.Need-slice-write-x-2
+slice-write-x-2 c = simp length-set (omega (arith, c .before .before .before .before .before .before .pre .0 .0, c .before .before .before .before .before .before .pre .1 .size))
+
+mul-x-5 : tie.Need-mul-x-5
+mul-x-5 c = search needs
+
+add-x-2 : tie.Need-add-x-2
+add-x-2 c = search needs
+
+mul-x-6 : tie.Need-mul-x-6
+mul-x-6 c = search needs
+
+slice-write-x-3 : tie.Need-slice-write-x-3
+slice-write-x-3 c = simp length-set (omega (arith, c .before .before .before .before .before .before .pre .0 .0, c .before .before .before .before .before .before .pre .1 .size))
+
+mul-x-7 : tie.Need-mul-x-7
+mul-x-7 c = search needs
+
+add-x-3 : tie.Need-add-x-3
+add-x-3 c = search needs
+
+mul-x-8 : tie.Need-mul-x-8
+mul-x-8 c = search needs
+
+slice-write-x-4 : tie.Need-slice-write-x-4
+slice-write-x-4 c = simp length-set (omega (arith, c .before .before .before .before .before .before .pre .0 .0, c .before .before .before .before .before .before .pre .1 .size))
+
+add-x-4 : tie.Need-add-x-4
+add-x-4 c = search needs
+
+mul-x-9 : tie.Need-mul-x-9
+mul-x-9 c = search needs
+
+slice-write-x-5 : tie.Need-slice-write-x-5
+slice-write-x-5 c = simp length-set (omega (arith, c .before .before .before .before .before .before .pre .0 .0, c .before .before .before .before .before .before .pre .1 .size))
+
+same-length : tie.Need-same-length
+same-length c = search needs
+
+returns : tie.Need-returns
+returns c =
+    let start = c .before .before .before .before .before .before in
+    loaded-more (start .args .t .now) (start .args .x .now) (start .args .m) (c .before .fields .result) (start .pre .0 .0) (node-read _ _ _ (c .before .fields .ensures) (c .before .before .before .place .ensures)) (start .pre .1)
+
+pub load-node-spec : {M : Type 1} → statement M
+load-node-spec =
+    tie.close
+    (tie.spec
+    place-requires
+    add-end
+    sub-fields
+    part-fields-start
+    part-fields-end
+    fields-requires
+    cast-x
+    mul-x
+    mul-x-2
+    slice-write-x
+    mul-x-3
+    add-x
+    mul-x-4
+    slice-write-x-2
+    mul-x-5
+    add-x-2
+    mul-x-6
+    slice-write-x-3
+    mul-x-7
+    add-x-3
+    mul-x-8
+    slice-write-x-4
+    add-x-4
+    mul-x-9
+    slice-write-x-5
+    same-length
+    returns)

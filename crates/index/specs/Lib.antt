@@ -1,0 +1,2 @@
+-- What the index of a table holds. Assumes nothing.
+pub mod Index

@@ -1,0 +1,2 @@
+-- Laws of the search for a node. Assumes nothing.
+pub mod Finds

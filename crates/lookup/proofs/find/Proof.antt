@@ -1,0 +1,87 @@
+-- `lookup::find` meets its contract: n and what is left of the search from n on is the answer. Assumes nothing.
+use mathlib.Core.Path.{_≡_, _∙_, ap, sym, refl}
+use Prim.Native.Nat.{ℕ, _+_, _-_, _≤_}
+use native.Mathlib.Nat.{sub-zero, zero-add}
+use Rattle.scope.specs.declared.Node.{Node}
+use Rattle.scope.specs.Table.{sameNode, nodeAt, listFrom}
+use Rattle.scope.specs.Calls.{indexOf}
+use Rattle.lookup.proofs.Finds.{part-node, found, passed, none}
+use native.Mathlib.Omega.{arith}
+use borrow.Author.Needs.{needs}
+use Rattle.lookup.proofs.find.Statement.{statement}
+use Rattle.lookup.proofs.find.Tie as tie
+
+abbrev Inv-loop : tie.InvT-loop
+Inv-loop t nodes x n₀ n = (n ≤ nodes) × (n + indexOf x (listFrom (nodeAt t) n (nodes - n)) ≡ indexOf x (listFrom (nodeAt t) 0 nodes))
+
+abbrev μ-loop : tie.MeasureT-loop
+μ-loop t nodes x n₀ n = nodes - n
+
+-- what a turn compares: node n and x
+compared : (c : tie.After-same Inv-loop μ-loop) → c .same .result ≡ sameNode (nodeAt (c .before .before .before .before .before .before .before .args .t .now) (c .before .before .before .before .before .loop .n)) (c .before .before .before .before .before .before .before .args .x)
+compared c =
+    let a = c .before .before .before .before .before .before .before .args in
+    c .same .ensures ∙ ap (λ (y : Node). sameNode y (a .x)) (c .before .fields .ensures ∙ part-node (a .t .now) (c .before .before .before .before .before .loop .n) _ (c .before .before .before .place .ensures))
+
+loop-holds : tie.Need-loop-holds Inv-loop μ-loop
+loop-holds c = (search needs, simp (sub-zero, zero-add))
+
+place-requires : tie.Need-place-requires Inv-loop μ-loop
+place-requires c κs = search needs
+
+add-end : tie.Need-add-end Inv-loop μ-loop
+add-end c = omega (arith, c .place .ensures)
+
+sub-fields : tie.Need-sub-fields Inv-loop μ-loop
+sub-fields c = search needs
+
+part-fields-start : tie.Need-part-fields-start Inv-loop μ-loop
+part-fields-start c = search needs
+
+part-fields-end : tie.Need-part-fields-end Inv-loop μ-loop
+part-fields-end c = rw (c .place .ensures) (c .before .before .before .before .pre .1 _ (c .before .loop-test .taken))
+
+fields-requires : tie.Need-fields-requires Inv-loop μ-loop
+fields-requires c κs = search needs
+
+same-requires : tie.Need-same-requires Inv-loop μ-loop
+same-requires c κs = search needs
+
+returns : tie.Need-returns Inv-loop μ-loop
+returns c =
+    let at = c .before .before .before .before .before .before .loop in
+    sym (found _ _ _ _ (c .before .before .before .before .before .loop-test .taken) (sym (compared (c .before)) ∙ c .if1 .taken)) ∙ at .inv .1
+
+add-n : tie.Need-add-n Inv-loop μ-loop
+add-n c = search needs
+
+loop-less : tie.Need-loop-less Inv-loop μ-loop
+loop-less c = search needs
+
+loop-again : tie.Need-loop-again Inv-loop μ-loop
+loop-again c =
+    let at = c .before .before .before .before .before .before .loop in
+    (omega (arith, c .before .before .before .before .before .loop-test .taken), sym (passed _ _ _ _ (c .before .before .before .before .before .loop-test .taken) (sym (compared (c .before)) ∙ c .if1 .left)) ∙ at .inv .1)
+
+returns-2 : tie.Need-returns-2 Inv-loop μ-loop
+returns-2 c = sym (none _ _ _ _ (c .before .loop .inv .0) (c .loop-test .left)) ∙ c .before .loop .inv .1
+
+pub find-spec : {M : Type 1} → statement M
+find-spec =
+    tie.close
+    (tie.spec
+    Inv-loop
+    μ-loop
+    loop-holds
+    place-requires
+    add-end
+    sub-fields
+    part-fields-start
+    part-fields-end
+    fields-requires
+    same-requires
+    returns
+    add-n
+    loop-less
+    loop-again
+    returns-2)

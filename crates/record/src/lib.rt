@@ -1,0 +1,118 @@
+// Reading the record of a node.
+ghost use mathlib.Core.Path.{_≡_};
+ghost use mathlib.Core.Bool.{Bool};
+ghost use Prim.Native.Nat.{_+_, _*_, _/_, _%_, _<_, _≤_};
+ghost use lib.ListN.{length};
+ghost use Rattle.scope.specs.Outcome.{verdictOf};
+ghost use Rattle.scope.specs.Table.{nodeOf, formOk, rangeOk, orderOk, readRecord};
+ghost use Rattle.record.specs.Read.{readOf, readVerdict};
+use scope::Node;
+use scope::Refusal;
+use scope::Verdict;
+
+// What reading a record answers: the node or its refusal.
+pub enum Read {
+    Found(Node),
+    Refused(Refusal),
+}
+
+// The kind is known, and each must-be-zero field is 0.
+fn form_ok(x: Node, one: u8, six: u16) -> bool
+    ensures { λ r. ⌜ r ≡ formOk x one six ⌝ }
+{
+    if one != 0 {
+        return false;
+    }
+    if six != 0 {
+        return false;
+    }
+    let kind = x.kind;
+    match kind {
+        1 => {
+            if x.a != 0 {
+                return false;
+            }
+            x.b == 0
+        }
+        2 => x.b == 0,
+        3 | 4 | 5 | 6 => true,
+        _ => false,
+    }
+}
+
+// The point is below 1,024, or the operands are literals of nodes before node n.
+fn range_ok(x: Node, n: usize) -> bool
+    ensures { λ r. ⌜ r ≡ rangeOk x n ⌝ }
+{
+    if x.kind < 2 {
+        return true;
+    }
+    if x.kind == 2 {
+        return x.a < 1024;
+    }
+    if n <= (x.a / 2) as usize {
+        return false;
+    }
+    ((x.b / 2) as usize) < n
+}
+
+// The operands are of two nodes, the lower first but in an implication.
+fn order_ok(x: Node) -> bool
+    ensures { λ r. ⌜ r ≡ orderOk x ⌝ }
+{
+    if x.kind < 3 {
+        return true;
+    }
+    if x.kind == 5 {
+        return x.a / 2 != x.b / 2;
+    }
+    x.a / 2 < x.b / 2
+}
+
+// The fields of a record.
+pub fn fields(r: &[u8]) -> Node
+    requires { ⌜ length (now r) ≡ 8 ⌝ }
+    ensures { λ x. ⌜ x ≡ nodeOf (now (r .entry)) ⌝ }
+{
+    let a = checksum::word(r, 2);
+    let b = checksum::word(r, 4);
+    Node { kind: r[0], a, b }
+}
+
+// The record of node n: its node or its refusal.
+pub fn read_record(r: &[u8], n: usize) -> Read
+    requires { ⌜ length (now r) ≡ 8 ⌝ }
+    ensures { λ v. ⌜ readOf v ≡ readRecord (now (r .entry)) n ⌝ }
+{
+    let x = fields(r);
+    let six = checksum::word(r, 6);
+    if !form_ok(x, r[1], six) {
+        return Read::Refused(Refusal {
+            number: 14,
+            place: n,
+        });
+    }
+    if !range_ok(x, n) {
+        return Read::Refused(Refusal {
+            number: 15,
+            place: n,
+        });
+    }
+    if !order_ok(x) {
+        return Read::Refused(Refusal {
+            number: 16,
+            place: n,
+        });
+    }
+    Read::Found(x)
+}
+
+// A refusal passed on.
+pub fn pass(r: Read) -> Verdict
+    ensures { λ v. ⌜ verdictOf v ≡ readVerdict r ⌝ }
+{
+    match r {
+        Read::Found(_) => Verdict::Fine,
+        Read::Refused(f) => Verdict::Refused(f),
+    }
+}

@@ -1,0 +1,89 @@
+-- Laws of places and keys: later records stand later, and two records of bytes are the same where their keys are.
+-- Assumes nothing.
+use mathlib.Core.Path.{_≡_, sym, refl}
+use mathlib.Core.List.{List}
+use mathlib.Core.Bool.{Bool, true, false, _&&_}
+use Prim.Native.Nat.{ℕ, zero, suc, _+_, _-_, _≤_, _<_}
+use native.Mathlib.Omega.{arith}
+use lib.Dec.{eqb, lit<}
+use lib.ListN.{getD, take, drop}
+use lib.Seq.{getD-take, getD-drop}
+use borrow.Author.Tests.{eq-eqb, eqb-true}
+use Rattle.scope.specs.declared.Node.{Node}
+use Rattle.scope.specs.Block.{recordAt}
+use Rattle.scope.specs.Table.{nodeOf, nodeAt, sameNode, anyBelow, repeats}
+use Rattle.scope.proofs.Tests.{and-left, and-right}
+use Rattle.repeats.specs.Chains.{placeOf, keyOf}
+
+-- later records stand later
+pub place-mono : (m n : ℕ) → m ≤ n → placeOf m ≤ placeOf n
+place-mono m n h = omega arith
+
+-- what a slice of bytes is known to hold
+abbrev pub Bytes : List ℕ → Type 0
+Bytes t = (i : ℕ) → getD t i 0 < 256
+
+-- the key of node n, and whether node m has the key k
+abbrev pub keyAt : List ℕ → ℕ → ℕ
+keyAt t n = keyOf (nodeAt t n)
+
+abbrev pub hasKey : List ℕ → ℕ → ℕ → Bool
+hasKey t k m = eqb (keyAt t m) k
+
+-- the record of node n is the 8 bytes from its place on
+pub key-read : {x : Node} (t : List ℕ) (at n : ℕ) → x ≡ nodeOf (take (at + 8 - at) (drop at t)) → at ≡ placeOf n → keyOf x ≡ keyAt t n
+unfolding recordAt
+key-read t at n e p =
+    let q : at + 8 - at ≡ 8 = omega arith in
+    rw (e, q, p)
+
+-- a byte and a word: a key keeps such a kind and such an a apart
+record Small (x : Node) : Type 0 where
+  kind-small : x .kind < 256
+  a-small : x .a < 65536
+
+byte-of : (t : List ℕ) (p i : ℕ) → Bytes t → i < 8 → getD (take 8 (drop p t)) i 0 < 256
+byte-of t p i b h = rw (getD-take 8 (drop p t) i 0 h, getD-drop) (b (p + i))
+
+node-small : (t : List ℕ) (n : ℕ) → Bytes t → Small (nodeAt t n)
+unfolding nodeOf recordAt
+node-small t n b = record {
+  kind-small = byte-of t (placeOf n) 0 b (lit< tt);
+  a-small = omega (arith, byte-of t (placeOf n) 2 b (lit< tt), byte-of t (placeOf n) 3 b (lit< tt));
+}
+
+-- two tests that imply each other
+agree : (p q : Bool) → (p ≡ true → q ≡ true) → (q ≡ true → p ≡ true) → p ≡ q
+agree true q f g = sym (f refl)
+agree false true f g = g refl
+agree false false f g = refl
+
+-- two nodes whose kinds and first words are small are the same where their keys are
+module _ (x y : Node) (sx : Small x) (sy : Small y) where
+  same-key : sameNode x y ≡ true → keyOf x ≡ keyOf y
+  same-key e =
+      let r = and-right (eqb (x .kind) (y .kind)) (eqb (x .a) (y .a) && eqb (x .b) (y .b)) e in
+      let k : x .kind ≡ y .kind = eqb-true (x .kind) (y .kind) (and-left _ _ e) in
+      let a : x .a ≡ y .a = eqb-true (x .a) (y .a) (and-left (eqb (x .a) (y .a)) (eqb (x .b) (y .b)) r) in
+      let b : x .b ≡ y .b = eqb-true (x .b) (y .b) (and-right (eqb (x .a) (y .a)) (eqb (x .b) (y .b)) r) in
+      omega arith
+
+  key-same : keyOf x ≡ keyOf y → sameNode x y ≡ true
+  key-same e = simp (eq-eqb (x .kind) (y .kind) (omega arith), eq-eqb (x .a) (y .a) (omega arith), eq-eqb (x .b) (y .b) (omega arith))
+
+  by-key : sameNode x y ≡ eqb (keyOf x) (keyOf y)
+  by-key =
+      agree (sameNode x y) (eqb (keyOf x) (keyOf y))
+      (λ e. eq-eqb (keyOf x) (keyOf y) (same-key e))
+      (λ e. key-same (eqb-true (keyOf x) (keyOf y) e))
+
+-- tests that agree pass or fail together
+any-same : (p q : ℕ → Bool) (n : ℕ) → ((m : ℕ) → p m ≡ q m) → anyBelow p n ≡ anyBelow q n
+unfolding anyBelow
+any-same p q zero h = refl
+any-same p q (suc n) h = rw (h n, any-same p q n h)
+
+-- a record repeats an earlier one where an earlier one has its key
+pub repeats-key : (t : List ℕ) (n : ℕ) → Bytes t → repeats t n ≡ anyBelow (hasKey t (keyAt t n)) n
+unfolding repeats
+repeats-key t n b = any-same _ _ n (λ m. by-key (nodeAt t m) (nodeAt t n) (node-small t m b) (node-small t n b))

@@ -1,0 +1,94 @@
+-- `repeats::seen` meets its contract: the walk along the chain of the key's hash finds what `repeats` does. The invariant says what
+-- is left of that search; the links fall, so the measure is the link. Assumes nothing.
+use mathlib.Core.Path.{_∙_, sym}
+use Prim.Native.Nat.{_%_, _-_}
+use native.Mathlib.Omega.{arith}
+use borrow.Author.Needs.{needs}
+use Rattle.repeats.proofs.Keys.{place-mono}
+use Rattle.repeats.proofs.Chains.{Left, at-head, at-end, falls, finds, goes-on}
+use Rattle.repeats.proofs.seen.Statement.{statement}
+use Rattle.repeats.proofs.seen.Tie as tie
+
+abbrev Inv-loop : tie.InvT-loop
+Inv-loop t head next n k s₀ s = Left t next n k s
+
+abbrev μ-loop : tie.MeasureT-loop
+μ-loop t head next n k s₀ s = s
+
+key-requires : tie.Need-key-requires Inv-loop μ-loop
+key-requires c κs = search needs
+
+mul-s : tie.Need-mul-s Inv-loop μ-loop
+mul-s c = search needs
+
+shared-slice-read-s : tie.Need-shared-slice-read-s Inv-loop μ-loop
+shared-slice-read-s c = search needs
+
+cast-s : tie.Need-cast-s Inv-loop μ-loop
+cast-s c = omega (arith, c .shared-slice-known4 .given (c .before .key .result % 4093))
+
+loop-holds : tie.Need-loop-holds Inv-loop μ-loop
+loop-holds c =
+    at-head
+    (λ i. c .before .before .before .before .shared-slice-known .given i .fits)
+    (c .before .before .before .before .before .pre .2)
+    (c .before .key .ensures)
+
+sub-key : tie.Need-sub-key Inv-loop μ-loop
+sub-key c = search needs
+
+key-requires-2 : tie.Need-key-requires-2 Inv-loop μ-loop
+key-requires-2 c κs = (
+  omega arith,
+  omega (arith, place-mono (c .before .loop .s - 1) (c .before .before .before .before .before .before .before .args .n) (omega arith)),
+)
+
+returns : tie.Need-returns Inv-loop μ-loop
+returns c = finds (c .before .before .before .loop .inv) (λ z. omega arith) (sym (c .before .key2 .ensures) ∙ c .if1 .taken)
+
+sub-s : tie.Need-sub-s Inv-loop μ-loop
+sub-s c = search needs
+
+mul-s-2 : tie.Need-mul-s-2 Inv-loop μ-loop
+mul-s-2 c = search needs
+
+shared-slice-read-s-2 : tie.Need-shared-slice-read-s-2 Inv-loop μ-loop
+shared-slice-read-s-2 c = search needs
+
+cast-s-2 : tie.Need-cast-s-2 Inv-loop μ-loop
+cast-s-2 c = omega (arith, c .shared-slice-known5 .given (c .before .before .before .before .loop .s - 1))
+
+loop-less : tie.Need-loop-less Inv-loop μ-loop
+loop-less c = omega (arith, falls (c .before .before .before .before .loop .inv) (λ z. omega arith))
+
+loop-again : tie.Need-loop-again Inv-loop μ-loop
+loop-again c =
+    goes-on
+    (c .before .before .before .before .loop .inv)
+    (λ z. omega arith)
+    (λ q. c .before .if1 .left (c .before .before .key2 .ensures ∙ q))
+
+returns-2 : tie.Need-returns-2 Inv-loop μ-loop
+returns-2 c = at-end (c .before .loop .inv) (omega arith)
+
+pub seen-spec : {M : Type 1} → statement M
+seen-spec =
+    tie.close
+    (tie.spec
+    Inv-loop
+    μ-loop
+    key-requires
+    mul-s
+    shared-slice-read-s
+    cast-s
+    loop-holds
+    sub-key
+    key-requires-2
+    returns
+    sub-s
+    mul-s-2
+    shared-slice-read-s-2
+    cast-s-2
+    loop-less
+    loop-again
+    returns-2)

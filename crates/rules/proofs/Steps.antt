@@ -1,0 +1,196 @@
+-- The form of steps: those of the derivation in the solver's order meet row 44 and fit their four bytes, and a step is read back from
+-- its bytes. Assumes nothing.
+use mathlib.Core.Path.{_≡_, refl, ap}
+use mathlib.Core.List.{List, [], _∷_, map}
+use mathlib.Core.Bool.{Bool, true, false, _&&_, _||_}
+use Prim.Native.Nat.{ℕ, zero, suc, _+_, _*_, _/_, _%_, _<_, _≤_}
+use native.Mathlib.Omega.{arith}
+use lib.Dec.{eqb, leb, lit<}
+use lib.ListN.{length, getD, length-append, length-map}
+use borrow.Author.Tests.{eqb-true, leb-true, le-leb}
+use Rattle.scope.specs.declared.Node.{Node}
+use Rattle.scope.proofs.Tests.{and-left, and-right}
+use Rattle.calculus.specs.Expansion.{neg, chosen, templates, expand}
+use Rattle.calculus.specs.Order.{valueOf, clauses, Tree, tree}
+use Rattle.calculus.specs.Model.{All, Table, Below, Good}
+use Rattle.calculus.proofs.Lists.{every, every-all, all-append, all-at, all-each, all-imply, all-map}
+use Rattle.calculus.proofs.Count.{at-most}
+use Rattle.calculus.proofs.Moves.{conflict-clause, unit-clause}
+use Rattle.calculus.proofs.Search.{Grown, closes, joins, ends, parts, grown-whole}
+use Rattle.rules.specs.declared.Step.{Step}
+use Rattle.rules.specs.Steps.{step, U, C, stepBytes, stepOf, stepOk}
+use Rattle.rules.specs.Rules.{isFails}
+use Rattle.rules.specs.Derivation.{removals, removed, stepsOf}
+use Rattle.rules.proofs.Laws.{by-test, all-getD}
+
+-- a step that a file can hold
+pub record Formed (s : Step) : Type 0 where
+  pub ok : stepOk s ≡ true
+  pub small : s .value < 65536
+
+-- ---- bytes
+
+pub length-step : (s : Step) → length (stepBytes s) ≡ 4
+unfolding stepBytes
+length-step s = refl
+
+-- a step is read back from its bytes
+pub step-of-bytes : (s : Step) → stepOf (stepBytes s) ≡ s
+unfolding stepOf stepBytes
+step-of-bytes s = ap (step (s .rule) (s .position)) (omega arith)
+
+-- and four bytes are those of the step that they give
+pub bytes-of-step : (r : List ℕ) → length r ≡ 4 → ((i : ℕ) → getD r i 0 < 256) → stepBytes (stepOf r) ≡ r
+unfolding stepOf stepBytes
+bytes-of-step [] e h = absurd (omega arith)
+bytes-of-step (a ∷ []) e h = absurd (omega arith)
+bytes-of-step (a ∷ b ∷ []) e h = absurd (omega arith)
+bytes-of-step (a ∷ b ∷ c ∷ []) e h = absurd (omega arith)
+bytes-of-step (a ∷ b ∷ c ∷ d ∷ []) e h =
+    let low : (c + 256 * d) % 256 ≡ c = omega (arith, h 2) in
+    let high : (c + 256 * d) / 256 ≡ d = omega (arith, h 2) in
+    rw (low, high)
+bytes-of-step (a ∷ b ∷ c ∷ d ∷ x ∷ r) e h = absurd (omega arith)
+
+-- the letters of the rules without a position
+abbrev plain : ℕ → Bool
+plain r = eqb r 85 || (eqb r 69 || (eqb r 67 || eqb r 83))
+
+or-cases : {A : Type 0} (a b : Bool) → (a || b) ≡ true → (a ≡ true → A) → (b ≡ true → A) → A
+or-cases true b e f g = f refl
+or-cases false b e f g = g e
+
+plain-small : (r : ℕ) → plain r ≡ true → r < 256
+plain-small r e =
+    or-cases (eqb r 85) (eqb r 69 || (eqb r 67 || eqb r 83)) e (λ q. omega (arith, eqb-true r 85 q))
+    (λ e. or-cases (eqb r 69) (eqb r 67 || eqb r 83) e (λ q. omega (arith, eqb-true r 69 q))
+    (λ e. or-cases (eqb r 67) (eqb r 83) e (λ q. omega (arith, eqb-true r 67 q)) (λ q. omega (arith, eqb-true r 83 q))))
+
+-- a formed step's rule and position are bytes
+step-small : (s : Step) → stepOk s ≡ true → (s .rule < 256) × (s .position < 256)
+unfolding stepOk
+step-small s e =
+    by-test (eqb (s .rule) 82)
+    (λ q. (omega (arith, eqb-true (s .rule) 82 q), omega (arith, leb-true (s .position) _ (rw q at e))))
+    (λ q.
+    let f : (plain (s .rule) && eqb (s .position) 0) ≡ true = rw q at e in (
+      plain-small (s .rule) (and-left (plain (s .rule)) (eqb (s .position) 0) f),
+      omega (arith, eqb-true (s .position) 0 (and-right (plain (s .rule)) (eqb (s .position) 0) f)),
+    ))
+
+-- and so are all its bytes
+pub step-bytes : (s : Step) → Formed s → (i : ℕ) → getD (stepBytes s) i 0 < 256
+unfolding stepBytes
+step-bytes s f zero = step-small s (f .ok) .0
+step-bytes s f (suc zero) = step-small s (f .ok) .1
+step-bytes s f (suc (suc zero)) = omega arith
+step-bytes s f (suc (suc (suc zero))) = omega (arith, f .small)
+step-bytes s f (suc (suc (suc (suc i)))) = lit< tt
+
+-- ---- the sizes of clauses
+
+-- the most literals of a clause, and the most clauses of a literal
+abbrev pub widest : ℕ
+widest = 2
+
+abbrev pub most : ℕ
+most = 2
+
+abbrev pub Short : List ℕ → Type 0
+Short c = length c ≤ widest
+
+abbrev shortClause : List ℕ → Bool
+shortClause c = leb (length c) widest
+
+abbrev shortRow : List (List ℕ) → Bool
+shortRow row = leb (length row) most && every shortClause row
+
+rows-short : every shortRow templates ≡ true
+unfolding templates
+rows-short = refl
+
+-- of every row of the templates
+row-short : (i : ℕ) → (length (getD templates i []) ≤ most) × All Short (getD templates i [])
+row-short i =
+    let row : List (List ℕ) = getD templates i [] in
+    let e : shortRow row ≡ true = all-getD (λ r. shortRow r ≡ true) templates i [] refl (every-all shortRow templates rows-short) in (
+      leb-true (length row) most (and-left (leb (length row) most) (every shortClause row) e),
+      all-imply (λ c. shortClause c ≡ true) Short (λ c. leb-true (length c) widest) row
+          (every-all shortClause row (and-right (leb (length row) most) (every shortClause row) e)),
+    )
+
+module _ (t : ℕ → Node) where
+  -- of every literal
+  expand-few : (l : ℕ) → length (expand t l) ≤ most
+  unfolding expand
+  expand-few l =
+      let i : ℕ = 2 * t (l / 2) .kind + l % 2 in
+      omega (arith, length-map (getD templates i []) (map (chosen (t (l / 2)))), row-short i .0)
+
+  expand-short : (l : ℕ) → All Short (expand t l)
+  unfolding expand
+  expand-short l =
+      let i : ℕ = 2 * t (l / 2) .kind + l % 2 in
+      all-map Short (map (chosen (t (l / 2)))) (getD templates i [])
+      (all-imply Short (λ c. Short (map (chosen (t (l / 2))) c)) (λ c h. omega (arith, length-map c (chosen (t (l / 2))), h))
+      (getD templates i []) (row-short i .1))
+
+  module _ (goals : List ℕ) where
+    -- the clause list has at most so many clauses
+    pub clauses-few : (G : List ℕ) → length (clauses (expand t) goals G) ≤ length goals + most * length G
+    unfolding clauses
+    clauses-few [] = omega (arith, length-map goals (_∷ []))
+    clauses-few (l ∷ G) = omega (arith, length-append (clauses (expand t) goals G) (expand t l), clauses-few G, expand-few l)
+
+    -- and short ones
+    pub clauses-short : (G : List ℕ) → All Short (clauses (expand t) goals G)
+    unfolding clauses
+    clauses-short [] = all-map Short (_∷ []) goals (all-each (λ l. Short (l ∷ [])) (λ l. omega arith) goals)
+    clauses-short (l ∷ G) = all-append Short (clauses (expand t) goals G) (expand t l) (clauses-short G) (expand-short l)
+
+-- ---- the steps of a search
+
+-- the removals of a short clause
+removals-formed : (G : List ℕ) (k p : ℕ) (c : List ℕ) → k < 65536 → p + length c ≤ widest → All Formed (removals G k p c)
+unfolding removals
+removals-formed G k p [] h w = tt
+removals-formed G k p (l ∷ c) h w =
+    let r : All Formed (removals G k (suc p) c) = removals-formed G k (suc p) c h (omega arith) in
+    by-test (isFails (valueOf G l))
+    (λ e. rw e (record { ok = unfold stepOk in le-leb p _ (omega arith); small = h }, r))
+    (λ e. rw e r)
+
+-- the steps without a position
+plain-formed : (r k : ℕ) → eqb r 82 ≡ false → plain r ≡ true → k < 65536 → Formed (step r 0 k)
+plain-formed r k e f h = record { ok = unfold stepOk in rw (e, f); small = h }
+
+module _ (n : ℕ) (t : ℕ → Node) (goals : List ℕ) (h : n ≤ 2016) (few : length goals ≤ 64) where
+  module _ (G : List ℕ) (g : Good n G) (k : ℕ) (in-list : k < length (clauses (expand t) goals G)) where
+    -- a clause's number is small
+    pub number-small : k < 65536
+    number-small = omega (arith, clauses-few t goals G, at-most n G g)
+
+    removed-formed : All Formed (removed (expand t) goals G k)
+    removed-formed =
+        removals-formed G k 0 (getD (clauses (expand t) goals G) k []) number-small
+        (omega (arith, all-at Short (clauses (expand t) goals G) k [] (clauses-short t goals G) in-list))
+
+  grown-formed : {G : List ℕ} {tr : Tree} → Grown n t goals G tr → All Formed (stepsOf (expand t) goals G tr)
+  unfolding stepsOf
+  grown-formed {G} (closes {k = k} g m) =
+      let q = conflict-clause (expand t) goals G k m in
+      all-append Formed (removed (expand t) goals G k) (C k ∷ []) (removed-formed G g k (q .0))
+      (plain-formed 67 k refl refl (number-small G g k (q .0)), tt)
+  grown-formed {G} (joins {k = k} {l = l} {below = below} g m f r) =
+      let q = unit-clause (expand t) goals G k l m in
+      all-append Formed (removed (expand t) goals G k) (U k ∷ stepsOf (expand t) goals (l ∷ G) below) (removed-formed G g k (q .0))
+      (plain-formed 85 k refl refl (number-small G g k (q .0)), grown-formed r)
+  grown-formed (ends g m) = tt
+  grown-formed {G} (parts {l = l} {left = x} {right = y} g m f p q) = (
+    plain-formed 83 l refl refl (omega (arith, f .0)),
+    all-append Formed (stepsOf (expand t) goals (l ∷ G) x) (stepsOf (expand t) goals (neg l ∷ G) y) (grown-formed p) (grown-formed q),
+  )
+
+  -- every step of the derivation in the solver's order can be held in a file
+  pub derivation-formed : Table n t → Below n goals → All Formed (stepsOf (expand t) goals [] (tree (expand t) goals n []))
+  derivation-formed T B = grown-formed (grown-whole n t goals T B)

@@ -1,0 +1,5 @@
+-- What a reader must believe of derivations, in the order of the scope paper (01). Assumes nothing.
+pub mod Steps
+pub mod Rules
+pub mod Derivation
+pub mod Samples

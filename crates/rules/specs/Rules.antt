@@ -1,0 +1,172 @@
+-- 01, 'Derivations', second part: the checker's state and its rules. The clauses of a literal come from any `expand`.
+-- Assumes nothing.
+use mathlib.Core.List.{List, [], _∷_, _++_, map}
+use mathlib.Core.Bool.{Bool, true, false, cond, not, _&&_, _||_}
+use Prim.Native.Nat.{ℕ, zero, suc, _+_, _*_}
+use lib.Dec.{eqb, ltb}
+use lib.ListN.{length, getD}
+use Rattle.scope.specs.Outcome.{Outcome, answer, refused, require, fine, _>>_, _>>=_}
+use Rattle.calculus.specs.Expansion.{neg}
+use Rattle.calculus.specs.Order.{Value, holds, fails, undecided, valueOf, mem, clauses}
+use Rattle.rules.specs.declared.Step.{Step}
+
+-- a literal of the clause list: a clause's number and a position in it
+pub record Place : Type 0 where
+  pub clause : ℕ
+  pub position : ℕ
+
+abbrev pub samePlace : Place → Place → Bool
+samePlace x y = eqb (x .clause) (y .clause) && eqb (x .position) (y .position)
+
+unfoldable pub among : Place → List Place → Bool
+among x [] = false
+among x (y ∷ ys) = samePlace x y || among x ys
+
+-- 'Checker's state: G, the clause list, and which literals and clauses were struck on this branch.' The clause list is that of G.
+pub record Branch : Type 0 where
+  pub G : List ℕ
+  pub struckClauses : List ℕ
+  pub struckLiterals : List Place
+
+-- 'It starts as the solver's does, with nothing struck.'
+abbrev pub root : Branch
+root = record { G = []; struckClauses = []; struckLiterals = [] }
+
+-- the literal joins G, and with it its expansion
+abbrev pub join : ℕ → Branch → Branch
+join l b = record { G = l ∷ b .G; struckClauses = b .struckClauses; struckLiterals = b .struckLiterals }
+
+abbrev pub strikeClause : ℕ → Branch → Branch
+strikeClause k b = record { G = b .G; struckClauses = k ∷ b .struckClauses; struckLiterals = b .struckLiterals }
+
+abbrev pub strikeLiteral : Place → Branch → Branch
+strikeLiteral x b = record { G = b .G; struckClauses = b .struckClauses; struckLiterals = x ∷ b .struckLiterals }
+
+abbrev pub isHolds : Value → Bool
+isHolds holds = true
+isHolds fails = false
+isHolds undecided = false
+
+abbrev pub isFails : Value → Bool
+isFails holds = false
+isFails fails = true
+isFails undecided = false
+
+abbrev pub isUndecided : Value → Bool
+isUndecided holds = false
+isUndecided fails = false
+isUndecided undecided = true
+
+-- the literals of clause k from position p on that are not struck
+unfoldable pub unstruck : Branch → ℕ → ℕ → List ℕ → List ℕ
+unstruck b k p [] = []
+unstruck b k p (l ∷ c) =
+    cond (among (record { clause = k; position = p }) (b .struckLiterals))
+    (unstruck b k (suc p) c)
+    (l ∷ unstruck b k (suc p) c)
+
+unfoldable pub anyHolds : List ℕ → List ℕ → Bool
+anyHolds G [] = false
+anyHolds G (l ∷ c) = isHolds (valueOf G l) || anyHolds G c
+
+-- a derivation under way: the open branch and those that wait for their right turn, the newest first; or complete
+pub data Progress : Type 0 where
+  running : Branch → List Branch → Progress
+  complete : Progress
+
+-- 'The branch closes; the newest open split turns right with its old state.' 'Closing the last branch completes the derivation.'
+abbrev pub turn : List Branch → Progress
+turn [] = complete
+turn (b ∷ waiting) = running b waiting
+
+-- the one literal of a list
+abbrev pub only : List ℕ → Outcome ℕ
+only [] = refused 45 0
+only (l ∷ []) = answer l
+only (l ∷ m ∷ c) = refused 45 0
+
+-- a rule's condition, which has no number of its own here
+abbrev pub given : Bool → Outcome (Unit {0})
+given t = require t 45 0
+
+module _ (expand : ℕ → List (List ℕ)) (goals : List ℕ) (nodes : ℕ) where
+  -- clause k of the list of a branch
+  abbrev pub clauseAt : Branch → ℕ → List ℕ
+  clauseAt b k = getD (clauses expand goals (b .G)) k []
+
+  -- 'a clause stands if it is in the list and not struck'
+  abbrev pub stands : Branch → ℕ → Bool
+  stands b k = ltb k (length (clauses expand goals (b .G))) && not (mem k (b .struckClauses))
+
+  abbrev pub left : Branch → ℕ → List ℕ
+  left b k = unstruck b k 0 (clauseAt b k)
+
+  -- 'U value k: clause k stands and has one unstruck literal, which is undecided. It joins G, its expansion is appended, k is struck.'
+  unfoldable pub ruleU : ℕ → Branch → List Branch → Outcome Progress
+  ruleU k b waiting =
+      given (stands b k)
+      >> (only (left b k)
+      >>= λ l. given (isUndecided (valueOf (b .G) l))
+      >> answer (running (strikeClause k (join l b)) waiting))
+
+  -- 'R position p, value k: clause k stands, its literal p exists, is unstruck and false. It is struck.'
+  unfoldable pub ruleR : ℕ → ℕ → Branch → List Branch → Outcome Progress
+  ruleR p k b waiting =
+      given (stands b k)
+      >> (given (ltb p (length (clauseAt b k)))
+      >> (given (not (among (record { clause = k; position = p }) (b .struckLiterals)))
+      >> (given (isFails (valueOf (b .G) (getD (clauseAt b k) p 0)))
+      >> answer (running (strikeLiteral (record { clause = k; position = p }) b) waiting))))
+
+  -- 'E k: clause k stands and an unstruck literal of it is true. k is struck.'
+  unfoldable pub ruleE : ℕ → Branch → List Branch → Outcome Progress
+  ruleE k b waiting =
+      given (stands b k)
+      >> (given (anyHolds (b .G) (left b k))
+      >> answer (running (strikeClause k b) waiting))
+
+  -- 'C k: clause k stands and all its literals are struck.'
+  unfoldable pub ruleC : ℕ → Branch → List Branch → Outcome Progress
+  ruleC k b waiting =
+      given (stands b k)
+      >> (given (eqb (length (left b k)) 0)
+      >> answer (turn waiting))
+
+  -- 'S value l: l is below 2 × nodes and undecided. It joins G with its expansion; later ¬l does.'
+  unfoldable pub ruleS : ℕ → Branch → List Branch → Outcome Progress
+  ruleS l b waiting =
+      given (ltb l (2 * nodes))
+      >> (given (isUndecided (valueOf (b .G) l))
+      >> answer (running (join l b) (join (neg l) b ∷ waiting)))
+
+  -- the rule of a step's letter
+  unfoldable pub apply : Step → Branch → List Branch → Outcome Progress
+  apply s b waiting =
+      cond (eqb (s .rule) 85) (ruleU (s .value) b waiting)
+      (cond (eqb (s .rule) 82) (ruleR (s .position) (s .value) b waiting)
+      (cond (eqb (s .rule) 69) (ruleE (s .value) b waiting)
+      (cond (eqb (s .rule) 67) (ruleC (s .value) b waiting)
+      (ruleS (s .value) b waiting))))
+
+  -- 'each step in turn: 46 already complete, tested first; 45 its rule's condition fails', at step i
+  unfoldable pub advance : ℕ → Step → Progress → Outcome Progress
+  advance i s complete = refused 46 i
+  advance i s (running b waiting) = at i (apply s b waiting)
+    where
+      at : ℕ → Outcome Progress → Outcome Progress
+      at i (answer p) = answer p
+      at i (refused number place) = refused 45 i
+
+  -- 'end: 47 branches open', at the step count
+  unfoldable pub ended : ℕ → Progress → Outcome (Unit {0})
+  ended i complete = fine
+  ended i (running b waiting) = refused 47 i
+
+  -- the steps from step i on
+  unfoldable pub run : ℕ → List Step → Progress → Outcome (Unit {0})
+  run i [] p = ended i p
+  run i (s ∷ ss) p = advance i s p >>= run (suc i) ss
+
+  -- a whole derivation, from the solver's start
+  abbrev pub accepts : List Step → Outcome (Unit {0})
+  accepts ss = run 0 ss (running root [])

@@ -1,0 +1,4 @@
+-- Laws of the definitions, for the proofs of the crates above. Assumes nothing.
+pub mod First
+pub mod Tests
+pub mod Lists

@@ -1,0 +1,158 @@
+// Reading a table: the first refusal of 10 to 17, the node count, the record of a literal's node.
+ghost use mathlib.Core.Path.{_≡_};
+ghost use mathlib.Core.Bool.{Bool};
+ghost use Prim.Native.Nat.{ℕ, _+_, _*_, _-_, _/_, _<_, _≤_};
+ghost use lib.ListN.{length, getD};
+ghost use Rattle.scope.specs.Outcome.{verdictOf, first};
+ghost use Rattle.scope.specs.Block.{blockAt};
+ghost use Rattle.scope.specs.Table.{tables, nodeAt, lengthOk, recordTest, blockRows, tableTest};
+ghost use Rattle.scope.specs.Calls.{tableCount, tableRecord};
+ghost use Rattle.record.specs.Read.{readOf};
+ghost use Rattle.repeats.specs.Chains.{placeOf, Chains};
+ghost use Rattle.table.specs.Counted.{countedOf, Tested};
+use record::Read;
+use scope::Format;
+use scope::Refusal;
+use scope::Verdict;
+
+// What counting a table's nodes answers.
+pub enum Counted {
+    Nodes(usize),
+    Refused(Refusal),
+}
+
+// Blocks of tables: letter 70, 63 records of 8 bytes, refusals from 11 on.
+fn tables() -> Format
+    ensures { λ r. ⌜ r ≡ tables ⌝ }
+{
+    Format {
+        letter: 70,
+        width: 8,
+        capacity: 63,
+        number: 11,
+    }
+}
+
+// Row 10.
+fn length_ok(n: usize) -> bool
+    ensures { λ r. ⌜ r ≡ lengthOk n ⌝ }
+{
+    if n == 0 {
+        return false;
+    }
+    if n % 512 != 0 {
+        return false;
+    }
+    n <= 16384
+}
+
+// Rows 14 to 17 of node n, which is then entered in the chains.
+fn record_verdict(t: &[u8], head: &mut [u16], next: &mut [u16], n: usize) -> Verdict
+    requires { ⌜ (n < 2016) × (placeOf n + 8 ≤ length (now t)) × Chains (now t) (now head) (now next) n ⌝ }
+    ensures { λ r. ⌜ Tested (now (t .entry)) (now (head .exit)) (now (next .exit)) r (recordTest (now (t .entry)) n) (n + 1) ⌝ }
+{
+    let at = repeats::place(n);
+    let end = at + 8;
+    let r = record::read_record(&t[at..end], n);
+    let Read::Found(_) = r else {
+        return record::pass(r);
+    };
+    if repeats::enter(t, head, next, n) {
+        return Verdict::Refused(Refusal {
+            number: 17,
+            place: n,
+        });
+    }
+    Verdict::Fine
+}
+
+// The records of nodes from base up to end, one after another.
+fn records(t: &[u8], head: &mut [u16], next: &mut [u16], base: usize, end: usize) -> Verdict
+    requires { ⌜ (base ≤ end) × (end ≤ 2016) × ((n : ℕ) → n < end → placeOf n + 8 ≤ length (now t)) × Chains (now t) (now head) (now next) base ⌝ }
+    ensures { λ r. ⌜ Tested (now (t .entry)) (now (head .exit)) (now (next .exit)) r (first (recordTest (now (t .entry))) base (end - base)) end ⌝ }
+{
+    let mut n = base;
+    while n < end {
+        let v = record_verdict(t, head, next, n);
+        let Verdict::Fine = v else {
+            return v;
+        };
+        n += 1;
+    }
+    Verdict::Fine
+}
+
+// Block j: its own rows, then those of its records.
+fn block_rows(t: &[u8], head: &mut [u16], next: &mut [u16], j: usize) -> Verdict
+    requires { ⌜ (j < 32) × (512 * j + 512 ≤ length (now t)) × Chains (now t) (now head) (now next) (63 * j) ⌝ }
+    ensures { λ r. ⌜ Tested (now (t .entry)) (now (head .exit)) (now (next .exit)) r (blockRows (now (t .entry)) j) (63 * j + getD (blockAt (now (t .entry)) j) 1 0) ⌝ }
+{
+    let at = 512 * j;
+    let end = at + 512;
+    let last = j + 1 == t.len() / 512;
+    let v = block::test(&t[at..end], j, last, tables());
+    let Verdict::Fine = v else {
+        return v;
+    };
+    let count = t[at + 1] as usize;
+    records(t, head, next, 63 * j, 63 * j + count)
+}
+
+// The first refusal of a table.
+pub fn verdict(t: &[u8]) -> Verdict
+    ensures { λ r. ⌜ verdictOf r ≡ tableTest (now (t .entry)) ⌝ }
+{
+    if !length_ok(t.len()) {
+        return Verdict::Refused(Refusal {
+            number: 10,
+            place: 0,
+        });
+    }
+    let mut head = [0u16; 4093];
+    let mut next = [0u16; 2016];
+    let blocks = t.len() / 512;
+    let mut j = 0;
+    while j < blocks {
+        let v = block_rows(t, &mut head, &mut next, j);
+        let Verdict::Fine = v else {
+            return v;
+        };
+        j += 1;
+    }
+    Verdict::Fine
+}
+
+// The node count of a table, or its first refusal.
+pub fn count(t: &[u8]) -> Counted
+    ensures { λ r. ⌜ countedOf r ≡ tableCount (now (t .entry)) ⌝ }
+{
+    let v = verdict(t);
+    match v {
+        Verdict::Fine => {
+            let full = t.len() / 512 - 1;
+            Counted::Nodes(63 * full + t[512 * full + 1] as usize)
+        }
+        Verdict::Refused(r) => Counted::Refused(r),
+    }
+}
+
+// The record of a literal's node.
+pub fn record_of(t: &[u8], literal: usize) -> Read
+    ensures { λ r. ⌜ readOf r ≡ tableRecord (now (t .entry)) literal ⌝ }
+{
+    let c = count(t);
+    match c {
+        Counted::Refused(r) => Read::Refused(r),
+        Counted::Nodes(nodes) => {
+            if 2 * nodes <= literal {
+                return Read::Refused(Refusal {
+                    number: 20,
+                    place: 0,
+                });
+            }
+            let at = repeats::place(literal / 2);
+            let end = at + 8;
+            record::read_record(&t[at..end], literal / 2)
+        }
+    }
+}

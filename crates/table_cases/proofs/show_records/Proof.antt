@@ -1,0 +1,43 @@
+-- `table_cases::show_records` meets its contract. Assumes nothing.
+use Prim.Native.Nat.{_≤_, _-_}
+use native.Mathlib.Omega.{arith}
+use borrow.Author.Needs.{needs}
+use Rattle.table_cases.proofs.show_records.Statement.{statement}
+use Rattle.table_cases.proofs.show_records.Tie as tie
+
+abbrev Inv-loop : tie.InvT-loop
+Inv-loop t literal₀ literal = literal ≤ 21
+
+abbrev μ-loop : tie.MeasureT-loop
+μ-loop t literal₀ literal = 21 - literal
+
+loop-holds : tie.Need-loop-holds Inv-loop μ-loop
+loop-holds c = search needs
+
+show-record-requires : tie.Need-show-record-requires Inv-loop μ-loop
+show-record-requires c κs = search needs
+
+add-literal : tie.Need-add-literal Inv-loop μ-loop
+add-literal c = search needs
+
+loop-less : tie.Need-loop-less Inv-loop μ-loop
+loop-less c = search needs
+
+loop-again : tie.Need-loop-again Inv-loop μ-loop
+loop-again c = search needs
+
+returns : tie.Need-returns Inv-loop μ-loop
+returns c = search needs
+
+pub show-records-spec : {M : Type 1} → statement M
+show-records-spec =
+    tie.close
+    (tie.spec
+    Inv-loop
+    μ-loop
+    loop-holds
+    show-record-requires
+    add-literal
+    loop-less
+    loop-again
+    returns)

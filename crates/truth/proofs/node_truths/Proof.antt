@@ -1,0 +1,115 @@
+-- `truth::node_truths` meets its contract: before each turn the array has the truths of the nodes passed. Assumes nothing.
+use mathlib.Core.Path.{_≡_, _∙_, ap, refl}
+use mathlib.Core.List.{[]}
+use Prim.Native.Nat.{_≤_, _-_}
+use native.Mathlib.Omega.{arith}
+use lib.ListN.{length, take, length-set}
+use borrow.Author.Needs.{needs}
+use Rattle.scope.specs.Table.{nodeOf, nodeAt, listFrom}
+use Rattle.scope.specs.Truth.{truthsFrom}
+use Rattle.codec.specs.Valid.{Bytes}
+use Rattle.table.proofs.Rows.{part-record}
+use Rattle.truth.specs.Evaluated.{Low}
+use Rattle.truth.proofs.Low.{low-up}
+use Rattle.truth.proofs.Filling.{filled-more, node-below, node-within, node-low}
+use Rattle.truth.proofs.node_truths.Statement.{statement}
+use Rattle.truth.proofs.node_truths.Tie as tie
+
+abbrev Inv-loop : tie.InvT-loop
+Inv-loop t s v₀ nodes n₀ v n =
+    (n ≤ nodes) × (length v ≡ length v₀) × (take n v ≡ truthsFrom s [] (listFrom (nodeAt t) 0 n))
+
+abbrev μ-loop : tie.MeasureT-loop
+μ-loop t s v₀ nodes n₀ v n = nodes - n
+
+loop-holds : tie.Need-loop-holds Inv-loop μ-loop
+unfolding listFrom truthsFrom
+loop-holds c = (search needs, refl, refl)
+
+-- the table is bytes
+bytes : (c : tie.At-loop Inv-loop μ-loop) → Bytes (c .before .before .before .before .args .t .now)
+bytes c i = c .before .before .before .shared-slice-known .given i .fits
+
+place-requires : tie.Need-place-requires Inv-loop μ-loop
+place-requires c κs =
+    let start = c .before .before .before .before .before in
+    omega (arith, node-below (bytes (c .before)) (start .pre) (c .before .loop .n) (c .loop-test .taken))
+
+add-end : tie.Need-add-end Inv-loop μ-loop
+add-end c = search needs
+
+sub-fields : tie.Need-sub-fields Inv-loop μ-loop
+sub-fields c = search needs
+
+part-fields-start : tie.Need-part-fields-start Inv-loop μ-loop
+part-fields-start c = search needs
+
+part-fields-end : tie.Need-part-fields-end Inv-loop μ-loop
+part-fields-end c =
+    let start = c .before .before .before .before .before .before in
+    omega (arith, c .place .ensures, node-within (bytes (c .before .before)) (start .pre) (c .before .before .loop .n) (c .before .loop-test .taken))
+
+fields-requires : tie.Need-fields-requires Inv-loop μ-loop
+fields-requires c κs = search needs
+
+-- the node that was read is node n, and its operands are of earlier nodes
+read : (c : tie.After-fields Inv-loop μ-loop) → c .fields .result ≡ nodeAt (c .before .before .before .before .before .before .before .before .args .t .now) (c .before .before .before .before .loop .n)
+read c = c .fields .ensures ∙ ap nodeOf (part-record _ _ _ (c .before .before .place .ensures))
+
+low : (c : tie.After-fields Inv-loop μ-loop) → Low (c .fields .result) (c .before .before .before .before .loop .n)
+low c =
+    let start = c .before .before .before .before .before .before .before .before in
+    rw (read c) (node-low (bytes (c .before .before .before .before)) (start .pre) _ (c .before .before .before .loop-test .taken))
+
+node-truth-requires : tie.Need-node-truth-requires Inv-loop μ-loop
+node-truth-requires c κs =
+    let pre = c .before .before .before .before .before .before .before .before .before .pre in
+    (pre .points, low-up (omega (arith, pre .room, c .before .before .before .before .before .loop .inv, c .before .before .before .before .loop-test .taken)) (low (c .before)))
+
+slice-write-v : tie.Need-slice-write-v Inv-loop μ-loop
+slice-write-v c = search needs
+
+add-n : tie.Need-add-n Inv-loop μ-loop
+add-n c = search needs
+
+loop-less : tie.Need-loop-less Inv-loop μ-loop
+loop-less c = search needs
+
+loop-again : tie.Need-loop-again Inv-loop μ-loop
+loop-again c =
+    let inv = c .before .before .before .before .before .before .loop .inv in
+    let pre = c .before .before .before .before .before .before .before .before .before .before .pre in
+    let h = c .before .before .before .before .before .loop-test .taken in (
+      omega (arith, h),
+      simp length-set (inv .1),
+      filled-more _ _ _ _ _ _ (omega (arith, inv .1, pre .room, h)) (low (c .before .before)) (read (c .before .before)) (inv .2) (c .node-truth .ensures),
+    )
+
+same-length : tie.Need-same-length Inv-loop μ-loop
+same-length c = search needs
+
+returns : tie.Need-returns Inv-loop μ-loop
+returns c =
+    let q : c .before .loop .n ≡ c .before .before .before .before .before .args .nodes = omega (arith, c .loop-test .left, c .before .loop .inv .0) in
+    rw q at (c .before .loop .inv .2)
+
+pub node-truths-spec : {M : Type 1} → statement M
+node-truths-spec =
+    tie.close
+    (tie.spec
+    Inv-loop
+    μ-loop
+    loop-holds
+    place-requires
+    add-end
+    sub-fields
+    part-fields-start
+    part-fields-end
+    fields-requires
+    node-truth-requires
+    slice-write-v
+    add-n
+    loop-less
+    loop-again
+    same-length
+    returns)

@@ -1,0 +1,44 @@
+/* Bevaridhom: condition tables over up to 1,024 yes/no points. Link with libbevaridhom.a.
+ *
+ * Every call takes any bytes and any lengths. An answer's number is 0 when the call answered; otherwise it is the number of the
+ * refusal, place says where, every other value is 0, and no lent byte has changed. NULL is fine where the length is 0.
+ * docs/FORMAT.md has the formats, README.md how to link. */
+#ifndef BEVARIDHOM_H
+#define BEVARIDHOM_H
+
+#include <stddef.h>
+#include <stdint.h>
+
+#ifdef __cplusplus
+extern "C" {
+#endif
+
+/* Points of a setting, and bytes of a record. */
+#define BEV_POINTS 1024
+#define BEV_RECORD 8
+#define BEV_BLOCK 512
+#define BEV_TABLE_MAX 16384
+
+typedef struct { uint16_t number; size_t place; size_t nodes; } bev_counted;
+typedef struct { uint16_t number; size_t place; uint8_t kind; uint16_t a; uint16_t b; } bev_node;
+typedef struct { uint16_t number; size_t place; uint8_t truth; } bev_truth;
+typedef struct { uint16_t number; size_t place; size_t literal; size_t used; } bev_added;
+
+/* The node count of a table. Refusals: 10 to 17. */
+bev_counted bev_count(const uint8_t *table, size_t table_len);
+
+/* The record of a literal's node. Refusals: 10 to 17, 20. */
+bev_node bev_record(const uint8_t *table, size_t table_len, size_t literal);
+
+/* The truth (1 yes, 0 no) of a literal under the first 1,024 settings bytes. Refusals: 10 to 17, 20, 21, 22. */
+bev_truth bev_evaluate(const uint8_t *table, size_t table_len, size_t literal, const uint8_t *settings, size_t settings_len);
+
+/* Adds a record of exactly 8 bytes to the table in the first `used` bytes of a buffer; used 0 is an empty table. Answers the
+ * record's literal and the used length. Refusals: 9, 10 to 17, then 14 to 16, 51, 52 at the node count. */
+bev_added bev_add(uint8_t *buffer, size_t buffer_len, size_t used, const uint8_t record[BEV_RECORD]);
+
+#ifdef __cplusplus
+}
+#endif
+
+#endif

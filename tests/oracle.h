@@ -1,0 +1,184 @@
+/* An independent reading of the scope paper in plain C, for the tests to compare with. It shares nothing with the library. */
+#ifndef ORACLE_H
+#define ORACLE_H
+
+#include <stddef.h>
+#include <stdint.h>
+#include <string.h>
+
+typedef struct { unsigned number; size_t place; size_t nodes; } o_read;
+typedef struct { uint8_t kind; unsigned a, b; } o_node;
+
+static unsigned o_word(const uint8_t *p) { return p[0] + 256u * p[1]; }
+
+static unsigned o_check(const uint8_t *block)
+{
+    uint64_t sum = 0, w = 1;
+    for (int i = 0; i < 510; i++) {
+        sum = (sum + block[i] * w) % 65521;
+        w = 3 * w % 65521;
+    }
+    return (unsigned)sum;
+}
+
+static void o_seal(uint8_t *block)
+{
+    unsigned c = o_check(block);
+    block[510] = (uint8_t)(c % 256);
+    block[511] = (uint8_t)(c / 256);
+}
+
+static const uint8_t *o_at(const uint8_t *t, size_t n) { return t + 512 * (n / 63) + 4 + 8 * (n % 63); }
+
+static o_node o_get(const uint8_t *r)
+{
+    o_node x = { r[0], o_word(r + 2), o_word(r + 4) };
+    return x;
+}
+
+/* Rows 14 to 16 of a record that would be node n. */
+static unsigned o_record(const uint8_t *r, size_t n)
+{
+    o_node x = o_get(r);
+    if (r[1] || r[6] || r[7] || x.kind < 1 || x.kind > 6)
+        return 14;
+    if (x.kind == 1 && (x.a || x.b))
+        return 14;
+    if (x.kind == 2 && x.b)
+        return 14;
+    if (x.kind == 1)
+        return 0;
+    if (x.kind == 2)
+        return x.a > 1023 ? 15 : 0;
+    if (x.a / 2 >= n || x.b / 2 >= n)
+        return 15;
+    if (x.a / 2 == x.b / 2)
+        return 16;
+    if (x.kind != 5 && x.a / 2 > x.b / 2)
+        return 16;
+    return 0;
+}
+
+/* Rows 10 to 17. */
+static o_read o_table(const uint8_t *t, size_t len)
+{
+    o_read r = { 0, 0, 0 };
+    if (len == 0 || len % 512 || len > 16384) {
+        r.number = 10;
+        return r;
+    }
+    size_t blocks = len / 512, n = 0;
+    for (size_t j = 0; j < blocks; j++) {
+        const uint8_t *b = t + 512 * j;
+        r.place = j;
+        if (o_check(b) != o_word(b + 510)) {
+            r.number = 11;
+            return r;
+        }
+        if (b[0] != 70 || o_word(b + 2) != j || b[1] == 0 || b[1] > 63 || (j + 1 < blocks && b[1] != 63)) {
+            r.number = 12;
+            return r;
+        }
+        for (int i = 4 + 8 * b[1]; i < 510; i++)
+            if (b[i]) {
+                r.number = 13;
+                return r;
+            }
+        for (int k = 0; k < b[1]; k++, n++) {
+            const uint8_t *x = b + 4 + 8 * k;
+            r.place = n;
+            r.number = o_record(x, n);
+            if (r.number)
+                return r;
+            for (size_t m = 0; m < n; m++)
+                if (memcmp(o_at(t, m), x, 8) == 0) {
+                    r.number = 17;
+                    return r;
+                }
+        }
+    }
+    r.place = 0;
+    r.nodes = n;
+    return r;
+}
+
+/* The truth of a literal of a readable table, by recursion over the nodes. */
+static int o_truth(const uint8_t *t, const uint8_t *s, size_t literal)
+{
+    o_node x = o_get(o_at(t, literal / 2));
+    int v = 1;
+    if (x.kind == 2)
+        v = s[x.a] == 1;
+    if (x.kind > 2) {
+        int a = o_truth(t, s, x.a), b = o_truth(t, s, x.b);
+        v = x.kind == 3 ? a && b : x.kind == 4 ? a || b : x.kind == 5 ? !a || b : a == b;
+    }
+    return literal % 2 ? !v : v;
+}
+
+/* The table that holds n records, written to a cleared buffer; its length. */
+static size_t o_build(uint8_t *t, const uint8_t (*records)[8], size_t n)
+{
+    size_t blocks = (n + 62) / 63;
+    memset(t, 0, 512 * blocks);
+    for (size_t j = 0; j < blocks; j++) {
+        uint8_t *b = t + 512 * j;
+        size_t count = n - 63 * j < 63 ? n - 63 * j : 63;
+        b[0] = 70;
+        b[1] = (uint8_t)count;
+        b[2] = (uint8_t)j;
+        memcpy(b + 4, records[63 * j], 8 * count);
+        o_seal(b);
+    }
+    return 512 * blocks;
+}
+
+/* Adds a record as the paper says, to the bytes themselves. */
+typedef struct { unsigned number; size_t place, literal, used; } o_added;
+
+static o_added o_add(uint8_t *buf, size_t len, size_t used, const uint8_t *r8)
+{
+    o_added v = { 9, 0, 0, 0 };
+    uint8_t r[8];
+    size_t n = 0;
+    if (used > len)
+        return v;
+    if (used) {
+        o_read t = o_table(buf, used);
+        v.number = t.number;
+        v.place = t.place;
+        n = t.nodes;
+        if (t.number)
+            return v;
+    }
+    memcpy(r, r8, 8);
+    if ((r[0] == 3 || r[0] == 4 || r[0] == 6) && o_word(r + 2) / 2 > o_word(r + 4) / 2) {
+        memcpy(r + 2, r8 + 4, 2);
+        memcpy(r + 4, r8 + 2, 2);
+    }
+    v.place = n;
+    v.number = o_record(r, n);
+    if (v.number)
+        return v;
+    for (size_t m = 0; m < n; m++)
+        if (memcmp(o_at(buf, m), r, 8) == 0) {
+            o_added found = { 0, 0, 2 * m, used };
+            return found;
+        }
+    v.number = n == 2016 ? 51 : n % 63 == 0 && len - used < 512 ? 52 : 0;
+    if (v.number)
+        return v;
+    if (n % 63 == 0) {
+        memset(buf + used, 0, 512);
+        buf[used] = 70;
+        buf[used + 2] = (uint8_t)(n / 63);
+        used += 512;
+    }
+    buf[used - 511]++;
+    memcpy(buf + used - 512 + 4 + 8 * (n % 63), r, 8);
+    o_seal(buf + used - 512);
+    o_added done = { 0, 0, 2 * n, used };
+    return done;
+}
+
+#endif
