@@ -18,10 +18,12 @@ extern "C" {
 #define BEV_RECORD 8
 #define BEV_BLOCK 512
 #define BEV_TABLE_MAX 16384
+#define BEV_WORK 32768 /* numbers of a full work area */
 
 typedef struct { uint16_t number; size_t place; size_t nodes; } bev_counted;
 typedef struct { uint16_t number; size_t place; uint8_t kind; uint16_t a; uint16_t b; } bev_node;
 typedef struct { uint16_t number; size_t place; uint8_t truth; } bev_truth;
+typedef struct { uint16_t number; size_t place; uint8_t possible; } bev_decided;
 typedef struct { uint16_t number; size_t place; size_t literal; size_t used; } bev_added;
 
 /* The node count of a table. Refusals: 10 to 17. */
@@ -36,6 +38,11 @@ bev_truth bev_evaluate(const uint8_t *table, size_t table_len, size_t literal, c
 /* Adds a record of exactly 8 bytes to the table in the first `used` bytes of a buffer; used 0 is an empty table. Answers the
  * record's literal and the used length. Refusals: 9, 10 to 17, then 14 to 16, 51, 52 at the node count. */
 bev_added bev_add(uint8_t *buffer, size_t buffer_len, size_t used, const uint8_t record[BEV_RECORD]);
+
+/* Whether some setting makes the goal true (1 possible, 0 impossible); if so the first 1,024 settings bytes become such a one, the one
+ * that the solver's order ends on. Lent a work area of at least 32,768 numbers, whose contents are free afterwards (unchanged on a
+ * refusal). Refusals: 10 to 17, 20, 21, 23. */
+bev_decided bev_decide(const uint8_t *table, size_t table_len, size_t goal, uint8_t *settings, size_t settings_len, uint16_t *work, size_t work_len);
 
 #ifdef __cplusplus
 }

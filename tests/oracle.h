@@ -9,9 +9,9 @@
 typedef struct { unsigned number; size_t place; size_t nodes; } o_read;
 typedef struct { uint8_t kind; unsigned a, b; } o_node;
 
-static unsigned o_word(const uint8_t *p) { return p[0] + 256u * p[1]; }
+static inline unsigned o_word(const uint8_t *p) { return p[0] + 256u * p[1]; }
 
-static unsigned o_check(const uint8_t *block)
+static inline unsigned o_check(const uint8_t *block)
 {
     uint64_t sum = 0, w = 1;
     for (int i = 0; i < 510; i++) {
@@ -21,23 +21,23 @@ static unsigned o_check(const uint8_t *block)
     return (unsigned)sum;
 }
 
-static void o_seal(uint8_t *block)
+static inline void o_seal(uint8_t *block)
 {
     unsigned c = o_check(block);
     block[510] = (uint8_t)(c % 256);
     block[511] = (uint8_t)(c / 256);
 }
 
-static const uint8_t *o_at(const uint8_t *t, size_t n) { return t + 512 * (n / 63) + 4 + 8 * (n % 63); }
+static inline const uint8_t * o_at(const uint8_t *t, size_t n) { return t + 512 * (n / 63) + 4 + 8 * (n % 63); }
 
-static o_node o_get(const uint8_t *r)
+static inline o_node o_get(const uint8_t *r)
 {
     o_node x = { r[0], o_word(r + 2), o_word(r + 4) };
     return x;
 }
 
 /* Rows 14 to 16 of a record that would be node n. */
-static unsigned o_record(const uint8_t *r, size_t n)
+static inline unsigned o_record(const uint8_t *r, size_t n)
 {
     o_node x = o_get(r);
     if (r[1] || r[6] || r[7] || x.kind < 1 || x.kind > 6)
@@ -60,7 +60,7 @@ static unsigned o_record(const uint8_t *r, size_t n)
 }
 
 /* Rows 10 to 17. */
-static o_read o_table(const uint8_t *t, size_t len)
+static inline o_read o_table(const uint8_t *t, size_t len)
 {
     o_read r = { 0, 0, 0 };
     if (len == 0 || len % 512 || len > 16384) {
@@ -103,7 +103,7 @@ static o_read o_table(const uint8_t *t, size_t len)
 }
 
 /* The truth of a literal of a readable table, by recursion over the nodes. */
-static int o_truth(const uint8_t *t, const uint8_t *s, size_t literal)
+static inline int o_truth(const uint8_t *t, const uint8_t *s, size_t literal)
 {
     o_node x = o_get(o_at(t, literal / 2));
     int v = 1;
@@ -117,7 +117,7 @@ static int o_truth(const uint8_t *t, const uint8_t *s, size_t literal)
 }
 
 /* The table that holds n records, written to a cleared buffer; its length. */
-static size_t o_build(uint8_t *t, const uint8_t (*records)[8], size_t n)
+static inline size_t o_build(uint8_t *t, const uint8_t (*records)[8], size_t n)
 {
     size_t blocks = (n + 62) / 63;
     memset(t, 0, 512 * blocks);
@@ -136,7 +136,7 @@ static size_t o_build(uint8_t *t, const uint8_t (*records)[8], size_t n)
 /* Adds a record as the paper says, to the bytes themselves. */
 typedef struct { unsigned number; size_t place, literal, used; } o_added;
 
-static o_added o_add(uint8_t *buf, size_t len, size_t used, const uint8_t *r8)
+static inline o_added o_add(uint8_t *buf, size_t len, size_t used, const uint8_t *r8)
 {
     o_added v = { 9, 0, 0, 0 };
     uint8_t r[8];

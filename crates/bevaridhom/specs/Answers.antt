@@ -1,15 +1,20 @@
 -- The answers for a host in C: number 0 and the values, or the refusal's number and place and every value 0. Assumes nothing.
+use mathlib.Core.Path.{_≡_}
 use mathlib.Core.Bool.{Bool, true, false}
+use mathlib.Core.List.{List}
 use Prim.Native.Nat.{ℕ}
 use Rattle.scope.specs.declared.Node.{Node}
-use Rattle.scope.specs.Outcome.{Outcome, answer, refused}
+use Rattle.scope.specs.Outcome.{Outcome, answer, refused, _>>=_}
 use Rattle.scope.specs.Calls.{Added}
+use Rattle.calculus.specs.Decide.{decide, settingsAfter}
+use Rattle.deciding.specs.Decides.{Word, can, cannot, nothing, wordOf}
 use Rattle.adding.specs.declared.Mark.{Mark}
 use Rattle.adding.specs.Added.{marked}
 use Rattle.bevaridhom.specs.declared.BevCount.{BevCount}
 use Rattle.bevaridhom.specs.declared.BevRecord.{BevRecord}
 use Rattle.bevaridhom.specs.declared.BevTruth.{BevTruth}
 use Rattle.bevaridhom.specs.declared.BevAdded.{BevAdded}
+use Rattle.bevaridhom.specs.declared.BevDecided.{BevDecided}
 
 abbrev pub countAnswer : Outcome ℕ → BevCount
 countAnswer (answer n) = record { number = 0; place = 0; nodes = n }
@@ -34,3 +39,19 @@ markAnswer (refused n p) = record { number = n; place = p; literal = 0; used = 0
 
 abbrev pub addAnswer : Outcome Added → BevAdded
 addAnswer w = markAnswer (marked w)
+
+-- 'possible' is 1, 'impossible' is 0
+abbrev pub wordBit : Word → ℕ
+wordBit can = 1
+wordBit cannot = 0
+wordBit nothing = 0
+
+abbrev pub decideAnswer : Outcome Word → BevDecided
+decideAnswer (answer x) = record { number = 0; place = 0; possible = wordBit x }
+decideAnswer (refused n p) = record { number = n; place = p; possible = 0 }
+
+-- decide for a host: its answer, the settings bytes, and a work area that a refusal leaves as it was
+pub record HostDecides (t : List ℕ) (goal : ℕ) (s w s′ w′ : List ℕ) (r : BevDecided) : Type 0 where
+  pub answered : r ≡ decideAnswer (decide t goal s w >>= λ d. answer (wordOf (d .verdict)))
+  pub settings : s′ ≡ settingsAfter s (decide t goal s w)
+  pub work : (number place : ℕ) → decide t goal s w ≡ refused number place → w′ ≡ w

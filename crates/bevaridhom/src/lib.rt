@@ -1,8 +1,9 @@
 // The calls for a host in C: numbers and byte slices in, a struct by value out. A slice is a pointer and a length.
 ghost use mathlib.Core.Path.{_≡_};
 ghost use Rattle.scope.specs.Calls.{tableCount, tableRecord, evaluate, add, bytesAfter};
-ghost use Rattle.bevaridhom.specs.Answers.{countAnswer, recordAnswer, truthAnswer, addAnswer};
+ghost use Rattle.bevaridhom.specs.Answers.{countAnswer, recordAnswer, truthAnswer, addAnswer, HostDecides};
 use adding::Added;
+use deciding::Decided;
 use record::Read;
 use table::Counted;
 use truth::Evaluated;
@@ -122,6 +123,38 @@ pub extern "C" fn bev_add(buf: &mut [u8], used: usize, r: &[u8; 8]) -> BevAdded
             place: f.place,
             literal: 0,
             used: 0,
+        },
+    }
+}
+
+#[repr(C)]
+pub struct BevDecided {
+    pub number: u16,
+    pub place: usize,
+    pub possible: u8,
+}
+
+// Whether some setting makes the goal true, 1 possible and 0 impossible; if so, the settings become such a one.
+#[no_mangle]
+pub extern "C" fn bev_decide(t: &[u8], goal: usize, s: &mut [u8], w: &mut [u16]) -> BevDecided
+    ensures { λ r. ⌜ HostDecides (now (t .entry)) goal (now (s .entry)) (now (w .entry)) (now (s .exit)) (now (w .exit)) r ⌝ }
+{
+    let c = deciding::decide(t, goal, s, w);
+    match c {
+        Decided::Possible => BevDecided {
+            number: 0,
+            place: 0,
+            possible: 1,
+        },
+        Decided::Impossible => BevDecided {
+            number: 0,
+            place: 0,
+            possible: 0,
+        },
+        Decided::Refused(f) => BevDecided {
+            number: f.number,
+            place: f.place,
+            possible: 0,
         },
     }
 }

@@ -2,4 +2,5 @@
 pub mod Steps
 pub mod Rules
 pub mod Derivation
+pub mod Derive
 pub mod Samples

@@ -82,8 +82,8 @@ fn row_of(x: &[u16], n: usize, l: u16) -> usize
 }
 
 // The negation of a literal.
-fn negated(l: u16) -> u16
-    requires { ⌜ l < 9000 ⌝ }
+pub fn negated(l: u16) -> u16
+    requires { ⌜ l < 2 * mostNodes ⌝ }
     ensures { λ r. ⌜ r ≡ neg l ⌝ }
 {
     l + 1 - 2 * (l % 2)
@@ -108,7 +108,7 @@ fn choose(x: &[u16], n: usize, node: usize, choice: u8) -> u16
 }
 
 // The value of a literal: 0 undecided, 1 true, 2 false.
-fn value(work: &[u16], n: usize, l: u16) -> u16
+pub fn value(work: &[u16], n: usize, l: u16) -> u16
     requires { ⌜ (area ≤ length (now work)) × (n ≤ mostNodes) × (l < 2 * n) ⌝ }
     requires { ⌜ Vals n (tail (now work)) ⌝ }
     ensures { λ r. ⌜ r ≡ valueCode (valueOf (gOf (now (work .entry))) l) ⌝ }
@@ -122,7 +122,7 @@ fn value(work: &[u16], n: usize, l: u16) -> u16
 
 // The code of a clause that has a literal of a value in front of others, which have a code.
 fn with(v: u16, l: u16, rest: u16) -> u16
-    requires { ⌜ l < 9000 ⌝ }
+    requires { ⌜ l < 2 * mostNodes ⌝ }
     ensures { λ r. ⌜ r ≡ joinCode v l rest ⌝ }
 {
     if v == 1 {
@@ -332,6 +332,14 @@ fn number(work: &[u16], k: usize) -> u16
     }
     let b = work[TRAIL + (BASES + (k - GOALS) / 3)];
     b + ((k - GOALS) % 3) as u16
+}
+
+// How many literals are held.
+pub fn count(work: &[u16]) -> u16
+    requires { ⌜ area ≤ length (now work) ⌝ }
+    ensures { λ r. ⌜ r ≡ length (gOf (now (work .entry))) ⌝ }
+{
+    work[TRAIL]
 }
 
 // The next move in the solver's order: conflict first, then unit, then split.

@@ -1,0 +1,161 @@
+-- `checker::unwind` meets its contract. The loop's invariant: some of the marks that are to go are left. The measure is how many marks are struck. Assumes nothing.
+use native.Mathlib.Omega.{arith}
+use lib.ListN.{length-set}
+use Rattle.checker.proofs.Marks.{Unwinding, unwinding-starts, unwinding-size, unwinding-reaches, unwinding-goes, unwinding-ends, unwind-safe, unmarked-fewer, struckCount}
+use Rattle.checker.proofs.unwind.Statement.{statement}
+use Rattle.checker.proofs.unwind.Tie as tie
+
+abbrev Inv-loop : tie.InvT-loop
+Inv-loop work₀ mark work = Unwinding mark work₀ work
+
+abbrev μ-loop : tie.MeasureT-loop
+μ-loop work₀ mark work = struckCount work
+
+loop-holds : tie.Need-loop-holds Inv-loop μ-loop
+loop-holds c = unwinding-starts (c .args .mark) (c .args .work .now)
+
+slice-read-if1 : tie.Need-slice-read-if1 Inv-loop μ-loop
+slice-read-if1 c = omega (arith, c .before .loop .inv .size, c .before .before .pre .0)
+
+slice-read-m : tie.Need-slice-read-m Inv-loop μ-loop
+slice-read-m c =
+    let s = c .before .before .before .before in
+    let l = c .before .before .before .loop in
+    let z = unwinding-size (s .args .mark) (s .args .work .now) (l .work) (s .pre .0) (s .pre .1) (l .inv) in
+    let r = unwinding-reaches (s .args .mark) (s .args .work .now) (l .work) (s .pre .0) (s .pre .1) (l .inv) in
+    let q = unwind-safe (s .args .mark) (l .work) r (c .before .if1 .taken) in
+    omega (arith, z, q .0, q .1, q .2)
+
+sub-m : tie.Need-sub-m Inv-loop μ-loop
+sub-m c =
+    let s = c .before .before .before .before in
+    let l = c .before .before .before .loop in
+    let z = unwinding-size (s .args .mark) (s .args .work .now) (l .work) (s .pre .0) (s .pre .1) (l .inv) in
+    let r = unwinding-reaches (s .args .mark) (s .args .work .now) (l .work) (s .pre .0) (s .pre .1) (l .inv) in
+    let q = unwind-safe (s .args .mark) (l .work) r (c .before .if1 .taken) in
+    omega (arith, z, q .0, q .1, q .2)
+
+cast-m : tie.Need-cast-m Inv-loop μ-loop
+cast-m c =
+    let s = c .before .before .before .before in
+    let l = c .before .before .before .loop in
+    let z = unwinding-size (s .args .mark) (s .args .work .now) (l .work) (s .pre .0) (s .pre .1) (l .inv) in
+    let r = unwinding-reaches (s .args .mark) (s .args .work .now) (l .work) (s .pre .0) (s .pre .1) (l .inv) in
+    let q = unwind-safe (s .args .mark) (l .work) r (c .before .if1 .taken) in
+    omega (arith, z, q .0, q .1, q .2)
+
+add-work : tie.Need-add-work Inv-loop μ-loop
+add-work c =
+    let s = c .before .before .before .before in
+    let l = c .before .before .before .loop in
+    let z = unwinding-size (s .args .mark) (s .args .work .now) (l .work) (s .pre .0) (s .pre .1) (l .inv) in
+    let r = unwinding-reaches (s .args .mark) (s .args .work .now) (l .work) (s .pre .0) (s .pre .1) (l .inv) in
+    let q = unwind-safe (s .args .mark) (l .work) r (c .before .if1 .taken) in
+    omega (arith, z, q .0, q .1, q .2)
+
+mul-work : tie.Need-mul-work Inv-loop μ-loop
+mul-work c =
+    let s = c .before .before .before .before in
+    let l = c .before .before .before .loop in
+    let z = unwinding-size (s .args .mark) (s .args .work .now) (l .work) (s .pre .0) (s .pre .1) (l .inv) in
+    let r = unwinding-reaches (s .args .mark) (s .args .work .now) (l .work) (s .pre .0) (s .pre .1) (l .inv) in
+    let q = unwind-safe (s .args .mark) (l .work) r (c .before .if1 .taken) in
+    omega (arith, z, q .0, q .1, q .2)
+
+slice-read-work : tie.Need-slice-read-work Inv-loop μ-loop
+slice-read-work c =
+    let s = c .before .before .before .before .before in
+    let l = c .before .before .before .before .loop in
+    let z = unwinding-size (s .args .mark) (s .args .work .now) (l .work) (s .pre .0) (s .pre .1) (l .inv) in
+    let r = unwinding-reaches (s .args .mark) (s .args .work .now) (l .work) (s .pre .0) (s .pre .1) (l .inv) in
+    let q = unwind-safe (s .args .mark) (l .work) r (c .before .before .if1 .taken) in
+    omega (arith, z, q .0, q .1, q .2)
+
+sub-work : tie.Need-sub-work Inv-loop μ-loop
+sub-work c =
+    let s = c .before .before .before .before .before in
+    let l = c .before .before .before .before .loop in
+    let z = unwinding-size (s .args .mark) (s .args .work .now) (l .work) (s .pre .0) (s .pre .1) (l .inv) in
+    let r = unwinding-reaches (s .args .mark) (s .args .work .now) (l .work) (s .pre .0) (s .pre .1) (l .inv) in
+    let q = unwind-safe (s .args .mark) (l .work) r (c .before .before .if1 .taken) in
+    omega (arith, z, q .0, q .1, q .2)
+
+slice-write-work : tie.Need-slice-write-work Inv-loop μ-loop
+slice-write-work c =
+    let s = c .before .before .before .before .before in
+    let l = c .before .before .before .before .loop in
+    let z = unwinding-size (s .args .mark) (s .args .work .now) (l .work) (s .pre .0) (s .pre .1) (l .inv) in
+    let r = unwinding-reaches (s .args .mark) (s .args .work .now) (l .work) (s .pre .0) (s .pre .1) (l .inv) in
+    let q = unwind-safe (s .args .mark) (l .work) r (c .before .before .if1 .taken) in
+    omega (arith, z, q .0, q .1, q .2)
+
+add-work-2 : tie.Need-add-work-2 Inv-loop μ-loop
+add-work-2 c =
+    let s = c .before .before .before .before .before in
+    let l = c .before .before .before .before .loop in
+    let z = unwinding-size (s .args .mark) (s .args .work .now) (l .work) (s .pre .0) (s .pre .1) (l .inv) in
+    let r = unwinding-reaches (s .args .mark) (s .args .work .now) (l .work) (s .pre .0) (s .pre .1) (l .inv) in
+    let q = unwind-safe (s .args .mark) (l .work) r (c .before .before .if1 .taken) in
+    omega (arith, z, q .0, q .1, q .2)
+
+mul-work-2 : tie.Need-mul-work-2 Inv-loop μ-loop
+mul-work-2 c =
+    let s = c .before .before .before .before .before in
+    let l = c .before .before .before .before .loop in
+    let z = unwinding-size (s .args .mark) (s .args .work .now) (l .work) (s .pre .0) (s .pre .1) (l .inv) in
+    let r = unwinding-reaches (s .args .mark) (s .args .work .now) (l .work) (s .pre .0) (s .pre .1) (l .inv) in
+    let q = unwind-safe (s .args .mark) (l .work) r (c .before .before .if1 .taken) in
+    omega (arith, z, q .0, q .1, q .2)
+
+slice-write-work-2 : tie.Need-slice-write-work-2 Inv-loop μ-loop
+slice-write-work-2 c =
+    let s = c .before .before .before .before .before in
+    let l = c .before .before .before .before .loop in
+    let z = unwinding-size (s .args .mark) (s .args .work .now) (l .work) (s .pre .0) (s .pre .1) (l .inv) in
+    let r = unwinding-reaches (s .args .mark) (s .args .work .now) (l .work) (s .pre .0) (s .pre .1) (l .inv) in
+    let q = unwind-safe (s .args .mark) (l .work) r (c .before .before .if1 .taken) in
+    simp length-set (omega (arith, z, q .0, q .1, q .2))
+
+loop-less : tie.Need-loop-less Inv-loop μ-loop
+loop-less c =
+    let s = c .before .before .before .before .before in
+    let l = c .before .before .before .before .loop in
+    let z = unwinding-size (s .args .mark) (s .args .work .now) (l .work) (s .pre .0) (s .pre .1) (l .inv) in
+    let r = unwinding-reaches (s .args .mark) (s .args .work .now) (l .work) (s .pre .0) (s .pre .1) (l .inv) in
+    unmarked-fewer (s .args .mark) (l .work) z r (c .before .before .if1 .taken)
+
+loop-again : tie.Need-loop-again Inv-loop μ-loop
+loop-again c =
+    let s = c .before .before .before .before .before in
+    let l = c .before .before .before .before .loop in
+    unwinding-goes (s .args .mark) (s .args .work .now) (l .work) (s .pre .0) (s .pre .1) (l .inv) (c .before .before .if1 .taken)
+
+same-length : tie.Need-same-length Inv-loop μ-loop
+same-length c = c .before .before .loop .inv .size
+
+returns : tie.Need-returns Inv-loop μ-loop
+returns c = unwinding-ends (c .before .before .before .args .mark) (c .before .before .before .args .work .now) (c .before .before .loop .work) (c .before .before .before .pre .0) (c .before .before .before .pre .1) (c .before .before .loop .inv) (c .if1 .left)
+
+pub unwind-spec : {M : Type 1} → statement M
+unwind-spec =
+    tie.close
+    (tie.spec
+    Inv-loop
+    μ-loop
+    loop-holds
+    slice-read-if1
+    slice-read-m
+    sub-m
+    cast-m
+    add-work
+    mul-work
+    slice-read-work
+    sub-work
+    slice-write-work
+    add-work-2
+    mul-work-2
+    slice-write-work-2
+    loop-less
+    loop-again
+    same-length
+    returns)

@@ -1,0 +1,4 @@
+-- What decide's functions leave, and decide's own contract. Assumes nothing.
+pub mod Search
+pub mod Setting
+pub mod Decides

@@ -1,0 +1,231 @@
+// Decide: whether some setting makes a goal true, and such a setting. The search is recursive: a call for each branch of a split, so
+// the number of undecided nodes falls at each call; the work area is carried along and taken back where a branch closes.
+use calculus::Move;
+use scope::Refusal;
+use scope::Verdict;
+use table::Counted;
+ghost use mathlib.Core.Path.{_≡_};
+ghost use mathlib.Core.List.{_∷_, _++_};
+ghost use Prim.Native.Nat.{_-_, _<_, _≤_};
+ghost use lib.ListN.{length, drop};
+ghost use Rattle.scope.specs.Outcome.{verdictOf};
+ghost use Rattle.scope.specs.Table.{listFrom};
+ghost use Rattle.calculus.specs.Expansion.{neg};
+ghost use Rattle.calculus.specs.Order.{settingOf};
+ghost use Rattle.index.specs.Index.{indexNode};
+ghost use Rattle.solver.specs.Work.{gOf, Indexed, Goals, Holds};
+ghost use Rattle.deciding.specs.Search.{Settled, Searched, Turned};
+ghost use Rattle.deciding.specs.Setting.{Cleared, Points, Marked};
+ghost use Rattle.deciding.specs.Decides.{rowsTest, Prepared, Decides};
+
+// Where the units end: at a conflict, at a model, or at a split on a literal.
+pub enum Stop {
+    Closed,
+    Model,
+    Fork(u16),
+}
+
+// What a search finds: a model, or that every branch closes.
+pub enum Found {
+    Model,
+    Closed,
+}
+
+// What decide answers.
+pub enum Decided {
+    Possible,
+    Impossible,
+    Refused(Refusal),
+}
+
+// The units join, one after another, up to another move.
+fn propagate(x: &[u16], n: usize, goals: &[u16], work: &mut [u16]) -> Stop
+    requires { ⌜ Indexed (now x) n ⌝ }
+    requires { ⌜ Goals n (now goals) ⌝ }
+    requires { ⌜ Holds (indexNode (now x)) n (now goals) (now work) ⌝ }
+    ensures { λ r. ⌜ Settled (indexNode (now (x .entry))) n (now (goals .entry)) (now (work .entry)) (now (work .exit)) r ⌝ }
+{
+    loop {
+        let m = solver::next_move(x, n, goals, work);
+        match m {
+            Move::Conflict(_) => {
+                return Stop::Closed;
+            }
+            Move::Unit(_, l) => {
+                solver::assume(x, n, goals, work, l);
+            }
+            Move::Done => {
+                return Stop::Model;
+            }
+            Move::Split(l) => {
+                return Stop::Fork(l);
+            }
+        }
+    }
+}
+
+// The literals that joined after the first `held` are assumed no more.
+fn undo_to(x: &[u16], n: usize, goals: &[u16], work: &mut [u16], held: u16)
+    requires { ⌜ Indexed (now x) n ⌝ }
+    requires { ⌜ Goals n (now goals) ⌝ }
+    requires { ⌜ Holds (indexNode (now x)) n (now goals) (now work) ⌝ }
+    requires { ⌜ held ≤ length (gOf (now work)) ⌝ }
+    ensures { λ _. ⌜ Holds (indexNode (now (x .entry))) n (now (goals .entry)) (now (work .exit)) ⌝ }
+    ensures { λ _. ⌜ gOf (now (work .exit)) ≡ drop (length (gOf (now (work .entry))) - held) (gOf (now (work .entry))) ⌝ }
+{
+    while held < solver::count(work) {
+        solver::undo(x, n, goals, work);
+    }
+}
+
+// The newest literal, l, is assumed no more, and its negation is.
+fn turn(x: &[u16], n: usize, goals: &[u16], work: &mut [u16], l: u16)
+    requires { ⌜ Indexed (now x) n ⌝ }
+    requires { ⌜ Goals n (now goals) ⌝ }
+    requires { ⌜ Holds (indexNode (now x)) n (now goals) (now work) ⌝ }
+    requires { ⌜ Turned n l (gOf (now work)) ⌝ }
+    ensures { λ _. ⌜ Holds (indexNode (now (x .entry))) n (now (goals .entry)) (now (work .exit)) ⌝ }
+    ensures { λ _. ⌜ gOf (now (work .exit)) ≡ neg l ∷ drop 1 (gOf (now (work .entry))) ⌝ }
+{
+    solver::undo(x, n, goals, work);
+    solver::assume(x, n, goals, work, solver::negated(l));
+}
+
+// The search from the literals held: a model, which stays, or every branch closes, and the literals held are those of the start.
+fn search(x: &[u16], n: usize, goals: &[u16], work: &mut [u16]) -> Found
+    requires { ⌜ Indexed (now x) n ⌝ }
+    requires { ⌜ Goals n (now goals) ⌝ }
+    requires { ⌜ Holds (indexNode (now x)) n (now goals) (now work) ⌝ }
+    ensures { λ r. ⌜ Searched (indexNode (now (x .entry))) n (now (goals .entry)) (now (work .entry)) (now (work .exit)) r ⌝ }
+{
+    let held = solver::count(work);
+    let stop = propagate(x, n, goals, work);
+    match stop {
+        Stop::Closed => {
+            undo_to(x, n, goals, work, held);
+            Found::Closed
+        }
+        Stop::Model => Found::Model,
+        Stop::Fork(l) => {
+            solver::assume(x, n, goals, work, l);
+            let left = search(x, n, goals, work);
+            match left {
+                Found::Model => Found::Model,
+                Found::Closed => {
+                    turn(x, n, goals, work, l);
+                    let right = search(x, n, goals, work);
+                    match right {
+                        Found::Model => Found::Model,
+                        Found::Closed => {
+                            undo_to(x, n, goals, work, held);
+                            Found::Closed
+                        }
+                    }
+                }
+            }
+        }
+    }
+}
+
+// All points no.
+fn clear(settings: &mut [u8])
+    requires { ⌜ 1024 ≤ length (now settings) ⌝ }
+    ensures { λ _. ⌜ Cleared (now (settings .entry)) 1024 (now (settings .exit)) ⌝ }
+{
+    let mut p = 0;
+    while p < 1024 {
+        settings[p] = 0;
+        p += 1;
+    }
+}
+
+// The point of node i is yes if that is an ATOM whose positive literal is held.
+fn set_point(x: &[u16], n: usize, work: &[u16], settings: &mut [u8], i: usize)
+    requires { ⌜ Points (now x) n (now work) (now settings) ⌝ }
+    requires { ⌜ i < n ⌝ }
+    ensures { λ _. ⌜ Marked (indexNode (now (x .entry)) i) i (gOf (now (work .entry))) (now (settings .entry)) (now (settings .exit)) ⌝ }
+{
+    if x[4 * i] != 2 {
+        return;
+    }
+    let v = solver::value(work, n, (2 * i) as u16);
+    if v == 1 {
+        let point = x[4 * i + 1] as usize;
+        settings[point] = 1;
+    }
+}
+
+// The setting of the literals held.
+fn set_points(x: &[u16], n: usize, work: &[u16], settings: &mut [u8])
+    requires { ⌜ Points (now x) n (now work) (now settings) ⌝ }
+    ensures { λ _. ⌜ now (settings .exit) ≡ settingOf (listFrom (indexNode (now (x .entry))) 0 n) (gOf (now (work .entry))) ++ drop 1024 (now (settings .entry)) ⌝ }
+{
+    clear(settings);
+    let mut i = 0;
+    while i < n {
+        set_point(x, n, work, settings, i);
+        i += 1;
+    }
+}
+
+// Rows 20, 21 and 23.
+fn rows(nodes: usize, goal: usize, points: usize, area: usize) -> Verdict
+    requires { ⌜ nodes ≤ 2016 ⌝ }
+    ensures { λ r. ⌜ verdictOf r ≡ rowsTest nodes goal points area ⌝ }
+{
+    if 2 * nodes <= goal {
+        return Verdict::Refused(Refusal {
+            number: 20,
+            place: 0,
+        });
+    }
+    if points < 1024 {
+        return Verdict::Refused(Refusal {
+            number: 21,
+            place: 0,
+        });
+    }
+    if area < 32768 {
+        return Verdict::Refused(Refusal {
+            number: 23,
+            place: 0,
+        });
+    }
+    Verdict::Fine
+}
+
+// The search of a goal, where no row refuses.
+fn run(t: &[u8], nodes: usize, goal: usize, settings: &mut [u8], work: &mut [u16]) -> Decided
+    requires { ⌜ Prepared (now t) nodes goal (now settings) (now work) ⌝ }
+    ensures { λ r. ⌜ Decides (now (t .entry)) goal (now (settings .entry)) (now (work .entry)) (now (settings .exit)) (now (work .exit)) r ⌝ }
+{
+    let mut x = [0u16; 16128];
+    index::build(t, nodes, &mut x);
+    let goals = [goal as u16; 1];
+    solver::start(&x, nodes, &goals, work);
+    let found = search(&x, nodes, &goals, work);
+    match found {
+        Found::Closed => Decided::Impossible,
+        Found::Model => {
+            set_points(&x, nodes, work, settings);
+            Decided::Possible
+        }
+    }
+}
+
+// Whether some setting makes the goal true; if so, the settings have such a one.
+pub fn decide(t: &[u8], goal: usize, settings: &mut [u8], work: &mut [u16]) -> Decided
+    ensures { λ r. ⌜ Decides (now (t .entry)) goal (now (settings .entry)) (now (work .entry)) (now (settings .exit)) (now (work .exit)) r ⌝ }
+{
+    let c = table::count(t);
+    match c {
+        Counted::Refused(r) => Decided::Refused(r),
+        Counted::Nodes(nodes) => {
+            let v = rows(nodes, goal, settings.len(), work.len());
+            match v {
+                Verdict::Refused(r) => Decided::Refused(r),
+                Verdict::Fine => run(t, nodes, goal, settings, work),
+            }
+        }
+    }
+}

@@ -1,0 +1,139 @@
+-- What a derivation whose form passes (40 to 44) fulfils: whole blocks, each passed, and every step within the bytes and formed.
+-- Assumes nothing.
+use mathlib.Core.Path.{_≡_, _∙_, ap, sym, refl}
+use mathlib.Core.List.{List}
+use mathlib.Core.Bool.{true, false, not}
+use Prim.Native.Nat.{ℕ, suc, _+_, _-_, _*_, _/_, _%_, _<_, _≤_}
+use native.Mathlib.Nat.{zero-add}
+use native.Mathlib.Omega.{arith}
+use lib.Dec.{eqb, leb, lit<}
+use lib.ListN.{length, getD}
+use borrow.Author.Tests.{eqb-true, eqb-false, ne-eqb, leb-true, not-true}
+use Rattle.scope.specs.Outcome.{answer, fine, first}
+use Rattle.scope.specs.Block.{blockAt, recordsIn}
+use Rattle.scope.specs.Table.{listFrom}
+use Rattle.scope.proofs.First.{fine-each}
+use Rattle.scope.proofs.Lists.{length-listFrom, getD-listFrom}
+use Rattle.scope.proofs.Tests.{required, then-first, then-next}
+use Rattle.codec.specs.Valid.{Fits}
+use Rattle.codec.proofs.Rows.{both, row}
+use Rattle.codec.proofs.Blocks.{Passed, passed}
+use Rattle.codec.proofs.Files.{by-last}
+use Rattle.rules.specs.declared.Step.{Step}
+use Rattle.rules.specs.Steps.{derivations, stepAt, stepOk, sizeOk, formTest, decodeSteps}
+use Rattle.steps.specs.Opened.{placeOf, blockRow, stepRow}
+
+pub fits : Fits derivations
+fits = record { some = lit< tt; room = refl }
+
+-- a length that passes row 40 is that of 1 to 65,536 whole blocks
+pub whole-blocks : (n : ℕ) → sizeOk n ≡ true → (0 < n / 512) × (n ≡ 512 * (n / 512)) × (n / 512 ≤ 65536)
+unfolding sizeOk
+whole-blocks n e =
+    let ok = both (not (eqb n 0)) _ e in
+    let ok₁ = both (eqb (n % 512) 0) (leb n 33554432) (ok .1) in
+    let some = eqb-false n 0 (not-true (eqb n 0) (ok .0)) in
+    let whole = eqb-true (n % 512) 0 (ok₁ .0) in
+    let most = leb-true n 33554432 (ok₁ .1) in
+    (omega arith, omega arith, omega arith)
+
+-- blocks that pass rows 41 to 43
+module _ (d : List ℕ) (some : 0 < length d / 512) (blocks : first (blockRow d) 0 (length d / 512) ≡ fine) where
+  pub block-fine : (j : ℕ) → j < length d / 512 → blockRow d j ≡ fine
+  block-fine j h = fine-each (blockRow d) (length d / 512) 0 blocks j (omega arith) (omega arith)
+
+  last-passed : Passed derivations (blockAt d (length d / 512 - 1)) (length d / 512 - 1) (eqb (suc (length d / 512 - 1)) (length d / 512))
+  last-passed = passed derivations _ _ _ (block-fine (length d / 512 - 1) (omega arith))
+
+  -- there are steps, and no more than the blocks can hold
+  pub steps-some : 0 < recordsIn derivations d
+  unfolding recordsIn
+  steps-some = omega (arith, last-passed .some)
+
+  pub steps-most : recordsIn derivations d ≤ 126 * (length d / 512)
+  unfolding recordsIn
+  steps-most = omega (arith, last-passed .most)
+
+  -- every step lies within the bytes
+  pub steps-inside : (k : ℕ) → k < recordsIn derivations d → placeOf k + 4 ≤ length d
+  steps-inside k h = omega (arith, steps-most)
+
+-- a derivation whose form passes
+module _ (d : List ℕ) (test : formTest d ≡ fine) where
+  pub size-met : (0 < length d / 512) × (length d ≡ 512 * (length d / 512)) × (length d / 512 ≤ 65536)
+  unfolding formTest
+  size-met = whole-blocks (length d) (row (sizeOk (length d)) 40 0 _ test .0)
+
+  pub blocks-met : first (blockRow d) 0 (length d / 512) ≡ fine
+  unfolding formTest
+  blocks-met = then-first _ (first (stepRow d) 0 (recordsIn derivations d)) (row (sizeOk (length d)) 40 0 _ test .1)
+
+  pub forms-met : first (stepRow d) 0 (recordsIn derivations d) ≡ fine
+  unfolding formTest
+  forms-met = then-next (first (blockRow d) 0 (length d / 512)) _ (row (sizeOk (length d)) 40 0 _ test .1)
+
+  -- 1 to 8,257,536 steps
+  pub some-steps : 0 < recordsIn derivations d
+  some-steps = steps-some d (size-met .0) blocks-met
+
+  pub few-steps : recordsIn derivations d ≤ 8257536
+  few-steps = omega (arith, steps-most d (size-met .0) blocks-met, size-met .2)
+
+  -- each lies within the bytes
+  pub step-within : (k : ℕ) → k < recordsIn derivations d → placeOf k + 4 ≤ length d
+  step-within = steps-inside d (size-met .0) blocks-met
+
+  -- .. and is formed
+  pub step-formed : (k : ℕ) → k < recordsIn derivations d → stepOk (stepAt d k) ≡ true
+  step-formed k h =
+      required (stepOk (stepAt d k)) 44 k (fine-each (stepRow d) (recordsIn derivations d) 0 forms-met k (omega arith) (omega arith))
+
+  -- they are what the derivation reads as
+  pub steps-read : decodeSteps d ≡ answer (listFrom (stepAt d) 0 (recordsIn derivations d))
+  unfolding decodeSteps
+  steps-read = rw test
+
+  -- every block but the last is full
+  full-block : (j : ℕ) → suc j < length d / 512 → getD (blockAt d j) 1 0 ≡ 126
+  full-block j h =
+      let more : eqb (suc j) (length d / 512) ≡ false = ne-eqb (suc j) (length d / 512) (λ q. omega arith) in
+      let ok = passed derivations (blockAt d j) j _ (block-fine d (size-met .0) blocks-met j (omega arith)) in
+      eqb-true (getD (blockAt d j) 1 0) 126 (rw more at (ok .full))
+
+  -- the block of a step, and the step's place in it
+  pub block-of : (k : ℕ) → k < recordsIn derivations d → (k / 126 < length d / 512) × (k % 126 < getD (blockAt d (k / 126)) 1 0)
+  unfolding recordsIn
+  block-of k h =
+      let m : ℕ = length d / 512 in
+      let j : k / 126 < m = omega (arith, size-met .0, last-passed d (size-met .0) blocks-met .most) in (
+        j,
+        by-last (k / 126) m j
+            (λ e. let q : m - 1 ≡ k / 126 = omega arith in omega (arith, rw q at h))
+            (λ e. omega (arith, full-block (k / 126) e)),
+      )
+
+  -- behind the last step there is no block, or the block's count is reached
+  pub block-past : (k : ℕ) → recordsIn derivations d ≤ k → k / 126 < length d / 512 → getD (blockAt d (k / 126)) 1 0 ≤ k % 126
+  unfolding recordsIn
+  block-past k h l =
+      let q : length d / 512 - 1 ≡ k / 126 = omega arith in
+      omega (arith, rw q at h)
+
+-- a derivation that reads: its form passes, and its steps are those of its places
+module _ (d : List ℕ) (ss : List Step) (e : decodeSteps d ≡ answer ss) where
+  pub read-fine : formTest d ≡ fine
+  unfolding decodeSteps
+  read-fine = then-first (formTest d) _ e
+
+  pub read-steps : ss ≡ listFrom (stepAt d) 0 (recordsIn derivations d)
+  read-steps =
+      let q : answer ss ≡ answer (listFrom (stepAt d) 0 (recordsIn derivations d)) = sym e ∙ steps-read d read-fine in
+      cc
+
+  pub read-length : length ss ≡ recordsIn derivations d
+  read-length = ap length read-steps ∙ length-listFrom (stepAt d) (recordsIn derivations d) 0
+
+  pub read-step : (k : ℕ) (z : Step) → k < length ss → getD ss k z ≡ stepAt d k
+  read-step k z h =
+      rw read-steps
+      (getD-listFrom (stepAt d) (recordsIn derivations d) 0 k z (omega (arith, read-length)) ∙ ap (λ (n : ℕ). stepAt d n) (zero-add k))

@@ -1,0 +1,2 @@
+-- What opening a derivation answers. Assumes nothing.
+pub mod Opened
