@@ -19,12 +19,18 @@ extern "C" {
 #define BEV_BLOCK 512
 #define BEV_TABLE_MAX 16384
 #define BEV_WORK 32768 /* numbers of a full work area */
+#define BEV_STEP 4
+#define BEV_DERIVATION_MAX 33554432
 
 typedef struct { uint16_t number; size_t place; size_t nodes; } bev_counted;
 typedef struct { uint16_t number; size_t place; uint8_t kind; uint16_t a; uint16_t b; } bev_node;
 typedef struct { uint16_t number; size_t place; uint8_t truth; } bev_truth;
 typedef struct { uint16_t number; size_t place; uint8_t possible; } bev_decided;
 typedef struct { uint16_t number; size_t place; size_t literal; size_t used; } bev_added;
+typedef struct { uint16_t number; size_t place; size_t steps; } bev_derived;
+typedef struct { uint16_t number; size_t place; } bev_checked;
+typedef struct { uint16_t number; size_t place; size_t steps; } bev_opened;
+typedef struct { uint8_t left; uint8_t rule; uint8_t position; uint16_t value; } bev_stepped;
 
 /* The node count of a table. Refusals: 10 to 17. */
 bev_counted bev_count(const uint8_t *table, size_t table_len);
@@ -43,6 +49,21 @@ bev_added bev_add(uint8_t *buffer, size_t buffer_len, size_t used, const uint8_t
  * that the solver's order ends on. Lent a work area of at least 32,768 numbers, whose contents are free afterwards (unchanged on a
  * refusal). Refusals: 10 to 17, 20, 21, 23. */
 bev_decided bev_decide(const uint8_t *table, size_t table_len, size_t goal, uint8_t *settings, size_t settings_len, uint16_t *work, size_t work_len);
+
+/* Writes the derivation, in the solver's order, of a goal that is impossible, and answers its step count: the derivation is the blocks
+ * that hold these steps, 126 in a full one; the bytes past its last block stay. The work area as for bev_decide. Refusals: 10 to 17,
+ * 20, 23, 30 the goal is possible, 31 more bytes are needed than lent or than 65,536 blocks. */
+bev_derived bev_derive(const uint8_t *table, size_t table_len, size_t goal, uint16_t *work, size_t work_len, uint8_t *derivation, size_t derivation_len);
+
+/* Whether a derivation, by whatever author, shows that the goal is impossible: number 0 accepted. The work area as for bev_decide.
+ * Refusals: 10 to 17, 20, 23, 40 to 44 for its form, 45 to 47 at the step where it fails. */
+bev_checked bev_check(const uint8_t *table, size_t table_len, size_t goal, uint16_t *work, size_t work_len, const uint8_t *derivation, size_t derivation_len);
+
+/* Opens a derivation: its step count. Refusals: 40 to 44. */
+bev_opened bev_open(const uint8_t *derivation, size_t derivation_len);
+
+/* The step at an index of a derivation that bev_open has answered: left 1 and the step, or left 0 where none is left. */
+bev_stepped bev_step(const uint8_t *derivation, size_t derivation_len, size_t index);
 
 #ifdef __cplusplus
 }

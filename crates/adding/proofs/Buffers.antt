@@ -1,10 +1,10 @@
 -- The used part of a buffer, and the parts of it that are lent and come back. Assumes nothing.
 use mathlib.Core.Path.{_≡_, _∙_, ap, sym, refl}
-use mathlib.Core.List.{List, [], _∷_, _++_, append-nil}
+use mathlib.Core.List.{List, _∷_, _++_}
 use Prim.Native.Nat.{ℕ, _+_, _-_, _<_, _≤_}
 use native.Mathlib.Omega.{arith}
-use lib.ListN.{length, take, drop, getD, length-take, length-drop, drop-of-length-le}
-use lib.Seq.{length-take-le, take-all, drop-drop, getD-take, getD-drop}
+use lib.ListN.{length, take, drop, getD, length-take}
+use lib.Seq.{length-take-le, drop-drop, getD-take, getD-drop}
 use borrow.Rule.Slice.PartMut.{midOf, postOf, putMid}
 use borrow.Author.Tests.{eq-eqb, ne-eqb}
 use Rattle.scope.specs.Outcome.{answer}
@@ -19,14 +19,6 @@ none-used buf used e = rw e
 pub some-used : (buf : List ℕ) (used : ℕ) → used ≤ length buf → (used ≡ 0 → ⊥) → usedCount (take used buf) ≡ tableCount (take used buf)
 unfolding decodeUsed tableCount
 some-used buf used h e = rw (ne-eqb (length (take used buf)) 0 (λ z. e (sym (length-take-le used buf h) ∙ z)))
-
--- the part from a on was lent, and came back with a block of n bytes at its start
-pub part-back : (xs block : List ℕ) (a n : ℕ) {ys : List ℕ} → a ≤ length xs → ys ≡ block ++ drop n (midOf a (length xs - a) xs)
-    → putMid a (length xs - a) xs ys ≡ take a xs ++ (block ++ drop (a + n) xs)
-part-back xs block a n h e =
-    let whole : take (length xs - a) (drop a xs) ≡ drop a xs = take-all (length xs - a) (drop a xs) (simp length-drop (omega arith)) in
-    let none : drop (length xs - a) (drop a xs) ≡ [] = drop-of-length-le (drop a xs) {i = length xs - a} (simp length-drop (omega arith)) in
-    simp (e, whole, none, append-nil, drop-drop)
 
 -- the n elements from a up to e were lent, and came back as f of them
 pub mid-back : (f : List ℕ → List ℕ) (xs : List ℕ) (a e n : ℕ) {ys : List ℕ} → a + n ≡ e → ys ≡ f (midOf a (e - a) xs)

@@ -2,11 +2,12 @@
 use mathlib.Core.Path.{_≡_}
 use mathlib.Core.Bool.{Bool, true, false}
 use mathlib.Core.List.{List}
-use Prim.Native.Nat.{ℕ}
+use Prim.Native.Nat.{ℕ, _≤_, _<_}
 use Rattle.scope.specs.declared.Node.{Node}
 use Rattle.scope.specs.Outcome.{Outcome, answer, refused, _>>=_}
 use Rattle.scope.specs.Calls.{Added}
 use Rattle.calculus.specs.Decide.{decide, settingsAfter}
+use Rattle.rules.specs.Derive.{derive, derivedAfter, check}
 use Rattle.deciding.specs.Decides.{Word, can, cannot, nothing, wordOf}
 use Rattle.adding.specs.declared.Mark.{Mark}
 use Rattle.adding.specs.Added.{marked}
@@ -15,6 +16,12 @@ use Rattle.bevaridhom.specs.declared.BevRecord.{BevRecord}
 use Rattle.bevaridhom.specs.declared.BevTruth.{BevTruth}
 use Rattle.bevaridhom.specs.declared.BevAdded.{BevAdded}
 use Rattle.bevaridhom.specs.declared.BevDecided.{BevDecided}
+use Rattle.bevaridhom.specs.declared.BevDerived.{BevDerived}
+use Rattle.bevaridhom.specs.declared.BevChecked.{BevChecked}
+use Rattle.bevaridhom.specs.declared.BevOpened.{BevOpened}
+use Rattle.bevaridhom.specs.declared.BevStep.{BevStep}
+use Rattle.reader.specs.declared.Handed.{Handed}
+use Rattle.reader.specs.declared.Handed.the-variants.{Step, Done}
 
 abbrev pub countAnswer : Outcome ℕ → BevCount
 countAnswer (answer n) = record { number = 0; place = 0; nodes = n }
@@ -55,3 +62,32 @@ pub record HostDecides (t : List ℕ) (goal : ℕ) (s w s′ w′ : List ℕ) (r
   pub answered : r ≡ decideAnswer (decide t goal s w >>= λ d. answer (wordOf (d .verdict)))
   pub settings : s′ ≡ settingsAfter s (decide t goal s w)
   pub work : (number place : ℕ) → decide t goal s w ≡ refused number place → w′ ≡ w
+
+abbrev pub deriveAnswer : Outcome ℕ → BevDerived
+deriveAnswer (answer n) = record { number = 0; place = 0; steps = n }
+deriveAnswer (refused n p) = record { number = n; place = p; steps = 0 }
+
+-- derive for a host: its step count, the derivation bytes, and a work area that a refusal up to row 23 leaves as it was
+pub record HostDerives (t : List ℕ) (goal : ℕ) (w d w′ d′ : List ℕ) (r : BevDerived) : Type 0 where
+  pub answered : r ≡ deriveAnswer (derive t goal w d >>= λ x. answer (x .steps))
+  pub bytes : d′ ≡ derivedAfter d (derive t goal w d)
+  pub work : (number place : ℕ) → derive t goal w d ≡ refused number place → number ≤ 23 → w′ ≡ w
+
+-- 0 is 'accepted'
+abbrev pub checkAnswer : Outcome (Unit {0}) → BevChecked
+checkAnswer (answer u) = record { number = 0; place = 0 }
+checkAnswer (refused n p) = record { number = n; place = p }
+
+-- check for a host: its answer, and a work area that a refusal before the first step leaves as it was
+pub record HostChecks (t : List ℕ) (goal : ℕ) (w d w′ : List ℕ) (r : BevChecked) : Type 0 where
+  pub answered : r ≡ checkAnswer (check t goal w d)
+  pub work : (number place : ℕ) → check t goal w d ≡ refused number place → number < 45 → w′ ≡ w
+
+abbrev pub openAnswer : Outcome ℕ → BevOpened
+openAnswer (answer n) = record { number = 0; place = 0; steps = n }
+openAnswer (refused n p) = record { number = n; place = p; steps = 0 }
+
+-- a step, or that none is left
+abbrev pub stepAnswer : Handed → BevStep
+stepAnswer (Step s) = record { left = 1; rule = s .rule; position = s .position; value = s .value }
+stepAnswer Done = record { left = 0; rule = 0; position = 0; value = 0 }

@@ -1,10 +1,16 @@
 // The calls for a host in C: numbers and byte slices in, a struct by value out. A slice is a pointer and a length.
 ghost use mathlib.Core.Path.{_≡_};
 ghost use Rattle.scope.specs.Calls.{tableCount, tableRecord, evaluate, add, bytesAfter};
-ghost use Rattle.bevaridhom.specs.Answers.{countAnswer, recordAnswer, truthAnswer, addAnswer, HostDecides};
+ghost use Rattle.steps.specs.Opened.{stepCount};
+ghost use Rattle.reader.specs.Handed.{nextOf};
+ghost use Rattle.bevaridhom.specs.Answers.{countAnswer, recordAnswer, truthAnswer, addAnswer, openAnswer, stepAnswer, HostDecides, HostDerives, HostChecks};
 use adding::Added;
+use checking::Checked;
 use deciding::Decided;
+use deriving::Derived;
+use reader::Handed;
 use record::Read;
+use steps::Opened;
 use table::Counted;
 use truth::Evaluated;
 
@@ -155,6 +161,114 @@ pub extern "C" fn bev_decide(t: &[u8], goal: usize, s: &mut [u8], w: &mut [u16])
             number: f.number,
             place: f.place,
             possible: 0,
+        },
+    }
+}
+
+#[repr(C)]
+pub struct BevDerived {
+    pub number: u16,
+    pub place: usize,
+    pub steps: usize,
+}
+
+// Writes the derivation of an impossible goal and answers its step count.
+#[no_mangle]
+pub extern "C" fn bev_derive(t: &[u8], goal: usize, w: &mut [u16], d: &mut [u8]) -> BevDerived
+    ensures { λ r. ⌜ HostDerives (now (t .entry)) goal (now (w .entry)) (now (d .entry)) (now (w .exit)) (now (d .exit)) r ⌝ }
+{
+    let c = deriving::derive(t, goal, w, d);
+    match c {
+        Derived::Steps(steps) => BevDerived {
+            number: 0,
+            place: 0,
+            steps,
+        },
+        Derived::Refused(f) => BevDerived {
+            number: f.number,
+            place: f.place,
+            steps: 0,
+        },
+    }
+}
+
+#[repr(C)]
+pub struct BevChecked {
+    pub number: u16,
+    pub place: usize,
+}
+
+// Whether a derivation shows that the goal is impossible: number 0 accepted.
+#[no_mangle]
+pub extern "C" fn bev_check(t: &[u8], goal: usize, w: &mut [u16], d: &[u8]) -> BevChecked
+    ensures { λ r. ⌜ HostChecks (now (t .entry)) goal (now (w .entry)) (now (d .entry)) (now (w .exit)) r ⌝ }
+{
+    let c = checking::check(t, goal, w, d);
+    match c {
+        Checked::Accepted => BevChecked {
+            number: 0,
+            place: 0,
+        },
+        Checked::Refused(f) => BevChecked {
+            number: f.number,
+            place: f.place,
+        },
+    }
+}
+
+#[repr(C)]
+pub struct BevOpened {
+    pub number: u16,
+    pub place: usize,
+    pub steps: usize,
+}
+
+// Opening a derivation: its step count, or the first refusal of 40 to 44.
+#[no_mangle]
+pub extern "C" fn bev_open(d: &[u8]) -> BevOpened
+    ensures { λ r. ⌜ r ≡ openAnswer (stepCount (now (d .entry))) ⌝ }
+{
+    let c = steps::count(d);
+    match c {
+        Opened::Steps(steps) => BevOpened {
+            number: 0,
+            place: 0,
+            steps,
+        },
+        Opened::Refused(f) => BevOpened {
+            number: f.number,
+            place: f.place,
+            steps: 0,
+        },
+    }
+}
+
+#[repr(C)]
+pub struct BevStep {
+    pub left: u8,
+    pub rule: u8,
+    pub position: u8,
+    pub value: u16,
+}
+
+// The reader as an entry: the step at an index, or that none is left there (left 0).
+#[no_mangle]
+pub extern "C" fn bev_step(d: &[u8], index: usize) -> BevStep
+    ensures { λ r. ⌜ r ≡ stepAnswer (nextOf (now (d .entry)) index) ⌝ }
+{
+    let c = reader::step_of(d, index);
+    match c {
+        Handed::Step(s) => BevStep {
+            left: 1,
+            rule: s.rule,
+            position: s.position,
+            value: s.value,
+        },
+        Handed::Done => BevStep {
+            left: 0,
+            rule: 0,
+            position: 0,
+            value: 0,
         },
     }
 }

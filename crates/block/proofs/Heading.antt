@@ -1,8 +1,8 @@
 -- Laws of a block's heading: what makes it wrong, what is left to test, and the room that it leaves.
 -- Assumes nothing.
-use mathlib.Core.Path.{_≡_, refl}
+use mathlib.Core.Path.{_≡_}
 use mathlib.Core.List.{List}
-use mathlib.Core.Bool.{Bool, true, false, _&&_, _||_}
+use mathlib.Core.Bool.{Bool, true, false, _||_, and-false}
 use Prim.Native.Nat.{ℕ, _*_, _<_, _≤_}
 use native.Mathlib.Nat.{le-refl, le-trans, mul-le-mul}
 use native.Mathlib.Omega.{arith}
@@ -13,10 +13,6 @@ use Rattle.scope.specs.declared.Format.{Format}
 use Rattle.scope.specs.Block.{wordAt, headOk}
 use Rattle.scope.proofs.Tests.{and-left, and-right}
 use Rattle.block.specs.Format.{Fitting}
-
-and-false : (a : Bool) → (a && false) ≡ false
-and-false true = refl
-and-false false = refl
 
 module _ (F : Format) (b : List ℕ) (index : ℕ) (last : Bool) where
   -- one part that is wrong is enough, whatever the others say

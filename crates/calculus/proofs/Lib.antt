@@ -2,6 +2,7 @@
 pub mod Lists
 pub mod Literals
 pub mod Count
+pub mod Sizes
 pub mod Moves
 pub mod Rows
 pub mod Fresh

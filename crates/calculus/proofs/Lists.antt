@@ -28,6 +28,12 @@ module _ {A : Type 0} (P : A → Type 0) where
   all-at (x ∷ xs) zero d a h = a .0
   all-at (x ∷ xs) (suc k) d a h = all-at xs k d (a .1) (le-of-suc-le-suc h)
 
+  -- what all elements and the default have, each entry has
+  pub all-getD : (xs : List A) (k : ℕ) (d : A) → P d → All P xs → P (getD xs k d)
+  all-getD [] k d h a = h
+  all-getD (x ∷ xs) zero d h a = a .0
+  all-getD (x ∷ xs) (suc k) d h a = all-getD xs k d h (a .1)
+
   pub all-each : ((x : A) → P x) → (xs : List A) → All P xs
   all-each f [] = tt
   all-each f (x ∷ xs) = (f x, all-each f xs)

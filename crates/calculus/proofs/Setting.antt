@@ -54,7 +54,7 @@ unfolding settingOf
 setting-length rs G = length-listFrom (λ p. bit (atomHeld rs 0 G p)) 1024 0
 
 -- the byte of a point
-setting-point : (rs : List Node) (G : List ℕ) (p : ℕ) → p < 1024 → getD (settingOf rs G) p 0 ≡ bit (atomHeld rs 0 G p)
+pub setting-point : (rs : List Node) (G : List ℕ) (p : ℕ) → p < 1024 → getD (settingOf rs G) p 0 ≡ bit (atomHeld rs 0 G p)
 unfolding settingOf
 setting-point rs G p h =
     getD-listFrom (λ p. bit (atomHeld rs 0 G p)) 1024 0 p 0 h ∙ ap (λ (q : ℕ). bit (atomHeld rs 0 G q)) (zero-add p)

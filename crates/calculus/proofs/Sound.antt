@@ -50,7 +50,7 @@ module _ (v : ℕ → Bool) where
   says-state G (l ∷ c) h e = says-joined (valueOf G l) l (stateOf G c) (clauseTrue v c) (fails-false G l h) e (says-state G c h)
 
 -- both branches of a closed split are closed
-or-closed : (a b : Answer) → orElse a b ≡ impossible → (a ≡ impossible) × (b ≡ impossible)
+pub or-closed : (a b : Answer) → orElse a b ≡ impossible → (a ≡ impossible) × (b ≡ impossible)
 or-closed (possible G) b e = absurd (possible-closed e)
 or-closed impossible b e = (refl, e)
 or-closed unfinished b e = absurd (closed-cut (sym e))

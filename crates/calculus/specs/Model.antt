@@ -2,8 +2,9 @@
 use mathlib.Core.Path.{_≡_}
 use mathlib.Core.List.{List, [], _∷_}
 use mathlib.Core.Bool.{Bool, true, cond, not}
-use Prim.Native.Nat.{ℕ, _*_, _/_, _%_, _<_}
+use Prim.Native.Nat.{ℕ, _*_, _/_, _%_, _<_, _≤_}
 use lib.Dec.{eqb}
+use lib.ListN.{length}
 use Rattle.scope.specs.declared.Node.{Node}
 use Rattle.scope.specs.Truth.{joined}
 use Rattle.calculus.specs.Order.{mem, valueOf, undecided}
@@ -40,6 +41,11 @@ AllTrue v ls = All (λ l. litTrue v l ≡ true) ls
 -- all literals of a list are those of n nodes
 abbrev pub Below : ℕ → List ℕ → Type 0
 Below n ls = All (λ l. l < 2 * n) ls
+
+-- at most 64 goals, literals of n nodes
+pub record Goals (n : ℕ) (goals : List ℕ) : Type 0 where
+  pub most : length goals ≤ 64
+  pub below : Below n goals
 
 -- a literal of n nodes that may join G
 abbrev pub Fresh : ℕ → List ℕ → ℕ → Type 0

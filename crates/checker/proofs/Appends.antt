@@ -20,9 +20,12 @@ use Rattle.checker.specs.Work.{areaSize, clauseCount, firstAt, secondAt,
 
 -- ---- the shapes
 
--- the clauses of row i, as choices
+-- both clauses that row i has room for, as choices, and those that it has
+abbrev pairsAt : ℕ → List (List ℕ)
+pairsAt i = pair (shapeAt (5 * i + 1)) (shapeAt (5 * i + 2)) ∷ pair (shapeAt (5 * i + 3)) (shapeAt (5 * i + 4)) ∷ []
+
 abbrev rowAt : ℕ → List (List ℕ)
-rowAt i = take (shapeAt (5 * i)) (pair (shapeAt (5 * i + 1)) (shapeAt (5 * i + 2)) ∷ pair (shapeAt (5 * i + 3)) (shapeAt (5 * i + 4)) ∷ [])
+rowAt i = take (shapeAt (5 * i)) (pairsAt i)
 
 -- they are those of the calculus
 rows-right : take 14 templates ≡ listFrom rowAt 0 14
@@ -99,14 +102,14 @@ module _ (t : ℕ → Node) (l : ℕ) (h : t (l / 2) .kind < 7) where
   pub expand-length : length (expand t l) ≡ shapeAt (5 * i)
   expand-length =
       ap length expand-row ∙ length-map (rowAt i) (map (chosen (t (l / 2))))
-      ∙ length-take-le (shapeAt (5 * i)) (pair (shapeAt (5 * i + 1)) (shapeAt (5 * i + 2)) ∷ pair (shapeAt (5 * i + 3)) (shapeAt (5 * i + 4)) ∷ []) (row-most i low)
+      ∙ length-take-le (shapeAt (5 * i)) (pairsAt i) (row-most i low)
 
   expand-at : (j : ℕ) → j < shapeAt (5 * i) → getD (expand t l) j []
-      ≡ map (chosen (t (l / 2))) (getD (pair (shapeAt (5 * i + 1)) (shapeAt (5 * i + 2)) ∷ pair (shapeAt (5 * i + 3)) (shapeAt (5 * i + 4)) ∷ []) j [])
+      ≡ map (chosen (t (l / 2))) (getD (pairsAt i) j [])
   expand-at j b =
       ap (λ (cs : List (List ℕ)). getD cs j []) expand-row
       ∙ getD-map (map (chosen (t (l / 2)))) (rowAt i) j [] [] (omega (arith, b, expand-length, ap length expand-row, length-map (rowAt i) (map (chosen (t (l / 2))))))
-      ∙ ap (map (chosen (t (l / 2)))) (getD-take (shapeAt (5 * i)) (pair (shapeAt (5 * i + 1)) (shapeAt (5 * i + 2)) ∷ pair (shapeAt (5 * i + 3)) (shapeAt (5 * i + 4)) ∷ []) j [] b)
+      ∙ ap (map (chosen (t (l / 2)))) (getD-take (shapeAt (5 * i)) (pairsAt i) j [] b)
 
 -- ---- a clause is stored
 
@@ -187,7 +190,7 @@ module _ (t : ℕ → Node) (l row : ℕ) (w w₁ w₂ : List ℕ) (size : areaS
       (away₃ (16 + clauseCount w) (λ y. omega (arith, y)) ∙ q .else (16 + clauseCount w) (λ y. omega (arith, y)) (λ y. omega (arith, y)) ∙ p .first ∙ ap (pick (t (l / 2))) (shape-is 1))
       (away₃ (4112 + clauseCount w) (λ y. omega (arith, y)) ∙ q .else (4112 + clauseCount w) (λ y. omega (arith, y, small)) (λ y. omega (arith, y)) ∙ p .second ∙ ap (pick (t (l / 2))) (shape-is 2))
       (row-packed (2 * t (l / 2) .kind + l % 2) (omega (arith, h)) .0)
-      (expand-at t l h j (omega (arith, b, expand-length t l h)) ∙ ap (λ (m : ℕ). map (chosen (t (l / 2))) (getD (pair (shapeAt (5 * (2 * t (l / 2) .kind + l % 2) + 1)) (shapeAt (5 * (2 * t (l / 2) .kind + l % 2) + 2)) ∷ pair (shapeAt (5 * (2 * t (l / 2) .kind + l % 2) + 3)) (shapeAt (5 * (2 * t (l / 2) .kind + l % 2) + 4)) ∷ []) m [])) z))
+      (expand-at t l h j (omega (arith, b, expand-length t l h)) ∙ ap (λ (m : ℕ). map (chosen (t (l / 2))) (getD (pairsAt (2 * t (l / 2) .kind + l % 2)) m [])) z))
 
   at-second : (j : ℕ) → j ≡ 1 → j < length (expand t l) → Clause w₃ (clauseCount w + j) (getD (expand t l) j [])
   at-second j z b =
@@ -197,7 +200,7 @@ module _ (t : ℕ → Node) (l row : ℕ) (w w₁ w₂ : List ℕ) (size : areaS
       (away₃ (16 + (clauseCount w + 1)) (λ y. omega (arith, y)) ∙ q .first ∙ ap (pick (t (l / 2))) (shape-is 3))
       (away₃ (4112 + (clauseCount w + 1)) (λ y. omega (arith, y)) ∙ q .second ∙ ap (pick (t (l / 2))) (shape-is 4))
       (row-packed (2 * t (l / 2) .kind + l % 2) (omega (arith, h)) .1)
-      (expand-at t l h j (omega (arith, b, expand-length t l h)) ∙ ap (λ (m : ℕ). map (chosen (t (l / 2))) (getD (pair (shapeAt (5 * (2 * t (l / 2) .kind + l % 2) + 1)) (shapeAt (5 * (2 * t (l / 2) .kind + l % 2) + 2)) ∷ pair (shapeAt (5 * (2 * t (l / 2) .kind + l % 2) + 3)) (shapeAt (5 * (2 * t (l / 2) .kind + l % 2) + 4)) ∷ []) m [])) z))
+      (expand-at t l h j (omega (arith, b, expand-length t l h)) ∙ ap (λ (m : ℕ). map (chosen (t (l / 2))) (getD (pairsAt (2 * t (l / 2) .kind + l % 2)) m [])) z))
 
   here : (j : ℕ) → j < length (expand t l) → Clause w₃ (clauseCount w + j) (getD (expand t l) j [])
   here zero b = at-first 0 refl b
@@ -224,6 +227,3 @@ module _ (t : ℕ → Node) (l row : ℕ) (w w₁ w₂ : List ℕ) (size : areaS
 -- how many clauses are counted, at most
 pub count-most : (t : ℕ → Node) (l row : ℕ) → t (l / 2) .kind < 7 → row ≡ 5 * (2 * t (l / 2) .kind + l % 2) → shapeAt row ≤ 2
 count-most t l row h e = omega (arith, ap shapeAt e, row-most (2 * t (l / 2) .kind + l % 2) (omega (arith, h)))
-
-pub expand-few : (t : ℕ → Node) (l : ℕ) → t (l / 2) .kind < 7 → length (expand t l) ≤ 2
-expand-few t l h = omega (arith, expand-length t l h, row-most (2 * t (l / 2) .kind + l % 2) (omega (arith, h)))

@@ -7,19 +7,19 @@ use Prim.Native.Nat.{ℕ, zero, suc, _+_, _-_, _*_, _/_, _%_, _<_, _≤_}
 use native.Mathlib.Omega.{arith}
 use native.Mathlib.Decide.{ℕ-discrete, decLt}
 use lib.Dec.{eqb}
-use lib.ListN.{length, getD, length-append}
+use lib.ListN.{length, getD}
 use lib.Seq.{getD-append-add}
 use borrow.Author.Tests.{eq-eqb, ne-eqb}
 use Rattle.scope.specs.declared.Node.{Node}
 use Rattle.calculus.specs.Expansion.{neg, expand}
 use Rattle.calculus.specs.Order.{mem, clauses}
 use Rattle.calculus.proofs.Literals.{mem-other}
+use Rattle.calculus.proofs.Sizes.{clauses-few, clauses-more}
 use Rattle.rules.specs.Rules.{Branch, join, strikeClause, strikeLiteral}
 use Rattle.rules.proofs.Laws.{still-in, clause-kept}
-use Rattle.rules.proofs.Steps.{clauses-few}
 use Rattle.checker.specs.Work.{areaSize, mostMarks, clauseCount, newest, firstAt, secondAt, markAt, splitCount, splitClauses, splitNewest, trailAt, trail, held, gOf, Trail, Same, Clause, Joined, Struck}
 use Rattle.checker.specs.Holds.{clausesIn, literalsIn, Chain, Marked, Frame, History, history, branch, branchOf, waits, waitingOf, End, Splits, Base, Holds}
-use Rattle.checker.proofs.Trails.{trail-length, trail-same, trail-suc, count-most}
+use Rattle.trail.proofs.Trails.{trail-length, trail-same, trail-suc, count-most}
 use Rattle.checker.proofs.Marks.{chain-same, struck-marked}
 
 -- ---- the clause list of a trail's first literals
@@ -40,10 +40,6 @@ module _ (e : ℕ → List (List ℕ)) (goals : List ℕ) where
           let p = f (omega (arith, z, h)) in
           subst (λ (G : List ℕ). (k < length (clauses e goals G)) × (getD (clauses e goals G) k [] ≡ getD (clauses e goals (trail q r)) k [])) (sym (trail-suc c r))
           (still-in e goals (trail c r) (r (1 + c)) k (p .0), clause-kept e goals (trail c r) (r (1 + c)) k (p .0) ∙ p .1)
-
-  pub clauses-more : (l : ℕ) (G : List ℕ) → length (clauses e goals (l ∷ G)) ≡ length (clauses e goals G) + length (e l)
-  unfolding clauses
-  clauses-more l G = length-append (clauses e goals G) (e l)
 
   pub clause-new : (l : ℕ) (G : List ℕ) (j : ℕ) → getD (clauses e goals (l ∷ G)) (length (clauses e goals G) + j) [] ≡ getD (e l) j []
   unfolding clauses

@@ -1,6 +1,5 @@
 -- Laws of the work area, for the functions' proofs. Assumes nothing.
 pub mod Trails
-pub mod Pops
 pub mod Marks
 pub mod Appends
 pub mod Branches

@@ -3,13 +3,15 @@ use mathlib.Core.Path.{_≡_, refl, sym, ap, _∙_}
 use mathlib.Core.Bool.{Bool, true, false, cond, not, _&&_, _||_, false≢true}
 use mathlib.Core.Logic.{_⊎_, inl, inr}
 use mathlib.Core.List.{List, [], _∷_, _++_}
-use Prim.Native.Nat.{ℕ, zero, suc, _+_, _-_, _*_, _/_, _%_, _<_, _≤_}
+use Prim.Native.Nat.{ℕ, suc, _+_, _-_, _*_, _/_, _%_, _<_, _≤_}
 use native.Mathlib.Omega.{arith}
 use native.Mathlib.Decide.{ℕ-discrete}
 use lib.Dec.{eqb}
 use lib.ListN.{length, getD, set, length-set}
 use lib.Seq.{getD-set-same, getD-set-other}
 use borrow.Author.Tests.{eq-eqb, ne-eqb}
+use Rattle.scope.specs.Count.{tally}
+use Rattle.scope.proofs.Tally.{tally-less}
 use Rattle.calculus.specs.Order.{mem}
 use Rattle.calculus.proofs.Literals.{mem-same, mem-other, mem-later}
 use Rattle.rules.specs.Rules.{among}
@@ -136,12 +138,17 @@ marked-back mark w (m ∷ K) (x ∷ L) h e q =
     absurd (apart (K ++ x ∷ L) m x (h .chain .0 .1) (mem-end K L x) z)
 
 -- what the newest mark is, where it is not the one sought
-pub unwind-safe : (mark : ℕ) (w : List ℕ) → Reaches mark w → (newest w ≡ mark → ⊥)
-    → (0 < newest w) × (newest w ≤ mostMarks) × (0 < markAt w (newest w - 1))
-unwind-safe mark w ([], L, (h, e)) n = absurd (n (h .head ∙ sym e))
-unwind-safe mark w (m ∷ K, L, (h, e)) n =
+pub record Ahead (w : List ℕ) : Type 0 where
+  pub size : areaSize ≤ length w
+  pub some : 0 < newest w
+  pub most : newest w ≤ mostMarks
+  pub struck : 0 < markAt w (newest w - 1)
+
+ahead : (mark : ℕ) (w : List ℕ) → areaSize ≤ length w → Reaches mark w → (newest w ≡ mark → ⊥) → Ahead w
+ahead mark w size ([], L, (h, e)) n = absurd (n (h .head ∙ sym e))
+ahead mark w size (m ∷ K, L, (h, e)) n =
     let z : newest w - 1 ≡ m = omega (arith, h .head) in
-    (omega (arith, h .head), omega (arith, h .head, h .chain .0 .0), omega (arith, h .chain .0 .2, ap (markAt w) z))
+    record { size = size; some = omega (arith, h .head); most = omega (arith, h .head, h .chain .0 .0); struck = omega (arith, h .chain .0 .2, ap (markAt w) z) }
 
 -- the stores of one turn
 abbrev pub unmarked : List ℕ → List ℕ
@@ -204,50 +211,21 @@ unwind-turn mark w (m ∷ K) L size h e n =
 
 -- ---- how many marks are struck
 
-abbrev one : Bool → ℕ
-one true = 1
-one false = 0
-
-unfoldable pub tally : (ℕ → Bool) → ℕ → ℕ
-tally p zero = 0
-tally p (suc m) = one (p m) + tally p m
-
-tally-same : (p q : ℕ → Bool) (m : ℕ) → ((j : ℕ) → j < m → p j ≡ q j) → tally p m ≡ tally q m
-unfolding tally
-tally-same p q zero h = refl
-tally-same p q (suc m) h =
-    let a : one (p m) ≡ one (q m) = ap one (h m (omega arith)) in
-    let b = tally-same p q m (λ j k. h j (omega arith)) in
-    omega (arith, a, b)
-
--- one that passed passes no more
-tally-less : (p q : ℕ → Bool) (k m : ℕ) → k < m → ((j : ℕ) → (j ≡ k → ⊥) → p j ≡ q j) → p k ≡ true → q k ≡ false → tally q m < tally p m
-unfolding tally
-tally-less p q k zero i h a b = absurd (omega arith)
-tally-less p q k (suc m) i h a b = go (ℕ-discrete m k) (λ j. tally-less p q k m j h a b)
-  where
-    go : Dec (m ≡ k) → (k < m → tally q m < tally p m) → one (q m) + tally q m < one (p m) + tally p m
-    go (yes e) r =
-        let x : one (p m) ≡ 1 = ap (λ (j : ℕ). one (p j)) e ∙ ap one a in
-        let y : one (q m) ≡ 0 = ap (λ (j : ℕ). one (q j)) e ∙ ap one b in
-        let s = tally-same p q m (λ j l. h j (λ z. omega (arith, z, e, l))) in
-        omega (arith, x, y, s)
-    go (no e) r =
-        let x : one (p m) ≡ one (q m) = ap one (h m e) in
-        omega (arith, x, r (omega (arith, e, i)))
-
 -- how many marks of a work area are struck
 abbrev pub struckCount : List ℕ → ℕ
 struckCount w = tally (λ m. not (eqb (markAt w m) 0)) mostMarks
 
-pub unmarked-fewer : (mark : ℕ) (w : List ℕ) → areaSize ≤ length w → Reaches mark w → (newest w ≡ mark → ⊥) → struckCount (unmarked w) < struckCount w
-unmarked-fewer mark w size r n =
-    let s = unwind-safe mark w r n in
-    let b : newest w - 1 < mostMarks = omega (arith, s .0, s .1) in
-    tally-less (λ m. not (eqb (markAt w m) 0)) (λ m. not (eqb (markAt (unmarked w) m) 0)) (newest w - 1) mostMarks b
-    (λ j q. ap (λ (v : ℕ). not (eqb v 0)) (sym (unmarked-away w size (newest w - 1) b refl (8208 + j) (λ y. omega (arith, y)) (λ y. q (omega (arith, y))))))
-    (ap not (ne-eqb (markAt w (newest w - 1)) 0 (λ q. omega (arith, q, s .2))))
-    (ap not (eq-eqb (markAt (unmarked w) (newest w - 1)) 0 (unmarked-zero w size (newest w - 1) b refl)))
+unmarked-fewer : (w : List ℕ) → Ahead w → struckCount (unmarked w) < struckCount w
+unmarked-fewer w s =
+    let size = s .size in
+    let b : newest w - 1 < mostMarks = omega (arith, s) in
+    omega (
+      arith,
+      tally-less (λ m. not (eqb (markAt w m) 0)) (λ m. not (eqb (markAt (unmarked w) m) 0)) (newest w - 1) mostMarks b
+          (λ j q. ap (λ (v : ℕ). not (eqb v 0)) (sym (unmarked-away w size (newest w - 1) b refl (8208 + j) (λ y. omega (arith, y)) (λ y. q (omega (arith, y))))))
+          (ap not (ne-eqb (markAt w (newest w - 1)) 0 (λ q. omega (arith, q, s .struck))))
+          (ap not (eq-eqb (markAt (unmarked w) (newest w - 1)) 0 (unmarked-zero w size (newest w - 1) b refl))),
+    )
 
 -- ---- the loop that goes back
 
@@ -261,18 +239,20 @@ pub unwinding-starts : (mark : ℕ) (w : List ℕ) → Unwinding mark w w
 unwinding-starts mark w = record { size = refl; marked = λ K L h e. (K, h); else = λ i p q. refl }
 
 module _ (mark : ℕ) (w₀ w : List ℕ) (size : areaSize ≤ length w₀) (r : Reaches mark w₀) (u : Unwinding mark w₀ w) where
-  pub unwinding-size : areaSize ≤ length w
+  unwinding-size : areaSize ≤ length w
   unwinding-size = omega (arith, size, u .size)
 
-  pub unwinding-reaches : Reaches mark w
-  unwinding-reaches =
+  pub unwinding-ahead : (newest w ≡ mark → ⊥) → Ahead w
+  unwinding-ahead =
       let m = u .marked (r .0) (r .1) (r .2 .0) (r .2 .1) in
-      (m .0, r .1, (m .1, r .2 .1))
+      ahead mark w unwinding-size (m .0, r .1, (m .1, r .2 .1))
+
+  pub unwinding-less : (newest w ≡ mark → ⊥) → struckCount (unmarked w) < struckCount w
+  unwinding-less n = unmarked-fewer w (unwinding-ahead n)
 
   pub unwinding-goes : (newest w ≡ mark → ⊥) → Unwinding mark w₀ (unmarked w)
   unwinding-goes n =
-      let s = unwind-safe mark w unwinding-reaches n in
-      let b : newest w - 1 < mostMarks = omega (arith, s .0, s .1) in
+      let b : newest w - 1 < mostMarks = omega (arith, unwinding-ahead n) in
       record {
         size = unmarked-length w unwinding-size (newest w - 1) b refl ∙ u .size;
         marked = λ K L h e.

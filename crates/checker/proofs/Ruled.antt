@@ -32,6 +32,12 @@ running-same {b} {b′} {ws} {ws′} p q = sym (ap (λ (x : Branch). answer (run
 
 -- ---- what a function needs
 
+-- the mark of a literal lies within the work area
+pub record Strikable (w : List ℕ) (k p : ℕ) : Type 0 where
+  pub size : areaSize ≤ length w
+  pub number : k < mostClauses
+  pub position : p < 2
+
 module _ {t : ℕ → Node} {n : ℕ} {w : List ℕ} (few : n ≤ 2016) (H : Held t n w) where
   pub size-of : areaSize ≤ length w
   size-of = H .2 .base .size
@@ -83,10 +89,10 @@ module _ {t : ℕ → Node} {n : ℕ} {w : List ℕ} (few : n ≤ 2016) (H : Hel
     pub pick-below : (p word : ℕ) → word ≡ pickOf p (firstAt w k) (secondAt w k) → (word ≡ 0 → ⊥) → word - 1 < 2 * n
     pick-below p word e z = omega (arith, e, z, pick-most p (firstAt w k) (secondAt w k) (2 * n) (words-of .0) (words-of .1))
 
-    pub position-of : (p word : ℕ) → word ≡ pickOf p (firstAt w k) (secondAt w k) → (word ≡ 0 → ⊥) → p < 2
-    position-of p word e z =
+    pub strikable : (p word : ℕ) → word ≡ pickOf p (firstAt w k) (secondAt w k) → (word ≡ 0 → ⊥) → Strikable w k p
+    strikable p word e z =
         let y : pickOf p (firstAt w k) (secondAt w k) ≡ suc (word - 1) = omega (arith, e, z) in
-        position-low t n (H .0) w few (H .1) (H .2) k st p (word - 1) y
+        record { size = size-of; number = number-of k st; position = position-low t n (H .0) w few (H .1) (H .2) k st p (word - 1) y }
 
 -- the numbers of a literal that was found
 pub one-is : {a b u v word : ℕ} → word ≡ oneOf a b → a ≡ u → b ≡ v → word ≡ oneOf u v
@@ -208,6 +214,15 @@ pub record Opened (t : ℕ → Node) (n : ℕ) (w : List ℕ) : Type 0 where
   pub frames : List Frame
   pub holds : Holds t n goals w (history marks (frame ∷ frames))
 
+-- what is read of the newest split lies within the work area
+pub record Restorable (n : ℕ) (w : List ℕ) : Type 0 where
+  pub size : areaSize ≤ length w
+  pub few : n ≤ 2016
+  pub some : 0 < depth w
+  pub most : depth w ≤ 2016
+  pub count : splitCount w (depth w - 1) < trailAt w 0
+  pub literals : trailAt w 0 ≤ n
+
 waits-none : (r : ℕ → ℕ) → waits r [] ≡ []
 unfolding waits
 waits-none r = refl
@@ -232,29 +247,27 @@ module _ (t : ℕ → Node) (n : ℕ) (w : List ℕ) (few : n ≤ 2016) where
       go L (f ∷ fs) h = record { goals = H .0; marks = L; frame = f; frames = fs; holds = h }
 
   module _ (o : Opened t n w) where
-    pub open-depth : (0 < depth w) × (depth w ≤ 2016)
-    open-depth = (omega (arith, o .holds .depths), depth-past t n (o .goals) w few (o .marks) (o .frame) (o .frames) (o .holds))
-
-    pub open-count : (d : ℕ) → d ≡ depth w - 1 → splitCount w d < trailAt w 0
-    open-count d e =
-        let s = split-is t n (o .goals) w few (o .marks) (o .frame) (o .frames) (o .holds) d e in
-        omega (arith, s .count, s .before)
+    pub restorable : Restorable n w
+    restorable =
+        let s = split-is t n (o .goals) w few (o .marks) (o .frame) (o .frames) (o .holds) (depth w - 1) refl in
+        record {
+          size = o .holds .base .size;
+          few = few;
+          some = omega (arith, o .holds .depths);
+          most = depth-past t n (o .goals) w few (o .marks) (o .frame) (o .frames) (o .holds);
+          count = omega (arith, s .count, s .before);
+          literals = literals-most t n (o .goals) w few (o .holds .base);
+        }
 
     pub open-reaches : (d : ℕ) → d ≡ depth w - 1 → Reaches (splitNewest w d) w
     open-reaches d e = split-reaches t n (o .goals) w few (o .marks) (o .frame) (o .frames) (o .holds) d e
-
-    pub open-size : areaSize ≤ length w
-    open-size = o .holds .base .size
-
-    pub open-literals : trailAt w 0 ≤ n
-    open-literals = literals-most t n (o .goals) w few (o .holds .base)
 
     -- after the marks are gone, literals may go
     pub shrink-ready : {mark d : ℕ} {w₁ : List ℕ} → d ≡ depth w - 1 → Unwound mark w w₁
         → ((areaSize ≤ length w₁) × (n ≤ 2016) × (splitCount w d ≤ trailAt w₁ 0)) × Trail n (trailAt w₁)
     shrink-ready {mark} {d} {w₁} e u =
         let r : trailAt w₁ ≡ trailAt w = kept u in
-        ((omega (arith, open-size, u .size), few, omega (arith, open-count d e, ap (λ (g : ℕ → ℕ). g 0) r)), subst (Trail n) (sym r) (o .holds .base .trail))
+        ((omega (arith, restorable, u .size), few, omega (arith, restorable, ap (λ (k : ℕ). splitCount w k) e, ap (λ (g : ℕ → ℕ). g 0) r)), subst (Trail n) (sym r) (o .holds .base .trail))
       where
         kept : Unwound mark w w₁ → trailAt w₁ ≡ trailAt w
         kept u = λ i. λ (j : ℕ). u .else (26544 + j) (λ q. omega (arith, q)) (inr (omega arith)) i

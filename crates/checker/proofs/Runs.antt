@@ -11,6 +11,7 @@ use borrow.Author.Tests.{lt-ltb, le-ltb}
 use Rattle.scope.specs.declared.Node.{Node}
 use Rattle.scope.specs.Outcome.{Outcome, answer, refused, fine}
 use Rattle.scope.specs.Table.{listFrom}
+use Rattle.scope.proofs.Lists.{listFrom-turn, listFrom-done}
 use Rattle.calculus.specs.Expansion.{expand}
 use Rattle.rules.specs.declared.Step.{Step}
 use Rattle.rules.specs.Rules.{Branch, root, Progress, running, complete, apply, advance, ended, run}
@@ -49,18 +50,6 @@ module _ (t : ℕ → Node) (n : ℕ) (goals : List ℕ) (f : ℕ → Step) (cou
         ∙ ap (run (expand t) goals n 0 (listFrom f 0 (count - 0))) (sym (root-is w q));
   }
 
-  more : (i : ℕ) → i < count → listFrom f i (count - i) ≡ f i ∷ listFrom f (i + 1) (count - (i + 1))
-  unfolding listFrom
-  more i h =
-      let q : count - i ≡ suc (count - (i + 1)) = omega arith in
-      simp (q, add-one)
-
-  done : (i : ℕ) → count ≤ i → listFrom f i (count - i) ≡ []
-  unfolding listFrom
-  done i h =
-      let q : count - i ≡ 0 = omega arith in
-      simp q
-
   -- a derivation that is complete
   late : (i : ℕ) (s : Step) (ss : List Step) → run (expand t) goals n i (s ∷ ss) complete ≡ refused 46 i
   unfolding run advance
@@ -79,15 +68,15 @@ module _ (t : ℕ → Node) (n : ℕ) (goals : List ℕ) (f : ℕ → Step) (cou
     where
       go : Dec (m < count) → run (expand t) goals n m (listFrom f m (count - m)) complete ≡ cond (ltb m count) (refused 46 m) fine
       go (yes q) =
-          ap (λ (ss : List Step). run (expand t) goals n m ss complete) (more m q) ∙ late m (f m) (listFrom f (m + 1) (count - (m + 1)))
+          ap (λ (ss : List Step). run (expand t) goals n m ss complete) (listFrom-turn f m count q) ∙ late m (f m) (listFrom f (m + 1) (count - (m + 1)))
           ∙ sym (simp (lt-ltb m count q))
       go (no q) =
           let z : count ≤ m = omega (arith, q) in
-          ap (λ (ss : List Step). run (expand t) goals n m ss complete) (done m z) ∙ over m ∙ sym (simp (le-ltb m count z))
+          ap (λ (ss : List Step). run (expand t) goals n m ss complete) (listFrom-done f m count z) ∙ over m ∙ sym (simp (le-ltb m count z))
 
   module _ {o : Outcome (Unit {0})} {w : List ℕ} {i : ℕ} (g : Going o w i) where
     step-is : i < count → o ≡ run (expand t) goals n i (f i ∷ listFrom f (i + 1) (count - (i + 1))) (running (branchOf w (g .history)) (waitingOf w (g .history)))
-    step-is h = g .same ∙ ap (λ (ss : List Step). run (expand t) goals n i ss (running (branchOf w (g .history)) (waitingOf w (g .history)))) (more i h)
+    step-is h = g .same ∙ ap (λ (ss : List Step). run (expand t) goals n i ss (running (branchOf w (g .history)) (waitingOf w (g .history)))) (listFrom-turn f i count h)
 
     goes-to : (p : Progress) → i < count → apply (expand t) goals n (f i) (branchOf w (g .history)) (waitingOf w (g .history)) ≡ answer p
         → o ≡ run (expand t) goals n (i + 1) (listFrom f (i + 1) (count - (i + 1))) p
@@ -114,7 +103,7 @@ module _ (t : ℕ → Node) (n : ℕ) (goals : List ℕ) (f : ℕ → Step) (cou
     pub going-ends : count ≤ i → refused 47 count ≡ o
     going-ends h =
         let z : i ≡ count = omega (arith, h, g .within) in
-        sym (g .same ∙ ap (λ (ss : List Step). run (expand t) goals n i ss (running (branchOf w (g .history)) (waitingOf w (g .history)))) (done i h)
+        sym (g .same ∙ ap (λ (ss : List Step). run (expand t) goals n i ss (running (branchOf w (g .history)) (waitingOf w (g .history)))) (listFrom-done f i count h)
         ∙ still-open i (branchOf w (g .history)) (waitingOf w (g .history)) ∙ ap (refused 47) z)
 
 -- what a step's function said, of the step that was read

@@ -1,44 +1,22 @@
 -- The start: zeros, then the goals. Assumes nothing.
-use mathlib.Core.Path.{_≡_, refl, sym, ap, _∙_, subst, fun-ext}
+use mathlib.Core.Path.{_≡_, refl, sym, ap, _∙_}
 use mathlib.Core.Bool.{false, not}
 use mathlib.Core.Logic.{_⊎_, inl, inr}
 use mathlib.Core.List.{List, [], _∷_, map}
-use Prim.Native.Nat.{ℕ, zero, suc, _+_, _-_, _*_, _<_, _≤_}
+use Prim.Native.Nat.{ℕ, suc, _+_, _-_, _*_, _<_, _≤_}
 use native.Mathlib.Omega.{arith}
 use lib.ListN.{length, getD, set, replicate, length-set, length-map, length-replicate}
 use lib.Seq.{getD-set-same, getD-set-other}
 use borrow.Author.Tests.{eq-eqb}
 use Rattle.scope.specs.declared.Node.{Node}
+use Rattle.scope.proofs.Lists.{zeros-at}
 use Rattle.calculus.specs.Expansion.{expand}
-use Rattle.calculus.specs.Order.{valueOf, mem, clauses}
+use Rattle.calculus.specs.Order.{mem, clauses}
 use Rattle.calculus.specs.Model.{Below}
-use Rattle.calculus.proofs.Lists.{getD-map, all-imply}
-use Rattle.rules.proofs.Laws.{all-getD}
-use Rattle.checker.specs.Work.{areaSize, clauseCount, firstAt, secondAt, markAt, trailAt, trail, held, gOf, Trail, Goals, Clause, Aimed}
+use Rattle.calculus.proofs.Lists.{getD-map, all-getD, all-imply}
+use Rattle.trail.proofs.Trails.{empty-held, empty-trail}
+use Rattle.checker.specs.Work.{areaSize, clauseCount, firstAt, secondAt, markAt, trailAt, trail, gOf, Goals, Clause, Aimed}
 use Rattle.checker.specs.Holds.{Holds, fresh}
-
-getD-zeros : (m i : ℕ) → _≡_ {A = ℕ} (getD (replicate m 0) i 0) 0
-getD-zeros zero i = refl
-getD-zeros (suc m) zero = refl
-getD-zeros (suc m) (suc i) = getD-zeros m i
-
--- a trail of zeros
-nothing : ℕ → ℕ
-nothing i = 0
-
-nothing-trail : (n : ℕ) → Trail n nothing
-unfolding nothing trail valueOf mem
-nothing-trail n = record {
-  good = tt;
-  vals = λ l h. refl;
-  place = λ q h. absurd (omega (arith, h));
-  low = λ m h. omega arith;
-  from = λ m h z. absurd (z refl);
-}
-
-nothing-list : held nothing ≡ []
-unfolding nothing trail
-nothing-list = refl
 
 -- goals are small numbers
 pub goals-small : (n : ℕ) (goals : List ℕ) → n ≤ 2016 → Below n goals → (k : ℕ) → getD goals k 0 < 9000
@@ -73,12 +51,11 @@ module _ (t : ℕ → Node) (n : ℕ) (goals w₀ w₁ : List ℕ) (size : areaS
   unfolding w₂
   count₂ = getD-set-same w₁ 0 (length goals) 0 (omega (arith, size, a .size))
 
-  trail₂ : trailAt w₂ ≡ nothing
-  unfolding nothing
-  trail₂ = fun-ext (λ i. zero-at (26544 + i) (λ q. omega (arith, q)) (inr (omega (arith, gs .most))))
+  trail₂ : (i : ℕ) → trailAt w₂ i ≡ 0
+  trail₂ i = zero-at (26544 + i) (λ q. omega (arith, q)) (inr (omega (arith, gs .most)))
 
   list₂ : gOf w₂ ≡ []
-  list₂ = ap held trail₂ ∙ nothing-list
+  list₂ = empty-held n (trailAt w₂) (trail₂ 0)
 
   clauses₂ : clauses (expand t) goals (gOf w₂) ≡ map (_∷ []) goals
   clauses₂ = ap (clauses (expand t) goals) list₂ ∙ clauses-none (expand t) goals
@@ -97,7 +74,7 @@ module _ (t : ℕ → Node) (n : ℕ) (goals w₀ w₁ : List ℕ) (size : areaS
     base = record {
       size = omega (arith, size, size₂);
       aims = gs;
-      trail = subst (Trail n) (sym trail₂) (nothing-trail n);
+      trail = empty-trail n (trailAt w₂) (trail₂ 0) (λ m i. trail₂ (2017 + m));
       count = count₂ ∙ sym (ap length clauses₂ ∙ length-map goals (_∷ []));
       clause = λ k i. clause₂ k (omega (arith, i, count₂));
     };
@@ -126,5 +103,5 @@ pub begun : (t : ℕ → Node) (n : ℕ) (w : List ℕ) {goals w₀ w₁ : List 
     → Aimed goals (length goals) w₀ w₁ → Holds t n goals (set w₁ 0 (length goals)) fresh × (gOf (set w₁ 0 (length goals)) ≡ [])
 begun t n w {goals} {w₀} {w₁} size gs e a =
     let y : areaSize ≤ length w₀ = omega (arith, size, zeros-length w e) in
-    let z : (i : ℕ) → getD w₀ i 0 ≡ 0 = λ i. ap (λ (l : List ℕ). getD l i 0) e ∙ getD-zeros (length w) i in
+    let z : (i : ℕ) → getD w₀ i 0 ≡ 0 = λ i. ap (λ (l : List ℕ). getD l i 0) e ∙ zeros-at (length w) i in
     (started t n goals w₀ w₁ y gs z a, started-empty t n goals w₀ w₁ y gs z a)

@@ -10,13 +10,13 @@ use native.Mathlib.Decide.{ℕ-discrete}
 use lib.Dec.{eqb}
 use lib.ListN.{length, getD, set, length-set}
 use lib.Seq.{getD-set-same, getD-set-other}
-use borrow.Author.Tests.{eq-eqb, ne-eqb, lt-ltb, le-ltb}
+use borrow.Author.Tests.{ne-eqb, lt-ltb, le-ltb}
 use Rattle.scope.specs.declared.Node.{Node}
 use Rattle.calculus.specs.Expansion.{neg, chosen, expand}
-use Rattle.calculus.specs.Order.{Value, holds, fails, undecided, valueOf}
+use Rattle.calculus.specs.Order.{valueOf}
 use Rattle.calculus.specs.Model.{Fresh}
 use Rattle.checker.specs.Shapes.{pick, shapeAt}
-use Rattle.checker.specs.Work.{areaSize, mostMarks, clauseCount, depth, newest, firstAt, secondAt, markAt, splitCount, splitClauses, splitNewest, trailAt, held, gOf, side, valueCode, Trail, Put, Appended, Entered, Joined, Shrunk, Struck, Noted, standsIn, trueIn, Aimed}
+use Rattle.checker.specs.Work.{areaSize, mostMarks, clauseCount, depth, newest, firstAt, secondAt, markAt, splitCount, splitClauses, splitNewest, trailAt, held, gOf, valueCode, Trail, Put, Appended, Entered, Joined, Shrunk, Struck, Noted, standsIn, trueIn, Aimed}
 use Rattle.checker.proofs.Appends.{is-put, appended}
 use Rattle.checker.proofs.Rules.{is-holds}
 
@@ -227,24 +227,6 @@ module _ (w : List ℕ) (size : areaSize ≤ length w) (low : depth w < 2016) wh
   is-noted = noted₄
 
 -- ---- what is read
-
--- no entry: undecided
-pub side-none : (e s : ℕ) (v : Value) → e ≡ 0 → side e s ≡ v → 0 ≡ valueCode v
-side-none e s v z h =
-    let q : side e s ≡ undecided = simp (eq-eqb e 0 z) in
-    ap valueCode (sym q ∙ h)
-
--- the entry has the sign: true
-pub side-true : (e s : ℕ) (v : Value) → (e ≡ 0 → ⊥) → (e - 1) % 2 ≡ s → side e s ≡ v → 1 ≡ valueCode v
-side-true e s v z k h =
-    let q : side e s ≡ holds = simp (ne-eqb e 0 z, eq-eqb ((e - 1) % 2) s k) in
-    ap valueCode (sym q ∙ h)
-
--- it has the other: false
-pub side-false : (e s : ℕ) (v : Value) → (e ≡ 0 → ⊥) → ((e - 1) % 2 ≡ s → ⊥) → side e s ≡ v → 2 ≡ valueCode v
-side-false e s v z k h =
-    let q : side e s ≡ fails = simp (ne-eqb e 0 z, ne-eqb ((e - 1) % 2) s k) in
-    ap valueCode (sym q ∙ h)
 
 pub stands-not : (w : List ℕ) (k : ℕ) → clauseCount w ≤ k → false ≡ standsIn w k
 stands-not w k h = simp (le-ltb k (clauseCount w) h)

@@ -13,7 +13,7 @@ use Rattle.calculus.specs.Model.{Fresh, Good}
 use Rattle.rules.specs.Rules.{Branch, join}
 use Rattle.checker.specs.Work.{clauseCount, depth, splitCount, splitClauses, splitNewest, trailAt, trail, held, gOf, Trail, Joined, Shrunk, Noted}
 use Rattle.checker.specs.Holds.{headOf, Marked, Reaches, Unwound, Frame, History, history, branch, branchOf, waits, waitingOf, Split, Base, Holds, Restored}
-use Rattle.checker.proofs.Trails.{good-first, trail-same, trail-suc}
+use Rattle.trail.proofs.Trails.{good-first, trail-same, trail-suc}
 use Rattle.checker.proofs.Branches.{literals-most, joined-base, shorter-base, marked-same, Kept, kept-same, depth-most, splits-same, waits-same, branchBy}
 
 -- ---- a split is noted
@@ -25,9 +25,6 @@ module _ (t : ℕ → Node) (n : ℕ) (goals w : List ℕ) (few : n ≤ 2016) (s
 
   depth-is : depth w ≡ length (s .frames)
   depth-is = h .depths
-
-  depth-low : length (s .frames) ≤ trailAt w 0
-  depth-low = depth-most t goals w (trailAt w 0) (s .marks) (s .frames) (h .splits)
 
   module _ (w₁ : List ℕ) (p : Noted w w₁) where
     noted-away : (i : ℕ) → (i < 20496) ⊎ (26544 ≤ i) → (i ≡ 1 → ⊥) → depth w < 2016 → getD w₁ i 0 ≡ getD w i 0

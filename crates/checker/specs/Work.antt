@@ -6,13 +6,16 @@ use mathlib.Core.Path.{_≡_}
 use mathlib.Core.Bool.{Bool, false, cond, _&&_}
 use mathlib.Core.Logic.{_⊎_}
 use mathlib.Core.List.{List, [], _∷_}
-use Prim.Native.Nat.{ℕ, zero, suc, _+_, _-_, _*_, _/_, _%_, _<_, _≤_}
+use Prim.Native.Nat.{ℕ, zero, suc, _+_, _*_, _<_, _≤_}
 use lib.Dec.{eqb, ltb}
 use lib.ListN.{getD, length}
 use Rattle.scope.specs.declared.Node.{Node}
 use Rattle.calculus.specs.Expansion.{expand}
-use Rattle.calculus.specs.Order.{Value, holds, fails, undecided, valueOf}
-use Rattle.calculus.specs.Model.{Table, Below, Good}
+use Rattle.calculus.specs.Order.{valueOf}
+use Rattle.calculus.specs.Model.{Table}
+pub use Rattle.calculus.specs.Model.{Goals}
+pub use Rattle.trail.specs.Trail.{held, valueCode, Vals, Trail}
+unfoldable pub use Rattle.trail.specs.Trail.{trail}
 use Rattle.rules.specs.Rules.{isHolds}
 use Rattle.index.specs.Index.{indexNode}
 use Rattle.checker.specs.Shapes.{pair}
@@ -58,44 +61,14 @@ splitClauses w d = getD w (22512 + d) 0
 abbrev pub splitNewest : List ℕ → ℕ → ℕ
 splitNewest w d = getD w (24528 + d) 0
 
--- ---- the trail: 0 the count, 1 + q the literal at position q, 2017 + m the entry of node m
+-- ---- the trail (crate trail)
 
 abbrev pub trailAt : List ℕ → ℕ → ℕ
 trailAt w i = getD w (26544 + i) 0
 
--- the literals at the first positions, the newest first
-unfoldable pub trail : ℕ → (ℕ → ℕ) → List ℕ
-trail zero r = []
-trail (suc q) r = r (1 + q) ∷ trail q r
-
 -- the literals held true
-abbrev pub held : (ℕ → ℕ) → List ℕ
-held r = trail (r 0) r
-
 abbrev pub gOf : List ℕ → List ℕ
 gOf w = held (trailAt w)
-
--- a literal's value by its node's entry, 2 × position + sign + 1 or 0, and its sign
-abbrev pub side : ℕ → ℕ → Value
-side e s = cond (eqb e 0) undecided (cond (eqb ((e - 1) % 2) s) holds fails)
-
--- the entries give the values of the literals of n nodes
-abbrev pub Vals : ℕ → (ℕ → ℕ) → Type 0
-Vals n r = (l : ℕ) → l < 2 * n → side (r (2017 + l / 2)) (l % 2) ≡ valueOf (held r) l
-
--- the literals and the entries agree
-pub record Trail (n : ℕ) (r : ℕ → ℕ) : Type 0 where
-  pub good : Good n (held r)
-  pub vals : Vals n r
-  pub place : (q : ℕ) → q < r 0 → r (2017 + r (1 + q) / 2) ≡ 2 * q + r (1 + q) % 2 + 1
-  pub low : (m : ℕ) → m < n → r (2017 + m) ≤ 2 * r 0
-  pub from : (m : ℕ) → m < n → (r (2017 + m) ≡ 0 → ⊥) → r (1 + (r (2017 + m) - 1) / 2) / 2 ≡ m
-
--- a value as a number
-abbrev pub valueCode : Value → ℕ
-valueCode undecided = 0
-valueCode holds = 1
-valueCode fails = 2
 
 -- ---- what a call is given
 
@@ -104,11 +77,6 @@ pub record Indexed (x : List ℕ) (n : ℕ) : Type 0 where
   pub size : length x ≡ 16128
   pub few : n ≤ 2016
   pub table : Table n (indexNode x)
-
--- goals that are literals of n nodes
-pub record Goals (n : ℕ) (goals : List ℕ) : Type 0 where
-  pub most : length goals ≤ 64
-  pub below : Below n goals
 
 -- ---- what each function leaves
 

@@ -3,38 +3,21 @@
 use mathlib.Core.Path.{_≡_, _∙_, ap, sym, refl}
 use mathlib.Core.List.{List, [], _∷_, _++_, append-assoc}
 use mathlib.Core.Bool.{Bool, true, _||_}
-use Prim.Native.Nat.{ℕ, zero, suc, _+_, _-_, _*_, _%_, _<_, _≤_}
+use Prim.Native.Nat.{ℕ, zero, suc, _+_, _-_, _*_, _<_, _≤_}
 use native.Mathlib.Omega.{arith}
 use lib.Dec.{eqb, leb, ltb}
 use lib.ListN.{length, getD, take, drop, replicate, length-append, length-take, length-drop, length-replicate, take-append-drop}
-use lib.Seq.{drop-cons, getD-take, take-all, take-add, take-at, drop-at, drop-drop, length-take-le, getD-append-add}
+use lib.Seq.{drop-cons, take-all, take-add, take-at, drop-at, drop-drop, length-take-le, getD-append-add}
 use borrow.Author.Tests.{eqb-true, eq-eqb, lt-ltb, le-leb, ltb-true, leb-true}
 use Rattle.scope.specs.declared.Format.{Format}
 use Rattle.scope.specs.Outcome.{fine, require, _>>_}
-use Rattle.scope.specs.Block.{wordAt, wordBytes, weight, weighted, checkOf, checkOk, headOk, zeros, paddingOk, blockTest, seal, blockOf}
+use Rattle.scope.specs.Block.{wordAt, wordBytes, checkOf, checkOk, headOk, zeros, paddingOk, blockTest, seal, blockOf}
 use Rattle.scope.specs.Table.{listFrom}
 use Rattle.scope.proofs.Tests.{and-left, and-right, and-both, required}
+use Rattle.scope.proofs.Seals.{check-same, seal-same, page, length-page, block-page}
 use Rattle.codec.specs.Valid.{Bytes}
 use Rattle.codec.proofs.Rows.{both, row}
 use Rattle.codec.proofs.Bytes.{listed, word-of, of-word, bytes-cons, bytes-append, bytes-zeros, bytes-word}
-
-module _ (a b : List ℕ) where
-  weighted-same : (n : ℕ) → ((i : ℕ) → i < n → getD a i 0 ≡ getD b i 0) → weighted a n ≡ weighted b n
-  unfolding weighted
-  weighted-same zero h = refl
-  weighted-same (suc n) h =
-      rw (h n (omega arith)) (ap (_+ getD b n 0 * weight n) (weighted-same n (λ i l. h i (omega arith))))
-
-  -- the check reads the first 510 bytes
-  check-same : take 510 a ≡ take 510 b → checkOf a ≡ checkOf b
-  unfolding checkOf
-  check-same e =
-      ap (_% 65521)
-      (weighted-same 510 (λ i h. sym (getD-take 510 a i 0 h) ∙ ap (λ (l : List ℕ). getD l i 0) e ∙ getD-take 510 b i 0 h))
-
-  seal-same : take 510 a ≡ take 510 b → seal a ≡ seal b
-  unfolding seal
-  seal-same e = rw (e, check-same e)
 
 check-small : (b : List ℕ) → checkOf b < 65536
 unfolding checkOf
@@ -91,22 +74,10 @@ module _ (b : List ℕ) where
         let word : wordAt (seal b) 510 ≡ checkOf b = rw (seal-word 0, seal-word 1) (of-word (checkOf b)) in
         eq-eqb (checkOf (seal b)) (wordAt (seal b) 510) (check-same (seal b) b seal-front ∙ sym word)
 
--- a block before its check: letter, count, index, records, zeros
-abbrev page : ℕ → ℕ → ℕ → List ℕ → List ℕ
-page letter count index body = letter ∷ count ∷ wordBytes index ++ body ++ replicate (506 - length body) 0
-
 module _ (letter count index : ℕ) (body : List ℕ) (short : length body ≤ 506) where
-  length-page : length (page letter count index body) ≡ 510
-  length-page = simp (length-append, length-replicate) (omega arith)
-
   pub length-blockOf : length (blockOf letter count index body) ≡ 512
   unfolding blockOf
-  length-blockOf = length-seal (page letter count index body) (omega (arith, length-page))
-
-  block-page : blockOf letter count index body ≡ page letter count index body ++ wordBytes (checkOf (page letter count index body))
-  unfolding blockOf seal
-  block-page =
-      ap (_++ wordBytes (checkOf (page letter count index body))) (take-all 510 (page letter count index body) (omega (arith, length-page)))
+  length-blockOf = length-seal (page letter count index body) (omega (arith, length-page letter count index body short))
 
   -- the four bytes in front of the records
   pub letter-of : getD (blockOf letter count index body) 0 0 ≡ letter
@@ -124,7 +95,7 @@ module _ (letter count index : ℕ) (body : List ℕ) (short : length body ≤ 5
 
   pub check-ok : checkOk (blockOf letter count index body) ≡ true
   unfolding blockOf
-  check-ok = seal-ok (page letter count index body) (omega (arith, length-page))
+  check-ok = seal-ok (page letter count index body) (omega (arith, length-page letter count index body short))
 
   pub bytes-block : letter < 256 → count < 256 → index < 65536 → Bytes body → Bytes (blockOf letter count index body)
   bytes-block l c i b =

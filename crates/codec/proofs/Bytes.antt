@@ -9,6 +9,7 @@ use lib.ListN.{length, getD, take, drop, replicate}
 use lib.Seq.{drop-cons, getD-drop, take-length, take-nil}
 use Rattle.scope.specs.Block.{wordBytes}
 use Rattle.scope.specs.Table.{listFrom}
+use Rattle.scope.proofs.Lists.{zeros-at}
 use Rattle.codec.specs.Valid.{Bytes}
 
 -- k elements from n on, each read by its index
@@ -62,9 +63,7 @@ pub bytes-drop : (n : ℕ) (t : List ℕ) → Bytes t → Bytes (drop n t)
 bytes-drop n t b i = rw getD-drop (b (n + i))
 
 pub bytes-zeros : (n : ℕ) → Bytes (replicate n 0)
-bytes-zeros zero i = lit< tt
-bytes-zeros (suc n) zero = lit< tt
-bytes-zeros (suc n) (suc i) = bytes-zeros n i
+bytes-zeros n i = rw (zeros-at n i) (lit< tt)
 
 pub bytes-word : (n : ℕ) → n < 65536 → Bytes (wordBytes n)
 bytes-word n h = bytes-cons (n % 256) (n / 256 ∷ []) (omega arith) (bytes-cons (n / 256) [] (omega arith) bytes-nil)

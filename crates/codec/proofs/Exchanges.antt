@@ -1,7 +1,7 @@
 -- The exchange of a record's operands: 8 bytes stay 8 bytes, and what is in order stays as it is. Assumes nothing.
-use mathlib.Core.Path.{_≡_, refl}
+use mathlib.Core.Path.{_≡_}
 use mathlib.Core.List.{List, [], _∷_}
-use mathlib.Core.Bool.{Bool, true, false, _&&_}
+use mathlib.Core.Bool.{true, false, and-false}
 use Prim.Native.Nat.{ℕ, _/_}
 use native.Mathlib.Omega.{arith}
 use lib.Dec.{eqb, ltb}
@@ -13,10 +13,6 @@ use Rattle.scope.specs.Calls.{wrongOrder, exchanged}
 use Rattle.codec.specs.Valid.{Bytes}
 use Rattle.codec.proofs.Rows.{by-test}
 use Rattle.codec.proofs.Bytes.{bytes-picked}
-
-and-false : (t : Bool) → (t && false) ≡ false
-and-false true = refl
-and-false false = refl
 
 -- the exchanged record is as long, and of bytes
 pub exchanged-length : (r : List ℕ) → length r ≡ 8 → length (exchanged r) ≡ 8

@@ -2,22 +2,22 @@
 -- records are those that were put in (`file-passes`, `file-records`, `file-record`). Assumes nothing.
 use mathlib.Core.Path.{_≡_, _∙_, ap, ap₂, sym, refl}
 use mathlib.Core.List.{List, [], _∷_, _++_, append-assoc, flatMap}
-use mathlib.Core.Bool.{true, false, _||_}
+use mathlib.Core.Bool.{true, false, not, _&&_, _||_}
 use Prim.Native.Nat.{ℕ, zero, suc, _+_, _-_, _*_, _/_, _%_, _<_, _≤_, min}
 use native.Mathlib.Nat.{zero-add, add-zero, suc-add, mul-zero, mul-suc, suc-mul, mul-comm, mul-add, mul-assoc, div-add-mod, mod-lt, div-eq-of-lt-le, mul-le-mul-left, mul-div-le, lt-mul-div-succ, lt-of-mul-lt-mul-left, not-suc-le-zero, le-of-suc-le-suc, sub-zero}
 use native.Mathlib.Numerals.{add-one}
 use native.Mathlib.Omega.{arith}
-use lib.Dec.{eqb}
+use lib.Dec.{eqb, leb}
 use lib.ListN.{length, getD, take, drop, length-append, length-take, length-drop, drop-of-length-le, take-append-drop}
 use lib.Seq.{take-all, take-take, take-add, take-at, drop-at, drop-drop, take-append-le, drop-append-le, getD-take, getD-drop}
-use borrow.Author.Tests.{eq-eqb, ne-eqb, eqb-true, eqb-false}
+use borrow.Author.Tests.{eq-eqb, ne-eqb, eqb-true, eqb-false, leb-true, not-true}
 use Rattle.scope.specs.declared.Format.{Format}
 use Rattle.scope.specs.Outcome.{fine}
 use Rattle.scope.specs.Block.{blockTest, blockOf, blocksOf, fileOf, blockAt, recordAt, recordsIn}
 use Rattle.scope.specs.Table.{listFrom}
 use Rattle.scope.proofs.Lists.{length-listFrom, drop-listFrom, take-listFrom}
 use Rattle.codec.specs.Valid.{Bytes, Fits}
-use Rattle.codec.proofs.Rows.{by-test}
+use Rattle.codec.proofs.Rows.{both, by-test}
 use Rattle.codec.proofs.Bytes.{drop-take, bytes-take, bytes-drop, bytes-append, bytes-nil}
 use Rattle.codec.proofs.Blocks.{Passed, passed, passes, block-is, block-passes, length-blockOf, count-of, body-of, bytes-block}
 
@@ -83,6 +83,17 @@ pub by-last : {P : Type 0} (j m : ℕ) → j < m → (suc j ≡ m → P) → (su
 by-last j m h f g =
     by-test (eqb (suc j) m) (λ e. f (eqb-true (suc j) m e)) (λ e. g (omega (arith, eqb-false (suc j) m e)))
 
+-- a length that is not 0, whole, and not over that of `most` blocks is that of 1 to `most` whole blocks
+pub whole-length : (most n : ℕ) → (not (eqb n 0) && (eqb (n % 512) 0 && leb n (512 * most))) ≡ true
+    → (0 < n / 512) × (n ≡ 512 * (n / 512)) × (n / 512 ≤ most)
+whole-length most n e =
+    let ok = both (not (eqb n 0)) _ e in
+    let ok₁ = both (eqb (n % 512) 0) (leb n (512 * most)) (ok .1) in
+    let some = eqb-false n 0 (not-true (eqb n 0) (ok .0)) in
+    let whole = eqb-true (n % 512) 0 (ok₁ .0) in
+    let high = leb-true n (512 * most) (ok₁ .1) in
+    (omega arith, omega arith, omega arith)
+
 -- a block of a file, and the blocks after it
 block-then : (t : List ℕ) (j : ℕ) → drop (512 * j) t ≡ blockAt t j ++ drop (512 * suc j) t
 block-then t j =
@@ -106,7 +117,7 @@ module _ (F : Format) (fits : Fits F) where
       rw q
 
   -- a file whose blocks pass
-  module _ (t : List ℕ) (m : ℕ) (all : Bytes t) (size : length t ≡ 512 * m) (some : 0 < m)
+  module _ (t : List ℕ) (m : ℕ) (size : length t ≡ 512 * m) (some : 0 < m)
       (pass : (j : ℕ) → j < m → blockTest F (blockAt t j) j (eqb (suc j) m) ≡ fine) where
     -- each has passed
     pub tested : (j : ℕ) → j < m → Passed F (blockAt t j) j (eqb (suc j) m)
@@ -134,17 +145,29 @@ module _ (F : Format) (fits : Fits F) where
         (λ e. let q : m - 1 ≡ j = omega arith in rw (records-are, q) (omega arith))
         (λ e. omega (arith, records-are, full-count j e, mul-suc (F .capacity) j, mul-le-mul-left {m = suc j} {n = m - 1} (F .capacity) (omega arith)))
 
+    -- the block of a record, and the record's place in it
+    pub block-of : (n : ℕ) → n < recordsIn F t → (n / F .capacity < m) × (n < F .capacity * (n / F .capacity) + count (n / F .capacity))
+    block-of n h =
+        let c : ℕ = F .capacity in
+        let last : c * m ≡ c * (m - 1) + c = ap (c *_) (omega arith) ∙ mul-suc c (m - 1) in
+        let j : n / c < m = lt-of-mul-lt-mul-left c (omega (arith, mul-div-le n c, records-are, tested (m - 1) (omega arith) .most)) in (
+          j,
+          by-last (n / c) m j
+              (λ e. let q : m - 1 ≡ n / c = omega arith in omega (arith, rw q at records-are))
+              (λ e. omega (arith, full-count (n / c) e, div-add-mod n c, mod-lt n (fits .some))),
+        )
+
     length-at : (j : ℕ) → j < m → length (blockAt t j) ≡ 512
     length-at j h = simp (length-take, length-drop) (omega arith)
 
-    block-at : (j : ℕ) → j < m → blockAt t j ≡ blockOf (F .letter) (count j) j (take (F .width * count j) (drop 4 (blockAt t j)))
-    block-at j h =
+    block-at : Bytes t → (j : ℕ) → j < m → blockAt t j ≡ blockOf (F .letter) (count j) j (take (F .width * count j) (drop 4 (blockAt t j)))
+    block-at all j h =
         block-is F (blockAt t j) j (eqb (suc j) m) (length-at j h)
         (bytes-take 512 (drop (512 * j) t) (bytes-drop (512 * j) t all))
         (room-for (count j) (tested j h .most))
         (tested j h)
 
-    module _ {A : Type 0} (bytes : A → List ℕ) (f : ℕ → A) (same : (n : ℕ) → n < recordsIn F t → bytes (f n) ≡ recordAt F t n) where
+    module _ (all : Bytes t) {A : Type 0} (bytes : A → List ℕ) (f : ℕ → A) (same : (n : ℕ) → n < recordsIn F t → bytes (f n) ≡ recordAt F t n) where
       -- a block's bytes are those of its records
       body-at : (j : ℕ) → j < m → flatMap bytes (listFrom f (F .capacity * j) (count j)) ≡ take (F .width * count j) (drop 4 (blockAt t j))
       body-at j h =
@@ -159,7 +182,7 @@ module _ (F : Format) (fits : Fits F) where
 
       one-block : (j : ℕ) → j < m → (rs : List A) → take (F .capacity) rs ≡ listFrom f (F .capacity * j) (count j)
           → blockAt t j ≡ blockOf (F .letter) (length (take (F .capacity) rs)) j (flatMap bytes (take (F .capacity) rs))
-      one-block j h rs e = rw (e, length-listFrom f (count j) (F .capacity * j), body-at j h) (block-at j h)
+      one-block j h rs e = rw (e, length-listFrom f (count j) (F .capacity * j), body-at j h) (block-at all j h)
 
       -- the records from block j on: those of the block, and those from the next block on
       abbrev from : ℕ → List A
@@ -208,8 +231,8 @@ module _ (F : Format) (fits : Fits F) where
           rw (length-listFrom f (recordsIn F t) 0, count-of-blocks) (rw (mul-zero, sub-zero) at (last-blocks m 0 (zero-add m)))
 
     -- .. also where they are not read as anything but bytes
-    pub file-raw : t ≡ fileOf F (λ (r : List ℕ). r) (listFrom (recordAt F t) 0 (recordsIn F t))
-    file-raw = file-is (λ (r : List ℕ). r) (recordAt F t) (λ n h. refl)
+    pub file-raw : Bytes t → t ≡ fileOf F (λ (r : List ℕ). r) (listFrom (recordAt F t) 0 (recordsIn F t))
+    file-raw all = file-is all (λ (r : List ℕ). r) (recordAt F t) (λ n h. refl)
 
   -- the blocks that n records need hold them all, and the last of them is not empty
   enough : (n : ℕ) → n ≤ F .capacity * blocksFor F n

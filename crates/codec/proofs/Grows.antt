@@ -102,7 +102,7 @@ module _ (F : Format) (fit : Fits F) {A : Type 0} (bytes : A → List ℕ) (each
         ∙ rw (more, body))
 
     -- a file whose blocks are all full
-    all-full : length rs % F .capacity ≡ 0 → (fileOf F bytes rs ≡ front F bytes rs) × (rest F bytes rs ≡ [])
+    pub all-full : length rs % F .capacity ≡ 0 → (fileOf F bytes rs ≡ front F bytes rs) × (rest F bytes rs ≡ [])
     unfolding fileOf front rest flatMap
     all-full none =
         let whole : F .capacity * (length rs / F .capacity) ≡ length rs = omega (arith, split) in

@@ -4,6 +4,7 @@ use mathlib.Core.Bool.{Bool, true, false, cond, _&&_, false≢true}
 use Prim.Native.Nat.{ℕ}
 use Rattle.scope.specs.Outcome.{Outcome, answer, refused, require, _>>_}
 use Rattle.scope.proofs.Tests.{refused-no}
+pub use Rattle.scope.proofs.Tests.{by-test}
 
 pub both : (a b : Bool) → (a && b) ≡ true → (a ≡ true) × (b ≡ true)
 both true b e = (refl, e)
@@ -23,8 +24,3 @@ passed-on (refused number place) next e = refused-no e
 pub cond-mono : (c : Bool) {a a′ b b′ : Bool} → (a ≡ true → a′ ≡ true) → (b ≡ true → b′ ≡ true) → cond c a b ≡ true → cond c a′ b′ ≡ true
 cond-mono true f g e = f e
 cond-mono false f g e = g e
-
--- a proof by the two cases of a test
-pub by-test : {P : Type 0} (t : Bool) → (t ≡ true → P) → (t ≡ false → P) → P
-by-test true f g = f refl
-by-test false f g = g refl

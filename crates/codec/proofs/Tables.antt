@@ -6,9 +6,9 @@ use mathlib.Core.Bool.{Bool, true, false, not}
 use Prim.Native.Nat.{ℕ, zero, suc, _+_, _-_, _*_, _/_, _%_, _<_, _≤_}
 use native.Mathlib.Nat.{zero-add}
 use native.Mathlib.Omega.{arith}
-use lib.Dec.{eqb, leb, lit<}
+use lib.Dec.{eqb, lit<}
 use lib.ListN.{length, getD, drop, length-take, length-drop}
-use borrow.Author.Tests.{eqb-true, eqb-false, leb-true, not-true, eq-eqb, ne-eqb, le-leb}
+use borrow.Author.Tests.{not-true, eq-eqb, ne-eqb, le-leb}
 use Rattle.scope.specs.declared.Node.{Node}
 use Rattle.scope.specs.Outcome.{answer, fine, require, first, _>>_}
 use Rattle.scope.specs.Block.{blockTest, blockAt, recordAt, recordsIn}
@@ -18,10 +18,10 @@ use Rattle.scope.proofs.First.{all-fine, fine-each}
 use Rattle.scope.proofs.Lists.{length-listFrom, getD-listFrom, listFrom-same}
 use Rattle.scope.proofs.Tests.{and-both, or-left, or-right, then-first, then-next, required, met}
 use Rattle.codec.specs.Valid.{Bytes, Fits, Valid}
-use Rattle.codec.proofs.Rows.{both, row, passed-on}
+use Rattle.codec.proofs.Rows.{row, passed-on}
 use Rattle.codec.proofs.Bytes.{listed-all, bytes-take, bytes-drop}
 use Rattle.codec.proofs.Blocks.{Passed}
-use Rattle.codec.proofs.Files.{by-last, file-is, tested, full-count, records-are, length-fileOf, file-blocks, file-count, file-passes, file-records, file-record, file-bytes}
+use Rattle.codec.proofs.Files.{by-last, whole-length, file-is, tested, records-are, block-of as record-block, length-fileOf, file-blocks, file-count, file-passes, file-records, file-record, file-bytes}
 use Rattle.codec.proofs.Records.{length-nodeBytes, nodeOf-bytes, reads, record-bytes, small, bytes-node}
 
 pub fits : Fits tables
@@ -45,13 +45,7 @@ module _ (p : ℕ → Bool) where
 -- a length that passes row 10 is that of 1 to 32 whole blocks
 pub whole-blocks : (n : ℕ) → lengthOk n ≡ true → (0 < n / 512) × (n ≡ 512 * (n / 512)) × (n / 512 ≤ 32)
 unfolding lengthOk
-whole-blocks n e =
-    let ok = both (not (eqb n 0)) _ e in
-    let ok₁ = both (eqb (n % 512) 0) (leb n 16384) (ok .1) in
-    let some = eqb-false n 0 (not-true (eqb n 0) (ok .0)) in
-    let whole = eqb-true (n % 512) 0 (ok₁ .0) in
-    let most = leb-true n 16384 (ok₁ .1) in
-    (omega arith, omega arith, omega arith)
+whole-blocks = whole-length 32
 
 -- a table that reads
 module _ (t : List ℕ) (all : Bytes t) (test : tableTest t ≡ fine) where
@@ -74,10 +68,10 @@ module _ (t : List ℕ) (all : Bytes t) (test : tableTest t ≡ fine) where
       then-next (blockTest tables (blockAt t j) j (eqb (suc j) (length t / 512))) (first (recordTest t) (63 * j) (getD (blockAt t j) 1 0)) (rows j h)
 
   total : recordsIn tables t ≡ 63 * (length t / 512 - 1) + getD (blockAt t (length t / 512 - 1)) 1 0
-  total = records-are tables fits t (length t / 512) all (length-ok .1) (length-ok .0) pass
+  total = records-are tables fits t (length t / 512) (length-ok .1) (length-ok .0) pass
 
   last-tested : Passed tables (blockAt t (length t / 512 - 1)) (length t / 512 - 1) (eqb (suc (length t / 512 - 1)) (length t / 512))
-  last-tested = tested tables fits t (length t / 512) all (length-ok .1) (length-ok .0) pass (length t / 512 - 1) (omega (arith, length-ok .0))
+  last-tested = tested tables fits t (length t / 512) (length-ok .1) (length-ok .0) pass (length t / 512 - 1) (omega (arith, length-ok .0))
 
   -- 1 to 2,016 records
   pub some-records : 0 < recordsIn tables t
@@ -88,14 +82,7 @@ module _ (t : List ℕ) (all : Bytes t) (test : tableTest t ≡ fine) where
 
   -- the block of a record, and the record's place in it
   pub block-of : (n : ℕ) → n < recordsIn tables t → (n / 63 < length t / 512) × (n < 63 * (n / 63) + getD (blockAt t (n / 63)) 1 0)
-  block-of n h =
-      let m : ℕ = length t / 512 in
-      let j : n / 63 < m = omega (arith, total, last-tested .most, length-ok .0) in (
-        j,
-        by-last (n / 63) m j
-            (λ e. let q : m - 1 ≡ n / 63 = omega arith in omega (arith, rw q at total))
-            (λ e. omega (arith, full-count tables fits t m all (length-ok .1) (length-ok .0) pass (n / 63) e)),
-      )
+  block-of = record-block tables fits t (length t / 512) (length-ok .1) (length-ok .0) pass
 
   -- every record was tested
   pub record-ok : (n : ℕ) → n < recordsIn tables t → recordTest t n ≡ fine
@@ -136,7 +123,7 @@ module _ (t : List ℕ) (rs : List Node) (all : Bytes t) (e : decode t ≡ answe
   read-encodes =
       let a = answers t rs e in
       let ok = length-ok t all (a .0) in
-      rw (a .1) (file-is tables fits t (length t / 512) all (ok .1) (ok .0) (pass t all (a .0)) nodeBytes (nodeAt t) (node-bytes t all (a .0)))
+      rw (a .1) (file-is tables fits t (length t / 512) (ok .1) (ok .0) (pass t all (a .0)) all nodeBytes (nodeAt t) (node-bytes t all (a .0)))
 
   pub read-length : length rs ≡ recordsIn tables t
   read-length = rw (answers t rs e .1) (length-listFrom (nodeAt t) (recordsIn tables t) 0)

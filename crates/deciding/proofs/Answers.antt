@@ -3,8 +3,7 @@
 use mathlib.Core.Path.{_≡_, refl, sym, ap, _∙_}
 use mathlib.Core.List.{List, [], _∷_, _++_}
 use mathlib.Core.Bool.{Bool, true, false}
-use Prim.Native.Nat.{ℕ, _+_, _-_, _*_, _<_, _≤_}
-use native.Mathlib.Nat.{zero-add}
+use Prim.Native.Nat.{ℕ, _*_, _<_, _≤_}
 use native.Mathlib.Omega.{arith}
 use lib.Dec.{leb, ltb}
 use lib.ListN.{length, drop}
@@ -13,27 +12,24 @@ use Rattle.scope.specs.declared.Node.{Node}
 use Rattle.scope.specs.declared.Refusal.{Refusal}
 use Rattle.scope.specs.Outcome.{Outcome, answer, refused, fine, require, _>>_}
 use Rattle.scope.specs.Table.{nodeAt, listFrom, decode}
-use Rattle.scope.specs.Calls.{tableCount, noNode}
-use Rattle.scope.proofs.Lists.{length-listFrom, getD-listFrom, listFrom-same}
+use Rattle.scope.specs.Calls.{tableCount}
+use Rattle.scope.proofs.Lists.{listFrom-same}
 use Rattle.scope.proofs.Tests.{required, then-first, then-next, passed-on}
 use Rattle.codec.specs.Valid.{Bytes}
-use Rattle.codec.proofs.Tables.{few-records}
-use Rattle.repeats.specs.Chains.{placeOf}
-use Rattle.table.proofs.Rows.{counted, record-within}
-use Rattle.calculus.specs.Expansion.{expand}
-use Rattle.calculus.specs.Order.{tree, possible, impossible, answerOf, settingOf}
-use Rattle.calculus.specs.Model.{Table}
+use Rattle.table.proofs.Rows.{counted}
+use Rattle.calculus.specs.Order.{possible, impossible, answerOf, settingOf}
 use Rattle.calculus.specs.Decide.{nodesOf, searchOf, settingsOn, Decided as Given, decide}
 use Rattle.index.specs.Index.{indexNode, Built}
-use Rattle.solver.specs.Work.{gOf, Indexed, Goals, Ready}
-use Rattle.deciding.specs.Search.{result, foundOf, Searched}
+use Rattle.solver.specs.Work.{gOf, Ready}
+use Rattle.deciding.specs.Search.{foundOf, Searched}
 use Rattle.deciding.specs.Setting.{Points}
 use Rattle.deciding.specs.Decides.{rowsTest, Prepared, Decides}
 use Rattle.deciding.specs.declared.Decided.{Decided}
 use Rattle.deciding.specs.declared.Decided.the-variants.{Possible, Impossible, Refused}
 use Rattle.deciding.specs.declared.Found.{Found}
 use Rattle.deciding.specs.declared.Found.the-variants.{Model, Closed}
-use Rattle.deciding.proofs.Bridge.{low, table-of, never-true, made-true, table-same, search-same}
+use Rattle.deciding.proofs.Bridge.{low, never-true, made-true}
+use Rattle.deciding.proofs.Nodes.{nodesIn, size-in, nodes-read, read, same-nodes, node-in, indexed, search-in}
 
 -- ---- the cases of a `Decided` are apart
 
@@ -108,26 +104,19 @@ module _ (t : List ℕ) (goal : ℕ) (s w : List ℕ) where
   unfolding tableCount decide
   table-refused e = passed-on (decode t) length _ e
 
-  -- the nodes of a table that was counted
-  pub nodes-read : {nodes : ℕ} → tableCount t ≡ answer nodes → decode t ≡ answer (listFrom (nodeAt t) 0 nodes)
-  unfolding decode
-  nodes-read e =
-      let c = counted t e in
-      rw (c .0, ← c .1)
-
   rows-of : (rs : List Node) → decode t ≡ answer rs → decide t goal s w ≡ (rowsTest (length rs) goal (length s) (length w) >> answer (given rs))
   unfolding decide rowsTest
   rows-of rs e = rw e (rows-then (ltb goal (2 * length rs)) (leb 1024 (length s)) (leb 32768 (length w)) (answer (given rs)))
 
-  pub rows-decide : (nodes : ℕ) → decode t ≡ answer (listFrom (nodeAt t) 0 nodes)
-      → decide t goal s w ≡ (rowsTest nodes goal (length s) (length w) >> answer (given (listFrom (nodeAt t) 0 nodes)))
+  pub rows-decide : (nodes : ℕ) → decode t ≡ answer (nodesIn t nodes)
+      → decide t goal s w ≡ (rowsTest nodes goal (length s) (length w) >> answer (given (nodesIn t nodes)))
   rows-decide nodes e =
-      rows-of (listFrom (nodeAt t) 0 nodes) e
-      ∙ ap (λ (k : ℕ). rowsTest k goal (length s) (length w) >> answer (given (listFrom (nodeAt t) 0 nodes))) (length-listFrom (nodeAt t) nodes 0)
+      rows-of (nodesIn t nodes) e
+      ∙ ap (λ (k : ℕ). rowsTest k goal (length s) (length w) >> answer (given (nodesIn t nodes))) (size-in t nodes)
 
   pub rows-refused : {nodes number place : ℕ} → tableCount t ≡ answer nodes → rowsTest nodes goal (length s) (length w) ≡ refused number place
       → decide t goal s w ≡ refused number place
-  rows-refused {nodes} e q = rows-decide nodes (nodes-read e) ∙ rw q
+  rows-refused {nodes} e q = rows-decide nodes (nodes-read t e) ∙ rw q
 
   pub prepared : {nodes : ℕ} → tableCount t ≡ answer nodes → rowsTest nodes goal (length s) (length w) ≡ fine → Prepared t nodes goal s w
   prepared {nodes} e q =
@@ -138,89 +127,56 @@ module _ (t : List ℕ) (goal : ℕ) (s w : List ℕ) where
 -- ---- the search
 
 module _ (t : List ℕ) (nodes goal : ℕ) (s w : List ℕ) (all : Bytes t) (p : Prepared t nodes goal s w) where
-  abbrev nodesIn : List Node
-  nodesIn = listFrom (nodeAt t) 0 nodes
+  abbrev rs₀ : List Node
+  rs₀ = nodesIn t nodes
 
-  read : decode t ≡ answer nodesIn
-  unfolding decode
-  read = rw (p .readable, ← p .all)
-
-  size-in : length nodesIn ≡ nodes
-  size-in = length-listFrom (nodeAt t) nodes 0
-
-  pub few : nodes ≤ 2016
-  few = rw (p .all) (few-records t all (p .readable))
-
-  pub buildable : (nodes ≤ 2016) × ((m : ℕ) → m < nodes → placeOf m + 8 ≤ length t)
-  buildable = (few, λ m h. record-within t all (p .readable) m (omega (arith, p .all)))
-
-  pub goals-of : Goals nodes (goal ∷ [])
-  goals-of = record { most = omega arith; below = (p .inside, tt) }
+  reads : decode t ≡ answer rs₀
+  reads = read t nodes (p .readable) (p .all)
 
   module _ (x : List ℕ) (size : length x ≡ 16128) (b : Built t nodes x) where
-    node-in : (i : ℕ) → i < nodes → indexNode x i ≡ nodesOf nodesIn i
-    node-in i h =
-        b .nodes i h ∙ sym (getD-listFrom (nodeAt t) nodes 0 i noNode h ∙ ap (λ (k : ℕ). nodeAt t k) (zero-add i))
-
-    table-in : Table nodes (nodesOf nodesIn)
-    table-in = rw size-in at (table-of t nodesIn all read)
-
-    pub indexed : Indexed x nodes
-    indexed = record {
-      size = size;
-      few = few;
-      table = table-same nodes (indexNode x) (nodesOf nodesIn) node-in table-in;
-      links = b .links;
-    }
+    node-is : (i : ℕ) → i < nodes → indexNode x i ≡ nodesOf rs₀ i
+    node-is = node-in t nodes (p .readable) (p .all) all x b
 
     pub point-low : (i : ℕ) → i < nodes → indexNode x i .kind ≡ 2 → indexNode x i .a < 1024
-    point-low i h = rw (node-in i h) (low t nodesIn all read i (omega (arith, size-in)) .point)
+    point-low i h = rw (node-is i h) (low t rs₀ all reads i (omega (arith, size-in t nodes)) .point)
 
     pub pointed : {w₂ : List ℕ} → Ready nodes w₂ → Points x nodes w₂ s
-    pointed r = record { indexed = indexed; points = point-low; ready = r; room = p .points }
+    pointed r = record { indexed = indexed t nodes (p .readable) (p .all) all x b size; points = point-low; ready = r; room = p .points }
 
-    listed : listFrom (indexNode x) 0 nodes ≡ nodesIn
+    listed : listFrom (indexNode x) 0 nodes ≡ rs₀
     listed = listFrom-same (indexNode x) (nodeAt t) nodes 0 (λ k a h. b .nodes k (omega arith))
 
     -- the search over the index is that over the nodes
     module _ {w₁ w₂ : List ℕ} {r : Found} (z : gOf w₁ ≡ []) (f : Searched (indexNode x) nodes (goal ∷ []) w₁ w₂ r) where
-      whole : foundOf r (gOf w₂) ≡ answerOf (searchOf nodesIn (goal ∷ []))
-      whole =
-          let n0 : nodes - 0 ≡ nodes = omega arith in
-          f .answered ∙ ap (result (indexNode x) nodes (goal ∷ [])) z
-          ∙ ap (λ (k : ℕ). answerOf (tree (expand (indexNode x)) (goal ∷ []) k [])) n0
-          ∙ ap answerOf (search-same nodes (indexNode x) (nodesOf nodesIn) node-in (goal ∷ []) (indexed .table) (p .inside, tt))
-          ∙ ap (λ (k : ℕ). answerOf (tree (expand (nodesOf nodesIn)) (goal ∷ []) k [])) (sym size-in)
+      whole : foundOf r (gOf w₂) ≡ answerOf (searchOf rs₀ (goal ∷ []))
+      whole = search-in t nodes (p .readable) (p .all) all x b goal (p .inside) z f
 
-      decided : decide t goal s w ≡ answer (given t goal s w nodesIn)
-      decided = rows-decide t goal s w nodes read ∙ ap (_>> answer (given t goal s w nodesIn)) (sym (row-fine nodes goal (length s) (length w) (p .inside) (p .points) (p .area)))
+      decided : decide t goal s w ≡ answer (given t goal s w rs₀)
+      decided = rows-decide t goal s w nodes reads ∙ ap (_>> answer (given t goal s w rs₀)) (sym (row-fine nodes goal (length s) (length w) (p .inside) (p .points) (p .area)))
 
-      same-nodes : (rs : List Node) → decode t ≡ answer rs → nodesIn ≡ rs
-      same-nodes rs e = let q : answer nodesIn ≡ answer rs = sym read ∙ e in cc
-
-      inside-in : goal < 2 * length nodesIn
-      inside-in = rw size-in (p .inside)
+      inside-in : goal < 2 * length rs₀
+      inside-in = rw (size-in t nodes) (p .inside)
 
       pub ends-closed : r ≡ Closed → Decides t goal s w s w₂ Impossible
       ends-closed c =
-          let v : answerOf (searchOf nodesIn (goal ∷ [])) ≡ impossible = sym whole ∙ ap (λ (y : Found). foundOf y (gOf w₂)) c in
+          let v : answerOf (searchOf rs₀ (goal ∷ [])) ≡ impossible = sym whole ∙ ap (λ (y : Found). foundOf y (gOf w₂)) c in
           record {
             answered = rw (decided, v);
             settings = rw (decided, v);
             work = λ g q. impossible-refused q;
-            sound = λ q rs e. rw (← same-nodes rs e) (never-true t nodesIn all read goal inside-in v);
+            sound = λ q rs e. rw (← same-nodes t nodes (p .readable) (p .all) rs e) (never-true t rs₀ all reads goal inside-in v);
             complete = λ q. possible-impossible (sym q);
           }
 
       pub ends-model : r ≡ Model → {s′ : List ℕ} → s′ ≡ settingOf (listFrom (indexNode x) 0 nodes) (gOf w₂) ++ drop 1024 s
           → Decides t goal s w s′ w₂ Possible
       ends-model c {s′} y =
-          let v : answerOf (searchOf nodesIn (goal ∷ [])) ≡ possible (gOf w₂) = sym whole ∙ ap (λ (y : Found). foundOf y (gOf w₂)) c in
-          let u : s′ ≡ settingOf nodesIn (gOf w₂) ++ drop 1024 s = rw listed at y in
+          let v : answerOf (searchOf rs₀ (goal ∷ [])) ≡ possible (gOf w₂) = sym whole ∙ ap (λ (y : Found). foundOf y (gOf w₂)) c in
+          let u : s′ ≡ settingOf rs₀ (gOf w₂) ++ drop 1024 s = rw listed at y in
           record {
             answered = rw (decided, v);
             settings = rw (decided, v) u;
             work = λ g q. possible-refused q;
             sound = λ q. possible-impossible q;
-            complete = λ q rs e. rw (← same-nodes rs e, u) (made-true t nodesIn all read goal inside-in v (drop 1024 s));
+            complete = λ q rs e. rw (← same-nodes t nodes (p .readable) (p .all) rs e, u) (made-true t rs₀ all reads goal inside-in v (drop 1024 s));
           }

@@ -133,7 +133,7 @@ module _ (n : ℕ) (t u : ℕ → Node) (same : (i : ℕ) → i < n → t i ≡ 
   }
 
   module _ (goals : List ℕ) where
-    clauses-same : (G : List ℕ) → Good n G → clauses (expand t) goals G ≡ clauses (expand u) goals G
+    pub clauses-same : (G : List ℕ) → Good n G → clauses (expand t) goals G ≡ clauses (expand u) goals G
     unfolding clauses
     clauses-same [] g = refl
     clauses-same (l ∷ G) g = rw (clauses-same G (g .1), expand-same l (g .0 .0))

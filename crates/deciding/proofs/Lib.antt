@@ -1,5 +1,6 @@
 -- Laws for the proofs of decide's functions. Assumes nothing.
 pub mod Bridge
+pub mod Nodes
 pub mod Searches
 pub mod Settings
 pub mod Answers

@@ -44,7 +44,7 @@ back-one xs ys zs h p e d =
 -- ---- the search from G, by its next move
 
 module _ (t : ℕ → Node) (goals G : List ℕ) where
-  tree-conflict : (fuel : ℕ) {k : ℕ} → move (expand t) goals G ≡ Conflict k → tree (expand t) goals fuel G ≡ conflict k
+  pub tree-conflict : (fuel : ℕ) {k : ℕ} → move (expand t) goals G ≡ Conflict k → tree (expand t) goals fuel G ≡ conflict k
   unfolding tree
   tree-conflict zero e = rw e
   tree-conflict (suc fuel) e = rw e
@@ -54,11 +54,11 @@ module _ (t : ℕ → Node) (goals G : List ℕ) where
   tree-done zero e = rw e
   tree-done (suc fuel) e = rw e
 
-  tree-unit : (fuel : ℕ) {k l : ℕ} → move (expand t) goals G ≡ Single k l → tree (expand t) goals (suc fuel) G ≡ unit k l (tree (expand t) goals fuel (l ∷ G))
+  pub tree-unit : (fuel : ℕ) {k l : ℕ} → move (expand t) goals G ≡ Single k l → tree (expand t) goals (suc fuel) G ≡ unit k l (tree (expand t) goals fuel (l ∷ G))
   unfolding tree
   tree-unit fuel e = rw e
 
-  tree-split : (fuel : ℕ) {l : ℕ} → move (expand t) goals G ≡ Split l
+  pub tree-split : (fuel : ℕ) {l : ℕ} → move (expand t) goals G ≡ Split l
       → tree (expand t) goals (suc fuel) G ≡ split l (tree (expand t) goals fuel (l ∷ G)) (tree (expand t) goals fuel (neg l ∷ G))
   unfolding tree
   tree-split fuel e = rw e
@@ -73,7 +73,7 @@ module _ (t : ℕ → Node) (goals G : List ℕ) where
     result-done e = rw (tree-done (n - length G) e)
 
     module _ (h : length G < n) where
-      fuel : n - length G ≡ suc (n - suc (length G))
+      pub fuel : n - length G ≡ suc (n - suc (length G))
       fuel = omega arith
 
       pub result-unit : {k l : ℕ} → move (expand t) goals G ≡ Single k l → result t n goals G ≡ result t n goals (l ∷ G)
@@ -86,13 +86,13 @@ module _ (t : ℕ → Node) (goals G : List ℕ) where
 
 -- ---- cases that are apart
 
-shut-open : {P : Type 0} → _≡_ {A = Stop} Shut Open → P
+pub shut-open : {P : Type 0} → _≡_ {A = Stop} Shut Open → P
 shut-open e = absurd (let z : _≡_ {A = ℕ} 0 1 = cc in omega arith)
 
-shut-fork : {P : Type 0} {l : ℕ} → _≡_ {A = Stop} Shut (Fork l) → P
+pub shut-fork : {P : Type 0} {l : ℕ} → _≡_ {A = Stop} Shut (Fork l) → P
 shut-fork e = absurd (let z : _≡_ {A = ℕ} 0 1 = cc in omega arith)
 
-open-fork : {P : Type 0} {l : ℕ} → _≡_ {A = Stop} Open (Fork l) → P
+pub open-fork : {P : Type 0} {l : ℕ} → _≡_ {A = Stop} Open (Fork l) → P
 open-fork e = absurd (let z : _≡_ {A = ℕ} 0 1 = cc in omega arith)
 
 model-closed : {P : Type 0} → _≡_ {A = Found} Model Closed → P

@@ -13,9 +13,8 @@ use lib.Seq.{getD-set-same, getD-set-other, drop-set-lt, getD-take, ext-getD, le
 use borrow.Author.Tests.{eq-eqb, ne-eqb}
 use Rattle.scope.specs.declared.Node.{Node}
 use Rattle.scope.specs.Table.{listFrom}
-use Rattle.scope.proofs.Lists.{getD-listFrom}
 use Rattle.calculus.specs.Order.{mem, holds, fails, undecided, valueOf, atomHeld, bit, settingOf}
-use Rattle.calculus.proofs.Setting.{setting-length}
+use Rattle.calculus.proofs.Setting.{setting-length, setting-point}
 use Rattle.solver.specs.Work.{valueCode}
 use Rattle.deciding.specs.Setting.{Cleared, held, Marked}
 
@@ -117,12 +116,6 @@ filled-more {f} {i} {G} {s} {s₁} {s₂} a m = record {
     last : (p : ℕ) → (atomHeld (listFrom f 0 i) 0 G p || held (f i) i G p) ≡ atomHeld (listFrom f 0 (i + 1)) 0 G p
     last p = rw (add-one i) (sym (rw (zero-add i) at (atoms-more f G p i 0 0)))
 
--- a setting's byte
-setting-at : (rs : List Node) (G : List ℕ) (p : ℕ) → p < 1024 → getD (settingOf rs G) p 0 ≡ bit (atomHeld rs 0 G p)
-unfolding settingOf
-setting-at rs G p h =
-    getD-listFrom (λ q. bit (atomHeld rs 0 G q)) 1024 0 p 0 h ∙ ap (λ (q : ℕ). bit (atomHeld rs 0 G q)) (zero-add p)
-
 -- all nodes: the setting
 pub filled-all : {f : ℕ → Node} {n : ℕ} {G s s′ : List ℕ} → 1024 ≤ length s → Filled f n G s s′ → s′ ≡ settingOf (listFrom f 0 n) G ++ drop 1024 s
 filled-all {f} {n} {G} {s} {s′} r a =
@@ -134,4 +127,4 @@ filled-all {f} {n} {G} {s} {s′} r a =
     front : take 1024 s′ ≡ settingOf (listFrom f 0 n) G
     front =
         ext-getD 0 (take 1024 s′) (settingOf (listFrom f 0 n) G) (long ∙ sym (setting-length (listFrom f 0 n) G))
-        (λ p h. let b : p < 1024 = omega (arith, long) in getD-take 1024 s′ p 0 b ∙ a .points p b ∙ sym (setting-at (listFrom f 0 n) G p b))
+        (λ p h. let b : p < 1024 = omega (arith, long) in getD-take 1024 s′ p 0 b ∙ a .points p b ∙ sym (setting-point (listFrom f 0 n) G p b))

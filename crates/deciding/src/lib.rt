@@ -65,7 +65,7 @@ fn propagate(x: &[u16], n: usize, goals: &[u16], work: &mut [u16]) -> Stop
 }
 
 // The literals that joined after the first `held` are assumed no more.
-fn undo_to(x: &[u16], n: usize, goals: &[u16], work: &mut [u16], held: u16)
+pub fn undo_to(x: &[u16], n: usize, goals: &[u16], work: &mut [u16], held: u16)
     requires { ⌜ Indexed (now x) n ⌝ }
     requires { ⌜ Goals n (now goals) ⌝ }
     requires { ⌜ Holds (indexNode (now x)) n (now goals) (now work) ⌝ }
@@ -79,7 +79,7 @@ fn undo_to(x: &[u16], n: usize, goals: &[u16], work: &mut [u16], held: u16)
 }
 
 // The newest literal, l, is assumed no more, and its negation is.
-fn turn(x: &[u16], n: usize, goals: &[u16], work: &mut [u16], l: u16)
+pub fn turn(x: &[u16], n: usize, goals: &[u16], work: &mut [u16], l: u16)
     requires { ⌜ Indexed (now x) n ⌝ }
     requires { ⌜ Goals n (now goals) ⌝ }
     requires { ⌜ Holds (indexNode (now x)) n (now goals) (now work) ⌝ }

@@ -1,23 +1,14 @@
 -- Laws of the nodes of the index, as they are read from the table one after another. Assumes nothing.
 use mathlib.Core.Path.{_≡_, _∙_}
 use mathlib.Core.List.{List}
-use Prim.Native.Nat.{ℕ, _+_, _-_, _*_, _<_, _≤_}
+use Prim.Native.Nat.{ℕ, _+_, _*_, _<_, _≤_}
 use native.Mathlib.Omega.{arith}
 use native.Mathlib.Decide.{ℕ-discrete}
-use lib.ListN.{length, getD, set, take, drop, length-set}
+use lib.ListN.{length, getD, set, length-set}
 use lib.Seq.{getD-set-same, getD-set-other}
 use Rattle.scope.specs.declared.Node.{Node}
-use Rattle.scope.specs.Block.{recordAt}
-use Rattle.scope.specs.Table.{nodeOf, nodeAt}
-use Rattle.repeats.specs.Chains.{placeOf}
+use Rattle.scope.specs.Table.{nodeAt}
 use Rattle.index.specs.Index.{indexSize, mostNodes, indexNode, headOf, Loaded}
-
--- the record of node m is the 8 bytes from its place on
-pub node-read : {y : Node} (t : List ℕ) (at m : ℕ) → y ≡ nodeOf (take (at + 8 - at) (drop at t)) → at ≡ placeOf m → y ≡ nodeAt t m
-unfolding recordAt
-node-read t at m e p =
-    let q : at + 8 - at ≡ 8 = omega arith in
-    rw (e, q, p)
 
 -- a node hangs on its own numbers alone
 pub node-same : (x x′ : List ℕ) (b m : ℕ) → ((i : ℕ) → i < 4 * b → getD x′ i 0 ≡ getD x i 0) → m < b → indexNode x′ m ≡ indexNode x m

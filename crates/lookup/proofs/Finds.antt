@@ -1,21 +1,18 @@
 -- Laws of `indexOf` over the nodes of a table, for a loop that compares one after another: what is left at n, past n others, is
 -- the answer. Assumes nothing.
-use mathlib.Core.Path.{_≡_, _∙_, ap, sym, refl}
+use mathlib.Core.Path.{_≡_, _∙_, sym, refl}
 use mathlib.Core.List.{List, [], _∷_, _++_}
 use mathlib.Core.Bool.{true, false}
-use Prim.Native.Nat.{ℕ, suc, _+_, _-_, _<_, _≤_}
-use native.Mathlib.Nat.{add-sub-cancel-left}
-use native.Mathlib.Numerals.{add-one}
+use Prim.Native.Nat.{ℕ, _+_, _-_, _<_, _≤_}
 use native.Mathlib.Omega.{arith}
 use lib.ListN.{length, getD, set, take, drop, length-drop}
 use lib.Seq.{sets, sets-eq, take-all}
 use borrow.Author.Tests.{eq-eqb, ne-eqb}
 use lib.Dec.{eqb}
 use Rattle.scope.specs.declared.Node.{Node}
-use Rattle.scope.specs.Block.{recordAt}
-use Rattle.scope.specs.Table.{tables, sameNode, nodeOf, nodeAt, listFrom}
+use Rattle.scope.specs.Table.{tables, sameNode, listFrom}
 use Rattle.scope.specs.Calls.{indexOf}
-use Rattle.repeats.specs.Chains.{placeOf}
+use Rattle.scope.proofs.Lists.{listFrom-turn, listFrom-done}
 use Rattle.codec.proofs.Bytes.{listed}
 
 -- two nodes differ in a field, or only in b if at all
@@ -39,28 +36,15 @@ exchanged-bytes r h =
     let rest : drop 6 r ≡ getD r 6 0 ∷ getD r 7 0 ∷ [] = sym (take-all 2 (drop 6 r) (simp length-drop (omega arith))) ∙ listed 0 r 2 6 (omega arith) in
     sets-eq (getD r 4 0 ∷ getD r 5 0 ∷ getD r 2 0 ∷ getD r 3 0 ∷ []) r 2 (omega arith) ∙ rw (front, rest)
 
--- the part of a table from a record's place on reads as its node
-pub part-node : (t : List ℕ) (n at : ℕ) → at ≡ placeOf n → nodeOf (take (at + 8 - at) (drop at t)) ≡ nodeAt t n
-unfolding recordAt
-part-node t n at e = ap nodeOf (simp (add-sub-cancel-left, e))
-
 module _ (f : ℕ → Node) (x : Node) (n e : ℕ) where
-  turn : n < e → listFrom f n (e - n) ≡ f n ∷ listFrom f (n + 1) (e - (n + 1))
-  unfolding listFrom
-  turn h =
-      let q : e - n ≡ suc (e - (n + 1)) = omega arith in
-      simp (q, add-one)
-
   pub found : n < e → sameNode (f n) x ≡ true → n + indexOf x (listFrom f n (e - n)) ≡ n
   unfolding indexOf
-  found h q = rw (turn h, q) (omega arith)
+  found h q = rw (listFrom-turn f n e h, q) (omega arith)
 
   pub passed : n < e → sameNode (f n) x ≡ false → n + indexOf x (listFrom f n (e - n)) ≡ n + 1 + indexOf x (listFrom f (n + 1) (e - (n + 1)))
   unfolding indexOf
-  passed h q = rw (turn h, q) (omega arith)
+  passed h q = rw (listFrom-turn f n e h, q) (omega arith)
 
   pub none : n ≤ e → e ≤ n → n + indexOf x (listFrom f n (e - n)) ≡ e
-  unfolding indexOf listFrom
-  none h k =
-      let q : e - n ≡ 0 = omega arith in
-      rw q (omega arith)
+  unfolding indexOf
+  none h k = rw (listFrom-done f n e k) (omega arith)

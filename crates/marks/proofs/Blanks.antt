@@ -2,19 +2,16 @@
 use mathlib.Core.Path.{_≡_, refl, sym, ap, _∙_}
 use mathlib.Core.Bool.{true, false}
 use mathlib.Core.List.{List}
-use Prim.Native.Nat.{ℕ, zero, suc, _+_, _*_, _%_, _<_, _≤_}
+use Prim.Native.Nat.{ℕ, _+_, _*_, _%_, _<_, _≤_}
 use native.Mathlib.Omega.{arith}
 use native.Mathlib.Decide.{ℕ-discrete}
 use lib.ListN.{length, getD, set, length-set, replicate, length-replicate}
 use lib.Seq.{getD-set-same, getD-set-other}
 use borrow.Author.Tests.{eq-eqb, ne-eqb}
-use Rattle.marks.specs.Marks.{area, places, countAt, totalAt, beyondAt, tally, isIn, inBlock, Blank}
-use Rattle.marks.proofs.Tally.{tally-none, tally-all}
-
-zeros-at : (n h : ℕ) → _≡_ {A = ℕ} (getD (replicate n 0) h 0) 0
-zeros-at zero h = refl
-zeros-at (suc n) zero = refl
-zeros-at (suc n) (suc h) = zeros-at n h
+use Rattle.scope.proofs.Lists.{zeros-at}
+use Rattle.scope.specs.Count.{tally}
+use Rattle.marks.specs.Marks.{area, places, countAt, totalAt, beyondAt, isIn, inBlock, Blank}
+use Rattle.scope.proofs.Tally.{tally-none, tally-all}
 
 -- all is 0 but the counts of class 0 in the first b blocks
 pub record Counted (w : List ℕ) (b : ℕ) : Type 0 where

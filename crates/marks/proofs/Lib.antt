@@ -1,5 +1,4 @@
 -- Laws of the counts, for the proofs of the functions. Assumes nothing.
-pub mod Tally
 pub mod Puts
 pub mod Steps
 pub mod Blanks

@@ -8,8 +8,9 @@ use lib.Dec.{eqb}
 use lib.ListN.{length, getD, set, length-set}
 use lib.Seq.{getD-set-same, getD-set-other}
 use borrow.Author.Tests.{eq-eqb, ne-eqb}
-use Rattle.marks.specs.Marks.{area, places, countAt, totalAt, beyondAt, one, tally, isIn, inBlock, Marks, Countable, Recounted, Putted}
-use Rattle.marks.proofs.Tally.{tally-same, tally-change, tally-most, tally-some}
+use Rattle.scope.specs.Count.{one, tally}
+use Rattle.marks.specs.Marks.{area, places, countAt, totalAt, beyondAt, isIn, inBlock, Marks, Countable, Recounted, Putted}
+use Rattle.scope.proofs.Tally.{tally-same, tally-change, tally-most, tally-some}
 
 -- ---- one fewer here, one more there
 

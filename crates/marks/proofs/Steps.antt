@@ -7,7 +7,7 @@ use native.Mathlib.Decide.{ℕ-discrete, decLe}
 use lib.ListN.{getD}
 use borrow.Author.Tests.{eq-eqb, ne-eqb}
 use Rattle.marks.specs.Marks.{places, countAt, totalAt, isIn, inBlock, Marks}
-use Rattle.marks.proofs.Tally.{tally-some, tally-none}
+use Rattle.scope.proofs.Tally.{tally-some, tally-none}
 
 -- no code of class c from a place on up to another
 abbrev pub NoneIn : List ℕ → ℕ → ℕ → ℕ → Type 0

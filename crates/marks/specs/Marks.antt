@@ -1,10 +1,11 @@
 -- The codes of the work area, and how many of each class there are, by blocks of 64 and in all. Assumes nothing.
 use mathlib.Core.Path.{_≡_}
-use mathlib.Core.Bool.{Bool, true, false}
+use mathlib.Core.Bool.{Bool}
 use mathlib.Core.List.{List}
-use Prim.Native.Nat.{ℕ, zero, suc, _+_, _-_, _*_, _%_, _<_, _≤_}
+use Prim.Native.Nat.{ℕ, _+_, _-_, _*_, _%_, _<_, _≤_}
 use lib.Dec.{eqb}
 use lib.ListN.{getD, length}
+use Rattle.scope.specs.Count.{tally}
 
 -- ---- the layout: 6144 codes, in 96 blocks of 64; the counts; all else
 
@@ -27,15 +28,6 @@ abbrev pub beyondAt : ℕ → ℕ
 beyondAt i = 6532 + i
 
 -- ---- counting
-
-abbrev pub one : Bool → ℕ
-one true = 1
-one false = 0
-
--- how many numbers below m pass the test
-unfoldable pub tally : (ℕ → Bool) → ℕ → ℕ
-tally p zero = 0
-tally p (suc m) = one (p m) + tally p m
 
 -- the code at k is of class c
 unfoldable pub isIn : List ℕ → ℕ → ℕ → Bool

@@ -11,15 +11,12 @@ use lib.ListN.{length, getD, set, replicate, length-set, length-replicate}
 use lib.Seq.{getD-set-same, getD-set-other}
 use borrow.Author.Tests.{eq-eqb, ne-eqb, eqb-true, eqb-false}
 use Rattle.scope.specs.Table.{anyBelow, repeats}
+use Rattle.scope.proofs.Lists.{zeros-at}
+use Rattle.codec.specs.Valid.{Bytes}
 use Rattle.repeats.specs.Chains.{withHash, Chain, stop, link, Chains}
-use Rattle.repeats.proofs.Keys.{Bytes, keyAt, hasKey, repeats-key}
+use Rattle.repeats.proofs.Keys.{keyAt, hasKey, repeats-key}
 
 -- arrays of zeros are the chains of no record
-zeros-at : (n h : ℕ) → _≡_ {A = ℕ} (getD (replicate n 0) h 0) 0
-zeros-at zero h = refl
-zeros-at (suc n) zero = refl
-zeros-at (suc n) (suc h) = zeros-at n h
-
 pub no-chains : (t : List ℕ) → Chains t (replicate 4093 0) (replicate 2016 0) 0
 unfolding withHash
 no-chains t = record {

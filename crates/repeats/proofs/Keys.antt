@@ -3,25 +3,22 @@
 use mathlib.Core.Path.{_≡_, sym, refl}
 use mathlib.Core.List.{List}
 use mathlib.Core.Bool.{Bool, true, false, _&&_}
-use Prim.Native.Nat.{ℕ, zero, suc, _+_, _-_, _≤_, _<_}
+use Prim.Native.Nat.{ℕ, zero, suc, _≤_, _<_}
 use native.Mathlib.Omega.{arith}
-use lib.Dec.{eqb, lit<}
-use lib.ListN.{getD, take, drop}
-use lib.Seq.{getD-take, getD-drop}
+use lib.Dec.{eqb}
+use lib.ListN.{take, drop}
 use borrow.Author.Tests.{eq-eqb, eqb-true}
 use Rattle.scope.specs.declared.Node.{Node}
 use Rattle.scope.specs.Block.{recordAt}
 use Rattle.scope.specs.Table.{nodeOf, nodeAt, sameNode, anyBelow, repeats}
 use Rattle.scope.proofs.Tests.{and-left, and-right}
+use Rattle.codec.specs.Valid.{Bytes}
+use Rattle.codec.proofs.Bytes.{bytes-take, bytes-drop}
 use Rattle.repeats.specs.Chains.{placeOf, keyOf}
 
 -- later records stand later
 pub place-mono : (m n : ℕ) → m ≤ n → placeOf m ≤ placeOf n
 place-mono m n h = omega arith
-
--- what a slice of bytes is known to hold
-abbrev pub Bytes : List ℕ → Type 0
-Bytes t = (i : ℕ) → getD t i 0 < 256
 
 -- the key of node n, and whether node m has the key k
 abbrev pub keyAt : List ℕ → ℕ → ℕ
@@ -30,27 +27,16 @@ keyAt t n = keyOf (nodeAt t n)
 abbrev pub hasKey : List ℕ → ℕ → ℕ → Bool
 hasKey t k m = eqb (keyAt t m) k
 
--- the record of node n is the 8 bytes from its place on
-pub key-read : {x : Node} (t : List ℕ) (at n : ℕ) → x ≡ nodeOf (take (at + 8 - at) (drop at t)) → at ≡ placeOf n → keyOf x ≡ keyAt t n
-unfolding recordAt
-key-read t at n e p =
-    let q : at + 8 - at ≡ 8 = omega arith in
-    rw (e, q, p)
-
 -- a byte and a word: a key keeps such a kind and such an a apart
 record Small (x : Node) : Type 0 where
   kind-small : x .kind < 256
   a-small : x .a < 65536
 
-byte-of : (t : List ℕ) (p i : ℕ) → Bytes t → i < 8 → getD (take 8 (drop p t)) i 0 < 256
-byte-of t p i b h = rw (getD-take 8 (drop p t) i 0 h, getD-drop) (b (p + i))
-
 node-small : (t : List ℕ) (n : ℕ) → Bytes t → Small (nodeAt t n)
 unfolding nodeOf recordAt
-node-small t n b = record {
-  kind-small = byte-of t (placeOf n) 0 b (lit< tt);
-  a-small = omega (arith, byte-of t (placeOf n) 2 b (lit< tt), byte-of t (placeOf n) 3 b (lit< tt));
-}
+node-small t n b =
+    let r : Bytes (take 8 (drop (placeOf n) t)) = bytes-take 8 (drop (placeOf n) t) (bytes-drop (placeOf n) t b) in
+    record { kind-small = r 0; a-small = omega (arith, r 2, r 3) }
 
 -- two tests that imply each other
 agree : (p q : Bool) → (p ≡ true → q ≡ true) → (q ≡ true → p ≡ true) → p ≡ q

@@ -12,12 +12,13 @@ use Rattle.scope.specs.Outcome.{Outcome, answer, fine}
 use Rattle.scope.specs.declared.Node.{Node}
 use Rattle.scope.proofs.Tests.{and-both}
 use Rattle.calculus.specs.Expansion.{neg, expand}
-use Rattle.calculus.specs.Order.{Value, holds, fails, undecided, valueOf, mem, State, met, empty, one, many, opened, joined, stateOf, clauses, Tree, tree, Answer, possible, impossible, unfinished, orElse, answerOf}
+use Rattle.calculus.specs.Order.{Value, holds, fails, undecided, valueOf, mem, State, met, empty, one, many, opened, joined, stateOf, clauses, Tree, tree, impossible, answerOf}
 use Rattle.calculus.specs.Model.{All, Table, Below}
 use Rattle.calculus.proofs.Lists.{all-imply}
 use Rattle.calculus.proofs.Literals.{is-false, mem-same, mem-later, all-member}
 use Rattle.calculus.proofs.Moves.{ClauseIs, conflict-clause, unit-clause}
-use Rattle.calculus.proofs.Search.{Grown, closes, joins, ends, parts, grown-whole, possible-closed, closed-cut}
+use Rattle.calculus.proofs.Search.{Grown, closes, joins, ends, parts, grown-whole, possible-closed}
+use Rattle.calculus.proofs.Sound.{or-closed}
 use Rattle.rules.specs.declared.Step.{Step}
 use Rattle.rules.specs.Steps.{U, R, C, S}
 use Rattle.rules.specs.Rules.{Place, among, Branch, root, join, strikeClause, strikeLiteral, isFails, unstruck, Progress, running, turn, stands, left, ruleU, ruleR, ruleC, ruleS, apply, advance, ended, run, accepts}
@@ -140,7 +141,7 @@ empty-unmet e = let z : _≡_ {A = ℕ} 0 1 = cc in omega arith
 one-unmet : (l : ℕ) → one l ≡ met → ⊥
 one-unmet l e = let z : _≡_ {A = ℕ} 0 1 = cc in omega arith
 
--- ---- small laws of lists and answers
+-- ---- a small law of lists
 
 -- what stands at position p, where the rest from p on is known
 drop-here : (ls : List ℕ) (p l : ℕ) (c : List ℕ) → drop p ls ≡ l ∷ c → (p < length ls) × (getD ls p 0 ≡ l) × (drop (suc p) ls ≡ c)
@@ -150,11 +151,6 @@ drop-here (x ∷ ls) zero l c e = (omega arith, cc, cc)
 drop-here (x ∷ ls) (suc p) l c e =
     let q = drop-here ls p l c e in
     (omega (arith, q .0), q .1, q .2)
-
-both-closed : (a b : Answer) → orElse a b ≡ impossible → (a ≡ impossible) × (b ≡ impossible)
-both-closed (possible G) b e = absurd (possible-closed e)
-both-closed impossible b e = (refl, e)
-both-closed unfinished b e = absurd (closed-cut (sym e))
 
 -- ---- the steps of a search run
 
@@ -329,7 +325,7 @@ module _ (n : ℕ) (t : ℕ → Node) (goals : List ℕ) where
       ∙ run-at _ _ ss (turn waiting) (omega (arith, length-append (removes G k) (U k ∷ steps (l ∷ G) tr)))
   run-grown (ends g m) e cs xs a waiting i ss = absurd (possible-closed e)
   run-grown {G} (parts {l = l} {left = x} {right = y} g m f p q) e cs xs a waiting i ss =
-      let c = both-closed (answerOf x) (answerOf y) e in
+      let c = or-closed (answerOf x) (answerOf y) e in
       let b : Branch = branch G cs xs in
       run-next i (S l) (steps (l ∷ G) x ++ steps (neg l ∷ G) y ++ ss) (running b waiting) (running (join l b) (join (neg l) b ∷ waiting))
       (by-S i b waiting l (f .0) (f .1))

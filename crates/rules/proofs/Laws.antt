@@ -1,22 +1,21 @@
--- Laws of tests, of lists with some element of a kind, of struck places, and of the clause list as G grows. Assumes nothing.
+-- Laws of tests, of lists with some element of a kind, of struck places, of the clause list as G grows, and of what a rule leaves.
+-- Assumes nothing.
 use mathlib.Core.Path.{_≡_, refl, sym, subst}
 use mathlib.Core.Logic.{_⊎_, inl, inr}
 use mathlib.Core.List.{List, [], _∷_}
-use mathlib.Core.Bool.{Bool, true, false, false≢true}
+use mathlib.Core.Bool.{Bool, true, false, cond, false≢true}
 use Prim.Native.Nat.{ℕ, zero, suc, _<_}
 use native.Mathlib.Omega.{arith}
 use lib.Dec.{eqb}
 use lib.ListN.{length, getD, length-append, List·getD-append}
 use borrow.Author.Tests.{eqb-true}
+use Rattle.scope.specs.Outcome.{Outcome, answer, refused, _>>_, _>>=_}
 use Rattle.scope.proofs.Tests.{and-left, and-right}
+pub use Rattle.scope.proofs.Tests.{by-test}
 use Rattle.calculus.specs.Order.{clauses}
 use Rattle.calculus.specs.Model.{All}
-use Rattle.rules.specs.Rules.{Place, samePlace, among}
-
--- a proof by the two cases of a test
-pub by-test : {P : Type 0} (t : Bool) → (t ≡ true → P) → (t ≡ false → P) → P
-by-test true f g = f refl
-by-test false f g = g refl
+use Rattle.rules.specs.declared.Step.{Step}
+use Rattle.rules.specs.Rules.{Place, samePlace, among, Branch, Progress, running, only, given, ruleU, ruleR, ruleE, ruleC, ruleS, apply, advance}
 
 -- some element of a list has a property
 abbrev pub Any : {A : Type 0} → (A → Type 0) → List A → Type 0
@@ -27,12 +26,6 @@ pub any-imply : {A : Type 0} (P Q : A → Type 0) → ((x : A) → P x → Q x) 
 any-imply P Q f [] a = a
 any-imply P Q f (x ∷ xs) (inl a) = inl (f x a)
 any-imply P Q f (x ∷ xs) (inr a) = inr (any-imply P Q f xs a)
-
--- what all elements and the default have, each entry has
-pub all-getD : {A : Type 0} (P : A → Type 0) (xs : List A) (k : ℕ) (d : A) → P d → All P xs → P (getD xs k d)
-all-getD P [] k d h a = h
-all-getD P (x ∷ xs) zero d h a = a .0
-all-getD P (x ∷ xs) (suc k) d h a = all-getD P xs k d h (a .1)
 
 -- ---- places
 
@@ -66,3 +59,47 @@ module _ (expand : ℕ → List (List ℕ)) (goals : List ℕ) (G : List ℕ) (l
   pub clause-kept : getD (clauses expand goals (l ∷ G)) k [] ≡ getD (clauses expand goals G) k []
   unfolding clauses
   clause-kept = List·getD-append (clauses expand goals G) (expand l) [] k h
+
+-- ---- what a rule leaves
+
+module _ (P : Progress → Type 0) where
+  -- it has a property, unless the rule's condition fails
+  abbrev pub After : Outcome Progress → Type 0
+  After (answer p) = P p
+  After (refused number at) = Unit {0}
+
+  pub after-given : (t : Bool) (o : Outcome Progress) → (t ≡ true → After o) → After (given t >> o)
+  after-given true o f = f refl
+  after-given false o f = tt
+
+  pub after-only : (ls : List ℕ) (next : ℕ → Outcome Progress) → ((l : ℕ) → only ls ≡ answer l → After (next l)) → After (only ls >>= next)
+  after-only [] next f = tt
+  after-only (l ∷ []) next f = f l refl
+  after-only (l ∷ m ∷ ls) next f = tt
+
+  after-cond : (t : Bool) (x y : Outcome Progress) → After x → After y → After (cond t x y)
+  after-cond true x y f g = f
+  after-cond false x y f g = g
+
+  module _ (expand : ℕ → List (List ℕ)) (goals : List ℕ) (nodes : ℕ) (s : Step) (b : Branch) (waiting : List Branch) where
+    -- what each of the five rules leaves has it, so what the step's does
+    pub after-apply : After (ruleU expand goals nodes (s .value) b waiting) → After (ruleR expand goals nodes (s .position) (s .value) b waiting)
+        → After (ruleE expand goals nodes (s .value) b waiting) → After (ruleC expand goals nodes (s .value) b waiting)
+        → After (ruleS expand goals nodes (s .value) b waiting) → After (apply expand goals nodes s b waiting)
+    unfolding apply
+    after-apply u r e c d =
+        after-cond (eqb (s .rule) 85) _ _ u
+        (after-cond (eqb (s .rule) 82) _ _ r
+        (after-cond (eqb (s .rule) 69) _ _ e
+        (after-cond (eqb (s .rule) 67) _ _ c
+        d)))
+
+    -- and the refusal at step i says nothing else
+    pub after-advance : (i : ℕ) → After (apply expand goals nodes s b waiting) → After (advance expand goals nodes i s (running b waiting))
+    unfolding advance
+    after-advance i a = go (apply expand goals nodes s b waiting) refl a
+      where
+        go : (o : Outcome Progress) → apply expand goals nodes s b waiting ≡ o → After o
+            → After (advance expand goals nodes i s (running b waiting))
+        go (answer p) e g = rw e g
+        go (refused number at) e g = rw e tt

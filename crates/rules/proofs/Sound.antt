@@ -3,13 +3,13 @@
 use mathlib.Core.Path.{_≡_, refl, sym, ap, _∙_, subst}
 use mathlib.Core.Logic.{_⊎_, inl, inr}
 use mathlib.Core.List.{List, [], _∷_}
-use mathlib.Core.Bool.{Bool, true, false, cond, not, false≢true, true≢false}
+use mathlib.Core.Bool.{Bool, true, false, not, false≢true, true≢false}
 use Prim.Native.Nat.{ℕ, suc, _+_, _*_, _/_, _<_}
 use native.Mathlib.Omega.{arith}
 use lib.Dec.{eqb, ltb}
 use lib.ListN.{length, getD}
 use borrow.Author.Tests.{ltb-true, eqb-true}
-use Rattle.scope.specs.Outcome.{Outcome, answer, refused, fine, _>>_, _>>=_}
+use Rattle.scope.specs.Outcome.{Outcome, answer, refused, fine, _>>=_}
 use Rattle.scope.specs.declared.Node.{Node}
 use Rattle.scope.proofs.Tests.{and-left, refused-no}
 use Rattle.calculus.specs.Expansion.{neg, expand}
@@ -20,8 +20,8 @@ use Rattle.calculus.proofs.Literals.{neg-below, all-member, fails-mem}
 use Rattle.calculus.proofs.Fresh.{expand-under}
 use Rattle.calculus.proofs.Truth.{clauseTrue, neg-true, expand-true}
 use Rattle.rules.specs.declared.Step.{Step}
-use Rattle.rules.specs.Rules.{Place, among, Branch, root, join, strikeClause, strikeLiteral, isFails, isUndecided, unstruck, anyHolds, Progress, running, complete, turn, only, given, clauseAt, stands, left, ruleU, ruleR, ruleE, ruleC, ruleS, apply, advance, ended, run, accepts}
-use Rattle.rules.proofs.Laws.{by-test, Any, place, all-among, still-in, clause-kept}
+use Rattle.rules.specs.Rules.{Place, among, Branch, root, join, strikeClause, strikeLiteral, isFails, isUndecided, unstruck, anyHolds, Progress, running, complete, turn, only, clauseAt, stands, left, ruleU, ruleR, ruleE, ruleC, ruleS, apply, advance, ended, run, accepts}
+use Rattle.rules.proofs.Laws.{by-test, Any, place, all-among, still-in, clause-kept, After, after-given, after-only, after-apply, after-advance}
 
 -- Truths of literals: `True l` says that l is true. No literal is true with its negation, one of the two is, the clauses of a true
 -- literal have a true literal each, and the goals are true
@@ -129,62 +129,48 @@ module _ (expand : ℕ → List (List ℕ)) (goals : List ℕ) (nodes : ℕ) (Tr
   Live complete = ⊥
 
   abbrev LiveAfter : Outcome Progress → Type 0
-  LiveAfter (answer p) = Live p
-  LiveAfter (refused number at) = Unit {0}
+  LiveAfter = After Live
 
   live-turn : (waiting : List Branch) → Any Agreed waiting → Live (turn waiting)
   live-turn [] a = a
   live-turn (b ∷ waiting) a = a
-
-  live-given : (t : Bool) (o : Outcome Progress) → (t ≡ true → LiveAfter o) → LiveAfter (given t >> o)
-  live-given true o f = f refl
-  live-given false o f = tt
-
-  live-only : (ls : List ℕ) (next : ℕ → Outcome Progress) → ((l : ℕ) → only ls ≡ answer l → LiveAfter (next l)) → LiveAfter (only ls >>= next)
-  live-only [] next f = tt
-  live-only (l ∷ []) next f = f l refl
-  live-only (l ∷ m ∷ ls) next f = tt
 
   -- the open branch goes on
   live-on : (b b′ : Branch) (waiting : List Branch) → (Agreed b → Agreed b′) → Any Agreed (b ∷ waiting) → Any Agreed (b′ ∷ waiting)
   live-on b b′ waiting f (inl a) = inl (f a)
   live-on b b′ waiting f (inr a) = inr a
 
-  live-cond : (t : Bool) (x y : Outcome Progress) → LiveAfter x → LiveAfter y → LiveAfter (cond t x y)
-  live-cond true x y f g = f
-  live-cond false x y f g = g
-
   module _ (b : Branch) (waiting : List Branch) (a : Any Agreed (b ∷ waiting)) where
     live-U : (k : ℕ) → LiveAfter (ruleU expand goals nodes k b waiting)
     unfolding ruleU
     live-U k =
-        live-given (standing b k) _
-        (λ s. live-only (rest b k) _
-        (λ l o. live-given (isUndecided (valueOf (b .G) l)) _
+        after-given Live (standing b k) _
+        (λ s. after-only Live (rest b k) _
+        (λ l o. after-given Live (isUndecided (valueOf (b .G) l)) _
         (λ u. live-on b (strikeClause k (join l b)) waiting (λ g. agreed-join l b (only-true True (rest b k) l (rest-true b k g s) o) g) a)))
 
     live-R : (p k : ℕ) → LiveAfter (ruleR expand goals nodes p k b waiting)
     unfolding ruleR
     live-R p k =
-        live-given (standing b k) _
-        (λ s. live-given (ltb p (length (clause b k))) _
-        (λ h. live-given (not (among (place k p) (b .struckLiterals))) _
-        (λ n. live-given (isFails (valueOf (b .G) (getD (clause b k) p 0))) _
+        after-given Live (standing b k) _
+        (λ s. after-given Live (ltb p (length (clause b k))) _
+        (λ h. after-given Live (not (among (place k p) (b .struckLiterals))) _
+        (λ n. after-given Live (isFails (valueOf (b .G) (getD (clause b k) p 0))) _
         (λ f. live-on b (strikeLiteral (place k p) b) waiting
         (λ g. (g .0, ((in-list b k s, false-literal b (getD (clause b k) p 0) g f), g .1))) a))))
 
     live-E : (k : ℕ) → LiveAfter (ruleE expand goals nodes k b waiting)
     unfolding ruleE
     live-E k =
-        live-given (standing b k) _
-        (λ s. live-given (anyHolds (b .G) (rest b k)) _
+        after-given Live (standing b k) _
+        (λ s. after-given Live (anyHolds (b .G) (rest b k)) _
         (λ h. live-on b (strikeClause k b) waiting (λ g. g) a))
 
     live-C : (k : ℕ) → LiveAfter (ruleC expand goals nodes k b waiting)
     unfolding ruleC
     live-C k =
-        live-given (standing b k) _
-        (λ s. live-given (eqb (length (rest b k)) 0) _
+        after-given Live (standing b k) _
+        (λ s. after-given Live (eqb (length (rest b k)) 0) _
         (λ e. live-turn waiting (waits s e a)))
       where
         waits : standing b k ≡ true → eqb (length (rest b k)) 0 ≡ true → Any Agreed (b ∷ waiting) → Any Agreed waiting
@@ -194,8 +180,8 @@ module _ (expand : ℕ → List (List ℕ)) (goals : List ℕ) (nodes : ℕ) (Tr
     live-S : (l : ℕ) → LiveAfter (ruleS expand goals nodes l b waiting)
     unfolding ruleS
     live-S l =
-        live-given (ltb l (2 * nodes)) _
-        (λ h. live-given (isUndecided (valueOf (b .G) l)) _
+        after-given Live (ltb l (2 * nodes)) _
+        (λ h. after-given Live (isUndecided (valueOf (b .G) l)) _
         (λ u. sides (A .either l (ltb-true l (2 * nodes) h)) a))
       where
         sides : True l ⊎ True (neg l) → Any Agreed (b ∷ waiting) → Any Agreed (join l b ∷ join (neg l) b ∷ waiting)
@@ -204,24 +190,14 @@ module _ (expand : ℕ → List (List ℕ)) (goals : List ℕ) (nodes : ℕ) (Tr
         sides t (inr g) = inr (inr g)
 
     live-apply : (s : Step) → LiveAfter (apply expand goals nodes s b waiting)
-    unfolding apply
     live-apply s =
-        live-cond (eqb (s .rule) 85) _ _ (live-U (s .value))
-        (live-cond (eqb (s .rule) 82) _ _ (live-R (s .position) (s .value))
-        (live-cond (eqb (s .rule) 69) _ _ (live-E (s .value))
-        (live-cond (eqb (s .rule) 67) _ _ (live-C (s .value))
-        (live-S (s .value)))))
+        after-apply Live expand goals nodes s b waiting
+        (live-U (s .value)) (live-R (s .position) (s .value)) (live-E (s .value)) (live-C (s .value)) (live-S (s .value))
 
   -- ---- so does a run, which therefore does not complete
 
   live-advance : (i : ℕ) (s : Step) (p : Progress) → Live p → LiveAfter (advance expand goals nodes i s p)
-  unfolding advance
-  live-advance i s (running b waiting) a = go (apply expand goals nodes s b waiting) refl (live-apply b waiting a s)
-    where
-      go : (o : Outcome Progress) → apply expand goals nodes s b waiting ≡ o → LiveAfter o
-          → LiveAfter (advance expand goals nodes i s (running b waiting))
-      go (answer p) e g = rw e g
-      go (refused number at) e g = rw e tt
+  live-advance i s (running b waiting) a = after-advance Live expand goals nodes s b waiting i (live-apply b waiting a s)
   live-advance i s complete a = absurd a
 
   live-run : (ss : List Step) (i : ℕ) (p : Progress) → Live p → run expand goals nodes i ss p ≡ fine → ⊥

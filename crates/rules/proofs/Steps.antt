@@ -1,27 +1,28 @@
 -- The form of steps: those of the derivation in the solver's order meet row 44 and fit their four bytes, and a step is read back from
 -- its bytes. Assumes nothing.
 use mathlib.Core.Path.{_≡_, refl, ap}
-use mathlib.Core.List.{List, [], _∷_, map}
+use mathlib.Core.List.{List, [], _∷_}
 use mathlib.Core.Bool.{Bool, true, false, _&&_, _||_}
 use Prim.Native.Nat.{ℕ, zero, suc, _+_, _*_, _/_, _%_, _<_, _≤_}
 use native.Mathlib.Omega.{arith}
-use lib.Dec.{eqb, leb, lit<}
-use lib.ListN.{length, getD, length-append, length-map}
+use lib.Dec.{eqb, lit<}
+use lib.ListN.{length, getD}
 use borrow.Author.Tests.{eqb-true, leb-true, le-leb}
 use Rattle.scope.specs.declared.Node.{Node}
 use Rattle.scope.proofs.Tests.{and-left, and-right}
-use Rattle.calculus.specs.Expansion.{neg, chosen, templates, expand}
+use Rattle.calculus.specs.Expansion.{neg, expand}
 use Rattle.calculus.specs.Order.{valueOf, clauses, Tree, tree}
 use Rattle.calculus.specs.Model.{All, Table, Below, Good}
-use Rattle.calculus.proofs.Lists.{every, every-all, all-append, all-at, all-each, all-imply, all-map}
+use Rattle.calculus.proofs.Lists.{all-append, all-at}
 use Rattle.calculus.proofs.Count.{at-most}
+use Rattle.calculus.proofs.Sizes.{widest, Short, clauses-few, clauses-short}
 use Rattle.calculus.proofs.Moves.{conflict-clause, unit-clause}
 use Rattle.calculus.proofs.Search.{Grown, closes, joins, ends, parts, grown-whole}
 use Rattle.rules.specs.declared.Step.{Step}
 use Rattle.rules.specs.Steps.{step, U, C, stepBytes, stepOf, stepOk}
 use Rattle.rules.specs.Rules.{isFails}
 use Rattle.rules.specs.Derivation.{removals, removed, stepsOf}
-use Rattle.rules.proofs.Laws.{by-test, all-getD}
+use Rattle.rules.proofs.Laws.{by-test}
 
 -- a step that a file can hold
 pub record Formed (s : Step) : Type 0 where
@@ -86,67 +87,6 @@ step-bytes s f (suc zero) = step-small s (f .ok) .1
 step-bytes s f (suc (suc zero)) = omega arith
 step-bytes s f (suc (suc (suc zero))) = omega (arith, f .small)
 step-bytes s f (suc (suc (suc (suc i)))) = lit< tt
-
--- ---- the sizes of clauses
-
--- the most literals of a clause, and the most clauses of a literal
-abbrev pub widest : ℕ
-widest = 2
-
-abbrev pub most : ℕ
-most = 2
-
-abbrev pub Short : List ℕ → Type 0
-Short c = length c ≤ widest
-
-abbrev shortClause : List ℕ → Bool
-shortClause c = leb (length c) widest
-
-abbrev shortRow : List (List ℕ) → Bool
-shortRow row = leb (length row) most && every shortClause row
-
-rows-short : every shortRow templates ≡ true
-unfolding templates
-rows-short = refl
-
--- of every row of the templates
-row-short : (i : ℕ) → (length (getD templates i []) ≤ most) × All Short (getD templates i [])
-row-short i =
-    let row : List (List ℕ) = getD templates i [] in
-    let e : shortRow row ≡ true = all-getD (λ r. shortRow r ≡ true) templates i [] refl (every-all shortRow templates rows-short) in (
-      leb-true (length row) most (and-left (leb (length row) most) (every shortClause row) e),
-      all-imply (λ c. shortClause c ≡ true) Short (λ c. leb-true (length c) widest) row
-          (every-all shortClause row (and-right (leb (length row) most) (every shortClause row) e)),
-    )
-
-module _ (t : ℕ → Node) where
-  -- of every literal
-  expand-few : (l : ℕ) → length (expand t l) ≤ most
-  unfolding expand
-  expand-few l =
-      let i : ℕ = 2 * t (l / 2) .kind + l % 2 in
-      omega (arith, length-map (getD templates i []) (map (chosen (t (l / 2)))), row-short i .0)
-
-  expand-short : (l : ℕ) → All Short (expand t l)
-  unfolding expand
-  expand-short l =
-      let i : ℕ = 2 * t (l / 2) .kind + l % 2 in
-      all-map Short (map (chosen (t (l / 2)))) (getD templates i [])
-      (all-imply Short (λ c. Short (map (chosen (t (l / 2))) c)) (λ c h. omega (arith, length-map c (chosen (t (l / 2))), h))
-      (getD templates i []) (row-short i .1))
-
-  module _ (goals : List ℕ) where
-    -- the clause list has at most so many clauses
-    pub clauses-few : (G : List ℕ) → length (clauses (expand t) goals G) ≤ length goals + most * length G
-    unfolding clauses
-    clauses-few [] = omega (arith, length-map goals (_∷ []))
-    clauses-few (l ∷ G) = omega (arith, length-append (clauses (expand t) goals G) (expand t l), clauses-few G, expand-few l)
-
-    -- and short ones
-    pub clauses-short : (G : List ℕ) → All Short (clauses (expand t) goals G)
-    unfolding clauses
-    clauses-short [] = all-map Short (_∷ []) goals (all-each (λ l. Short (l ∷ [])) (λ l. omega arith) goals)
-    clauses-short (l ∷ G) = all-append Short (clauses (expand t) goals G) (expand t l) (clauses-short G) (expand-short l)
 
 -- ---- the steps of a search
 

@@ -2,3 +2,6 @@
 pub mod First
 pub mod Tests
 pub mod Lists
+pub mod Tally
+pub mod Records
+pub mod Seals

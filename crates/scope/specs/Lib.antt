@@ -5,3 +5,4 @@ pub mod Table
 pub mod Truth
 pub mod Calls
 pub mod Samples
+pub mod Count

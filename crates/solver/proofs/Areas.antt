@@ -5,47 +5,18 @@ use mathlib.Core.List.{List}
 use Prim.Native.Nat.{ℕ, zero, suc, _+_, _-_, _*_, _/_, _%_, _<_, _≤_}
 use native.Mathlib.Omega.{arith}
 use native.Mathlib.Decide.{ℕ-discrete}
-use lib.ListN.{length, getD}
+use lib.ListN.{getD}
 use Rattle.scope.specs.declared.Node.{Node}
 use Rattle.calculus.specs.Expansion.{expand}
-use Rattle.calculus.specs.Model.{Good}
-use Rattle.calculus.proofs.Count.{at-most}
+use Rattle.trail.proofs.Trails.{literal-below, count-most as most-held}
 use Rattle.index.specs.Index.{indexNode, opNode, Links}
 use Rattle.marks.specs.Marks.{Marks, Putted}
 use Rattle.solver.specs.Work.{codeAt, tail, litAt, entryOf, trail, held, gOf, Trail, Ready, Right, Spare, Refreshed, Renewed, Pending, Stale, Touched}
 
--- the trail has as many literals as positions
-pub trail-length : (q : ℕ) (r : ℕ → ℕ) → length (trail q r) ≡ q
-unfolding trail
-trail-length zero r = refl
-trail-length (suc q) r = ap suc (trail-length q r)
-
--- a literal that is held is one of n nodes
-pub literal-below : (n c : ℕ) (r : ℕ → ℕ) (q : ℕ) → Good n (trail c r) → q < c → litAt r q < 2 * n
-unfolding trail
-literal-below n zero r q g h = absurd (omega arith)
-literal-below n (suc c) r q g h = go (ℕ-discrete q c) (literal-below n c r q (g .1))
-  where
-    go : Dec (q ≡ c) → (q < c → litAt r q < 2 * n) → litAt r q < 2 * n
-    go (yes e) k = subst (λ (z : ℕ). litAt r z < 2 * n) (sym e) (g .0 .0)
-    go (no e) k = k (omega (arith, e, h))
-
--- the first literals of a good trail are good
-pub good-first : (n c : ℕ) (r : ℕ → ℕ) (q : ℕ) → Good n (trail c r) → q ≤ c → Good n (trail q r)
-unfolding trail
-good-first n zero r q g h =
-    let z : 0 ≡ q = omega arith in
-    subst (λ (k : ℕ). Good n (trail k r)) z g
-good-first n (suc c) r q g h = go (ℕ-discrete q (suc c)) (good-first n c r q (g .1))
-  where
-    go : Dec (q ≡ suc c) → (q ≤ c → Good n (trail q r)) → Good n (trail q r)
-    go (yes e) k = subst (λ (k : ℕ). Good n (trail k r)) (sym e) g
-    go (no e) k = k (omega (arith, e, h))
-
 module _ {n : ℕ} {w : List ℕ} (h : Ready n w) where
   -- no more literals are held than there are nodes
   pub count-most : tail w 0 ≤ n
-  count-most = omega (arith, trail-length (tail w 0) (tail w), at-most n (gOf w) (h .trail .good))
+  count-most = most-held n (tail w) (h .trail)
 
   -- each is a literal of the nodes
   pub held-below : (q : ℕ) → q < tail w 0 → litAt (tail w) q < 2 * n

@@ -2,7 +2,7 @@
 use mathlib.Core.Path.{_≡_, refl, sym, ap, _∙_, subst}
 use mathlib.Core.Bool.{Bool, true, false, cond}
 use mathlib.Core.List.{List, [], _∷_, map}
-use Prim.Native.Nat.{ℕ, zero, suc, _+_, _-_, _*_, _/_, _%_, _<_, _≤_}
+use Prim.Native.Nat.{ℕ, zero, suc, _+_, _*_, _/_, _%_, _<_, _≤_}
 use native.Mathlib.Omega.{arith}
 use lib.Dec.{eqb}
 use lib.ListN.{length, getD, drop}
@@ -11,27 +11,7 @@ use Rattle.scope.specs.declared.Node.{Node}
 use Rattle.calculus.specs.Expansion.{neg, chosen}
 use Rattle.calculus.specs.Order.{Value, holds, fails, undecided, valueOf, State, met, empty, one, many, opened, joined, stateOf, literalOf, isEmpty, isOne, isMany}
 use Rattle.solver.specs.Templates.{slot}
-use Rattle.solver.specs.Work.{stateCode, valueCode, openCode, joinCode, codeAt, side}
-
--- ---- a value by a node's entry
-
--- no entry: undecided
-pub side-none : (e s : ℕ) (v : Value) → e ≡ 0 → side e s ≡ v → 0 ≡ valueCode v
-side-none e s v z h =
-    let q : side e s ≡ undecided = simp (eq-eqb e 0 z) in
-    ap valueCode (sym q ∙ h)
-
--- the entry has the sign: true
-pub side-true : (e s : ℕ) (v : Value) → (e ≡ 0 → ⊥) → (e - 1) % 2 ≡ s → side e s ≡ v → 1 ≡ valueCode v
-side-true e s v z k h =
-    let q : side e s ≡ holds = simp (ne-eqb e 0 z, eq-eqb ((e - 1) % 2) s k) in
-    ap valueCode (sym q ∙ h)
-
--- it has the other: false
-pub side-false : (e s : ℕ) (v : Value) → (e ≡ 0 → ⊥) → ((e - 1) % 2 ≡ s → ⊥) → side e s ≡ v → 2 ≡ valueCode v
-side-false e s v z k h =
-    let q : side e s ≡ fails = simp (ne-eqb e 0 z, ne-eqb ((e - 1) % 2) s k) in
-    ap valueCode (sym q ∙ h)
+use Rattle.solver.specs.Work.{stateCode, valueCode, openCode, joinCode, codeAt}
 
 -- ---- the code of a state
 

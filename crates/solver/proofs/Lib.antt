@@ -6,5 +6,6 @@ pub mod Areas
 pub mod Pushes
 pub mod Pops
 pub mod Moves
+pub mod Reasons
 pub mod Turns
 pub mod Starts

@@ -114,14 +114,14 @@ module _ {t : ℕ → Node} {n : ℕ} {goals w : List ℕ} (few : n ≤ 2016) (t
   -- ---- the first place of a class
 
   module _ (c : ℕ) {k : ℕ} (p : 0 < c) (hc : c < 4) (z : getD w (6528 + c) 0 ≡ 0 → ⊥) (f : First w c k) where
-    found-low : k < 6144
+    pub found-low : k < 6144
     found-low = go (decLt k 6144)
       where
         go : Dec (k < 6144) → k < 6144
         go (yes q) = q
         go (no q) = absurd (there w c (h .ready .marks) hc z (λ j i. f .before j (omega (arith, i, q))))
 
-    found-clause : k < 64 + 3 * tail w 0
+    pub found-clause : k < 64 + 3 * tail w 0
     found-clause = go (decLt k (64 + 3 * tail w 0))
       where
         go : Dec (k < 64 + 3 * tail w 0) → k < 64 + 3 * tail w 0
@@ -175,3 +175,10 @@ module _ {t : ℕ → Node} {n : ℕ} {goals w : List ℕ} (few : n ≤ 2016) (t
   -- none of the three
   pub move-done : getD w 6529 0 ≡ 0 → getD w 6530 0 ≡ 0 → getD w 6531 0 ≡ 0 → Done ≡ move (expand t) goals (gOf w)
   move-done x y z = places.move-done src end (free 1 (omega arith) x) (free 2 (omega arith) y) (free 3 (omega arith) z) ∙ move-is
+
+  -- no all-false clause, and none with one undecided literal
+  pub move-neither : getD w 6529 0 ≡ 0 → getD w 6530 0 ≡ 0
+      → ((k : ℕ) → move (expand t) goals (gOf w) ≡ Conflict k → ⊥) × ((k l : ℕ) → move (expand t) goals (gOf w) ≡ Single k l → ⊥)
+  move-neither x y =
+      let p = places.move-neither src end (free 1 (omega arith) x) (free 2 (omega arith) y) in
+      (λ k e. p .0 k (move-is ∙ e), λ k l e. p .1 k l (move-is ∙ e))

@@ -1,6 +1,6 @@
 -- The move by the first code of each class. Assumes nothing.
 use mathlib.Core.Path.{_≡_, refl, sym, ap, _∙_}
-use mathlib.Core.Bool.{Bool, true, false, cond, _||_, or-true}
+use mathlib.Core.Bool.{Bool, true, false, cond, not, _||_, or-true}
 use mathlib.Core.List.{List, [], _∷_, _++_, map, append-assoc, append-nil, map-append}
 use Prim.Native.Nat.{ℕ, zero, suc, _+_, _-_, _*_, _/_, _%_, _<_, _≤_}
 use native.Mathlib.Omega.{arith}
@@ -133,6 +133,22 @@ module _ (src : ℕ → List State) where
     pub move-done : Free 1 m → Free 2 m → Free 3 m → Done ≡ moveOf (upTo m)
     unfolding moveOf
     move-done a b d = rw (none isEmpty 1 class-empty m a, none isOne 2 class-one m b, none isMany 3 class-many m d)
+
+    -- none of classes 1 and 2
+    pub move-neither : Free 1 m → Free 2 m → ((k : ℕ) → moveOf (upTo m) ≡ Conflict k → ⊥) × ((k l : ℕ) → moveOf (upTo m) ≡ Single k l → ⊥)
+    unfolding moveOf
+    move-neither a b =
+        rw (none isEmpty 1 class-empty m a, none isOne 2 class-one m b) (go (some isMany (upTo m)) (literalAt (upTo m) (firstOf isMany (upTo m))))
+      where
+        go : (b : Bool) (i : ℕ) → ((k : ℕ) → cond (not b) Done (Split i) ≡ Conflict k → ⊥) × ((k l : ℕ) → cond (not b) Done (Split i) ≡ Single k l → ⊥)
+        go true i = (
+          λ k e. let z : _≡_ {A = ℕ} 0 1 = cc in omega arith,
+          λ k l e. let z : _≡_ {A = ℕ} 0 1 = cc in omega arith,
+        )
+        go false i = (
+          λ k e. let z : _≡_ {A = ℕ} 0 1 = cc in omega arith,
+          λ k l e. let z : _≡_ {A = ℕ} 0 1 = cc in omega arith,
+        )
 
     -- none of classes 1 and 2, and one of class 3
     pub move-split : (k : ℕ) → Free 1 m → Free 2 m → k < m → headCode (src k) % 4 ≡ 3 → Free 3 k → Split (headCode (src k) / 4) ≡ moveOf (upTo m)

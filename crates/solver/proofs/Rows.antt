@@ -7,7 +7,7 @@ use Prim.Native.Nat.{ℕ, zero, suc, _+_, _*_, _/_, _%_, _<_, _≤_}
 use native.Mathlib.Omega.{arith}
 use native.Mathlib.Decide.{ℕ-discrete, decLt}
 use lib.Dec.{eqb, leb, ltb}
-use lib.ListN.{length, getD, take, length-map, length-append}
+use lib.ListN.{length, getD, take, drop, length-map, length-append}
 use lib.Seq.{getD-take}
 use borrow.Author.Tests.{eq-eqb, ne-eqb, le-ltb, leb-true, eqb-true}
 use Rattle.scope.specs.declared.Node.{Node}
@@ -17,6 +17,8 @@ use Rattle.calculus.proofs.Lists.{all-at, every, every-all, getD-map}
 use Rattle.calculus.proofs.Literals.{value-other}
 use Rattle.index.specs.Index.{opNode}
 use Rattle.solver.specs.Templates.{rows, cell, slot, slots}
+use Rattle.solver.specs.Reason.{literals}
+use Rattle.solver.specs.declared.Clause.{Clause}
 use Rattle.solver.specs.Work.{valueCode, joinCode, codeAt, Pending}
 use Rattle.solver.proofs.Codes.{slot-none, slot-empty, slot-one, slot-two, code-same, chosen-is}
 
@@ -65,18 +67,56 @@ some-most len = go (ltb len 3)
     go true = omega arith
     go false = omega arith
 
--- the first and the second code of two slots, the first of which is there if the second is
-module _ (G : List ℕ) (f : List ℕ → List ℕ) (x y u v : ℕ) where
-  code-both : (a b : ℕ) → a ≤ b → (codeAt G (map f (slot a x y ++ slot b u v)) 0 ≡ codeAt G (map f (slot a x y)) 0)
-      × (codeAt G (map f (slot a x y ++ slot b u v)) 1 ≡ codeAt G (map f (slot b u v)) 0)
-  unfolding codeAt
-  code-both zero b h = (refl, refl)
-  code-both (suc zero) b h = (refl, refl)
-  code-both (suc (suc zero)) b h = (refl, refl)
-  code-both (suc (suc (suc a))) zero h = absurd (omega arith)
-  code-both (suc (suc (suc a))) (suc zero) h = absurd (omega arith)
-  code-both (suc (suc (suc a))) (suc (suc zero)) h = absurd (omega arith)
-  code-both (suc (suc (suc a))) (suc (suc (suc b))) h = (refl, refl)
+-- a list's clause j by itself: its code and its literals are there
+abbrev clauseIn : List (List ℕ) → ℕ → List (List ℕ)
+clauseIn cs j = take 1 (drop j cs)
+
+code-in : (G : List ℕ) (cs : List (List ℕ)) (j : ℕ) → codeAt G (clauseIn cs j) 0 ≡ codeAt G cs j
+unfolding codeAt
+code-in G [] zero = refl
+code-in G [] (suc j) = refl
+code-in G (c ∷ cs) zero = refl
+code-in G (c ∷ cs) (suc j) = code-in G cs j
+
+literals-in : (cs : List (List ℕ)) (j : ℕ) → getD (clauseIn cs j) 0 [] ≡ getD cs j []
+literals-in [] zero = refl
+literals-in [] (suc j) = refl
+literals-in (c ∷ cs) zero = refl
+literals-in (c ∷ cs) (suc j) = literals-in cs j
+
+-- the literals of a slot, whose choices f makes literals
+slot-bare : (f : ℕ → ℕ) (x y len : ℕ) → (len ≡ 0) ⊎ (3 ≤ len) → [] ≡ getD (map (map f) (slot len x y)) 0 []
+slot-bare f x y zero h = refl
+slot-bare f x y (suc zero) (inl e) = absurd (omega (arith, e))
+slot-bare f x y (suc zero) (inr h) = absurd (omega (arith, h))
+slot-bare f x y (suc (suc zero)) (inl e) = absurd (omega (arith, e))
+slot-bare f x y (suc (suc zero)) (inr h) = absurd (omega (arith, h))
+slot-bare f x y (suc (suc (suc len))) h = refl
+
+module _ (f : ℕ → ℕ) (x y a b : ℕ) (p : a ≡ f x) (q : b ≡ f y) where
+  slot-literals : (len : ℕ) → (len ≡ 0 → ⊥) → len < 3 → literals (record { len = len; first = a; second = b }) ≡ getD (map (map f) (slot len x y)) 0 []
+  slot-literals zero z h = absurd (z refl)
+  slot-literals (suc zero) z h = ap (_∷ []) p
+  slot-literals (suc (suc zero)) z h = ap (_∷ b ∷ []) p ∙ ap (λ (l : ℕ). f x ∷ l ∷ []) q
+  slot-literals (suc (suc (suc len))) z h = absurd (omega arith)
+
+-- the first and the second clause of two slots, the first of which is there if the second is
+module _ (f : List ℕ → List ℕ) (x y u v : ℕ) where
+  slot-alone : (b : ℕ) → clauseIn (map f (slot b u v)) 0 ≡ map f (slot b u v)
+  slot-alone zero = refl
+  slot-alone (suc zero) = refl
+  slot-alone (suc (suc zero)) = refl
+  slot-alone (suc (suc (suc b))) = refl
+
+  slot-both : (a b : ℕ) → a ≤ b → (clauseIn (map f (slot a x y ++ slot b u v)) 0 ≡ map f (slot a x y))
+      × (clauseIn (map f (slot a x y ++ slot b u v)) 1 ≡ map f (slot b u v))
+  slot-both zero b h = (refl, slot-alone b)
+  slot-both (suc zero) b h = (refl, slot-alone b)
+  slot-both (suc (suc zero)) b h = (refl, slot-alone b)
+  slot-both (suc (suc (suc a))) zero h = absurd (omega arith)
+  slot-both (suc (suc (suc a))) (suc zero) h = absurd (omega arith)
+  slot-both (suc (suc (suc a))) (suc (suc zero)) h = absurd (omega arith)
+  slot-both (suc (suc (suc a))) (suc (suc (suc b))) h = (refl, refl)
 
 module _ (t : ℕ → Node) (l : ℕ) where
   -- the number of a literal's row
@@ -98,16 +138,16 @@ module _ (t : ℕ → Node) (l : ℕ) where
   pub expand-most : t (l / 2) .kind < 7 → length (expand t l) ≤ 2
   expand-most h = omega (arith, expand-length h, some-most (cell rowOf 0), some-most (cell rowOf 3))
 
-  -- the code of clause j
-  expand-code : (G : List ℕ) (j : ℕ) → t (l / 2) .kind < 7 → j < 2
-      → codeAt G (map (map (chosen (t (l / 2)))) (slot (cell rowOf (3 * j)) (cell rowOf (3 * j + 1)) (cell rowOf (3 * j + 2)))) 0 ≡ codeAt G (expand t l) j
-  expand-code G zero h i =
-      sym (ap (λ (cs : List (List ℕ)). codeAt G cs 0) (expand-row h)
-      ∙ code-both G (map (chosen (t (l / 2)))) (cell rowOf 1) (cell rowOf 2) (cell rowOf 4) (cell rowOf 5) (cell rowOf 0) (cell rowOf 3) (ordered rowOf (omega arith)) .0)
-  expand-code G (suc zero) h i =
-      sym (ap (λ (cs : List (List ℕ)). codeAt G cs 1) (expand-row h)
-      ∙ code-both G (map (chosen (t (l / 2)))) (cell rowOf 1) (cell rowOf 2) (cell rowOf 4) (cell rowOf 5) (cell rowOf 0) (cell rowOf 3) (ordered rowOf (omega arith)) .1)
-  expand-code G (suc (suc j)) h i = absurd (omega arith)
+  -- clause j
+  expand-in : (j : ℕ) → t (l / 2) .kind < 7 → j < 2
+      → map (map (chosen (t (l / 2)))) (slot (cell rowOf (3 * j)) (cell rowOf (3 * j + 1)) (cell rowOf (3 * j + 2))) ≡ clauseIn (expand t l) j
+  expand-in zero h i =
+      sym (ap (λ (cs : List (List ℕ)). clauseIn cs 0) (expand-row h)
+      ∙ slot-both (map (chosen (t (l / 2)))) (cell rowOf 1) (cell rowOf 2) (cell rowOf 4) (cell rowOf 5) (cell rowOf 0) (cell rowOf 3) (ordered rowOf (omega arith)) .0)
+  expand-in (suc zero) h i =
+      sym (ap (λ (cs : List (List ℕ)). clauseIn cs 1) (expand-row h)
+      ∙ slot-both (map (chosen (t (l / 2)))) (cell rowOf 1) (cell rowOf 2) (cell rowOf 4) (cell rowOf 5) (cell rowOf 0) (cell rowOf 3) (ordered rowOf (omega arith)) .1)
+  expand-in (suc (suc j)) h i = absurd (omega arith)
 
 -- the same of a row that was read, by numbers of it that were read
 module _ (t : ℕ → Node) (l : ℕ) {row : ℕ} (e : (row ≡ 2 * t (l / 2) .kind + l % 2) × (row < 14)) where
@@ -122,14 +162,32 @@ module _ (t : ℕ → Node) (l : ℕ) {row : ℕ} (e : (row ≡ 2 * t (l / 2) .k
   many-is {v = v} p q i j =
       ap (_+ v) (i ∙ ap someN (cell-is 0 p)) ∙ ap (someN (cell (rowOf t l) 0) +_) (j ∙ ap someN (cell-is 3 q)) ∙ sym (expand-length t l kind-below)
 
+  -- clause j
+  clause-in : (j : ℕ) → j < 2 → {len x y : ℕ} → len ≡ cell row (3 * j) → x ≡ cell row (3 * j + 1) → y ≡ cell row (3 * j + 2)
+      → map (map (chosen (t (l / 2)))) (slot len x y) ≡ clauseIn (expand t l) j
+  clause-in j i {len} {x} {y} p q s =
+      ap (λ (m : ℕ). map (map (chosen (t (l / 2)))) (slot m x y)) (cell-is (3 * j) p)
+      ∙ ap (λ (m : ℕ). map (map (chosen (t (l / 2)))) (slot (cell (rowOf t l) (3 * j)) m y)) (cell-is (3 * j + 1) q)
+      ∙ ap (λ (m : ℕ). map (map (chosen (t (l / 2)))) (slot (cell (rowOf t l) (3 * j)) (cell (rowOf t l) (3 * j + 1)) m)) (cell-is (3 * j + 2) s)
+      ∙ expand-in t l j kind-below i
+
+  -- its literals: none, where it has none or is not there; or one or two
+  module _ (j : ℕ) (i : j < 2) {len : ℕ} (p : len ≡ cell row (3 * j)) where
+    literals-is : {x y : ℕ} {ls : List ℕ} → x ≡ cell row (3 * j + 1) → y ≡ cell row (3 * j + 2) → ls ≡ getD (map (map (chosen (t (l / 2)))) (slot len x y)) 0 []
+        → ls ≡ getD (expand t l) j []
+    literals-is q s k = k ∙ ap (λ (cs : List (List ℕ)). getD cs 0 []) (clause-in j i p q s) ∙ literals-in (expand t l) j
+
+    pub literals-none : {c : Clause} → c ≡ record { len = 0; first = 0; second = 0 } → (len ≡ 0) ⊎ (3 ≤ len) → literals c ≡ getD (expand t l) j []
+    literals-none e h = literals-is refl refl (ap literals e ∙ slot-bare (chosen (t (l / 2))) (cell row (3 * j + 1)) (cell row (3 * j + 2)) len h)
+
+    pub literals-some : {x y a b : ℕ} → (len ≡ 0 → ⊥) → len < 3 → x ≡ cell row (3 * j + 1) → y ≡ cell row (3 * j + 2)
+        → a ≡ chosen (t (l / 2)) x → b ≡ chosen (t (l / 2)) y → literals (record { len = len; first = a; second = b }) ≡ getD (expand t l) j []
+    literals-some {x} {y} {a} {b} z h q s c d = literals-is q s (slot-literals (chosen (t (l / 2))) x y a b c d len z h)
+
   module _ (G : List ℕ) (j : ℕ) (i : j < 2) {len : ℕ} (p : len ≡ cell row (3 * j)) where
     code-is : {x y r : ℕ} → x ≡ cell row (3 * j + 1) → y ≡ cell row (3 * j + 2) → r ≡ codeAt G (map (map (chosen (t (l / 2)))) (slot len x y)) 0
         → r ≡ codeAt G (expand t l) j
-    code-is {x} {y} q s k =
-        k ∙ ap (λ (m : ℕ). codeAt G (map (map (chosen (t (l / 2)))) (slot m x y)) 0) (cell-is (3 * j) p)
-        ∙ ap (λ (m : ℕ). codeAt G (map (map (chosen (t (l / 2)))) (slot (cell (rowOf t l) (3 * j)) m y)) 0) (cell-is (3 * j + 1) q)
-        ∙ ap (λ (m : ℕ). codeAt G (map (map (chosen (t (l / 2)))) (slot (cell (rowOf t l) (3 * j)) (cell (rowOf t l) (3 * j + 1)) m)) 0) (cell-is (3 * j + 2) s)
-        ∙ expand-code t l G j kind-below i
+    code-is q s k = k ∙ ap (λ (cs : List (List ℕ)). codeAt G cs 0) (clause-in j i p q s) ∙ code-in G (expand t l) j
 
     -- clause j is not there
     pub code-absent : 3 ≤ len → 0 ≡ codeAt G (expand t l) j

@@ -1,16 +1,16 @@
 -- A blank work area with the goals' codes holds, with nothing held true. Assumes nothing.
-use mathlib.Core.Path.{_≡_, refl, sym, ap, _∙_, subst}
+use mathlib.Core.Path.{_≡_, refl, sym, ap, _∙_}
 use mathlib.Core.List.{List, [], _∷_}
-use Prim.Native.Nat.{ℕ, _+_, _/_, _%_, _<_, _≤_}
+use Prim.Native.Nat.{ℕ, _+_, _<_, _≤_}
 use native.Mathlib.Omega.{arith}
 use lib.ListN.{length, getD, set, length-set, length-map}
 use lib.Seq.{getD-set-same, getD-set-other}
 use Rattle.scope.specs.declared.Node.{Node}
 use Rattle.calculus.specs.Expansion.{expand}
-use Rattle.calculus.specs.Order.{mem, valueOf, clauses}
-use Rattle.calculus.specs.Model.{Good}
+use Rattle.calculus.specs.Order.{clauses}
+use Rattle.trail.proofs.Trails.{empty-held, empty-trail}
 use Rattle.marks.specs.Marks.{Blank}
-use Rattle.solver.specs.Work.{side, tail, entryOf, baseOf, trail, held, gOf, Trail, Numbered, Goals, Ready, Holds, Touched, Aimed}
+use Rattle.solver.specs.Work.{tail, baseOf, trail, held, gOf, Numbered, Goals, Ready, Holds, Touched, Aimed}
 use Rattle.solver.proofs.Pushes.{marks-same}
 use Rattle.solver.proofs.Turns.{settled}
 
@@ -39,23 +39,6 @@ module _ (t : ℕ → Node) {n : ℕ} {goals w : List ℕ} (few : n ≤ 2016) (g
   count-v : tail v 0 ≡ 0
   count-v = zero-v 0 (λ e. omega (arith, e))
 
-  list-v : gOf v ≡ []
-  unfolding trail
-  list-v = ap (λ (k : ℕ). trail k (tail v)) count-v
-
-  entry-v : (m : ℕ) → m < n → entryOf (tail v) m ≡ 0
-  entry-v m i = zero-v (2017 + m) (λ e. omega (arith, e, i, few))
-
-  trail-v : Trail n (tail v)
-  unfolding valueOf mem
-  trail-v = record {
-    good = subst (Good n) (sym list-v) tt;
-    vals = λ l i. ap (λ (e : ℕ). side e (l % 2)) (entry-v (l / 2) (omega (arith, i))) ∙ ap (λ (G : List ℕ). valueOf G l) (sym list-v);
-    place = λ q i. absurd (omega (arith, i, count-v));
-    low = λ m i. omega (arith, entry-v m i);
-    from = λ m i z. absurd (z (entry-v m i));
-  }
-
   numbered-v : Numbered t goals (tail v)
   unfolding clauses trail
   numbered-v q i =
@@ -66,7 +49,7 @@ module _ (t : ℕ → Node) {n : ℕ} {goals w : List ℕ} (few : n ≤ 2016) (g
   ready-v : Ready n v
   ready-v = record {
     marks = marks-same w v (B .marks) size-v (λ i h. at-v i (λ e. omega (arith, e, h)));
-    trail = trail-v;
+    trail = empty-trail n (tail v) count-v (λ m i. zero-v (2017 + m) (λ e. omega (arith, e, i, few)));
   }
 
   touched-v : Touched t n v v
@@ -86,4 +69,4 @@ module _ (t : ℕ → Node) {n : ℕ} {goals w : List ℕ} (few : n ≤ 2016) (g
 
   pub started : {w′ : List ℕ} → Aimed goals (set w (6532 + 4033) (length goals)) (length goals) w′ → Holds t n goals w′ × (gOf w′ ≡ [])
   unfolding v
-  started A = (holds-v A, ap held (A .same) ∙ list-v)
+  started A = (holds-v A, ap held (A .same) ∙ empty-held n (tail v) count-v)

@@ -10,12 +10,13 @@ use Rattle.scope.specs.declared.Node.{Node}
 use Rattle.calculus.specs.Expansion.{expand}
 use Rattle.calculus.specs.Order.{clauses, valueOf}
 use Rattle.calculus.specs.Model.{Table, Good}
+use Rattle.calculus.proofs.Sizes.{clauses-more}
+use Rattle.trail.proofs.Trails.{trail-length, trail-same}
 use Rattle.marks.specs.Marks.{Marks, Putted}
 use Rattle.solver.specs.Work.{valueCode, joinCode, codeAt, tail, litAt, baseOf, trail, held, gOf, Numbered, goalClauses, Goals, Spare, Ready, Right, Holds, Refreshed, Pending, Stale, Touched, Aimed, Pushed, Popped}
 use Rattle.solver.proofs.Codes.{goal-code, code-none}
 use Rattle.solver.proofs.Rows.{Still, still-or}
-use Rattle.solver.proofs.Areas.{count-most, held-below, ready-same, put-same, right-same, trail-length}
-use Rattle.solver.proofs.Pushes.{trail-same, clauses-length}
+use Rattle.solver.proofs.Areas.{count-most, held-below, ready-same, put-same, right-same}
 
 -- ---- the goals' codes
 
@@ -134,7 +135,7 @@ module _ {t : ℕ → Node} {n : ℕ} {goals w : List ℕ} {l : ℕ} {w₁ w₂ 
       go : Dec (q ≡ suc (tail w 0)) → baseOf (tail w₁) q ≡ length (clauses (expand t) goals (trail q (tail w₁)))
       go (yes e) =
           ap (λ (k : ℕ). baseOf (tail w₁) k) e ∙ P .base ∙ ap (_+ length (expand t l)) (h .numbered (tail w 0) (omega arith))
-          ∙ sym (clauses-length t n goals tab l (gOf w))
+          ∙ sym (clauses-more (expand t) goals l (gOf w))
           ∙ ap (λ (G : List ℕ). length (clauses (expand t) goals G)) (sym (P .list) ∙ ap (λ (k : ℕ). trail k (tail w₁)) (P .count ∙ sym e))
       go (no e) =
           let j : q ≤ tail w 0 = omega (arith, i, e, P .count) in

@@ -10,8 +10,11 @@ use lib.Dec.{eqb, ltb}
 use lib.ListN.{getD, length}
 use Rattle.scope.specs.declared.Node.{Node}
 use Rattle.calculus.specs.Expansion.{expand}
-use Rattle.calculus.specs.Order.{Value, holds, fails, undecided, valueOf, State, met, empty, one, many, stateOf, clauses}
-use Rattle.calculus.specs.Model.{Table, Below, Good}
+use Rattle.calculus.specs.Order.{State, met, empty, one, many, stateOf, clauses}
+use Rattle.calculus.specs.Model.{Table}
+pub use Rattle.calculus.specs.Model.{Goals}
+pub use Rattle.trail.specs.Trail.{litAt, entryOf, held, side, valueCode, Vals, Trail}
+unfoldable pub use Rattle.trail.specs.Trail.{trail}
 use Rattle.index.specs.Index.{indexSize, mostNodes, indexNode, opNode, Links}
 use Rattle.marks.specs.Marks.{places, Marks}
 
@@ -23,12 +26,6 @@ stateCode met = 0
 stateCode empty = 1
 stateCode (one l) = 4 * l + 2
 stateCode (many l) = 4 * l + 3
-
--- a value as a number
-abbrev pub valueCode : Value → ℕ
-valueCode undecided = 0
-valueCode holds = 1
-valueCode fails = 2
 
 -- the code of a clause with an undecided literal in front of others of a code
 abbrev pub openCode : ℕ → ℕ → ℕ
@@ -44,49 +41,19 @@ codeAt G [] j = 0
 codeAt G (c ∷ cs) zero = stateCode (stateOf G c)
 codeAt G (c ∷ cs) (suc j) = codeAt G cs j
 
--- ---- the trail, which stands past the counts; number 0 of it is how many literals are held
+-- ---- the trail (crate trail), which stands past the counts
 
 -- number i of the trail
 abbrev pub tail : List ℕ → ℕ → ℕ
 tail w i = getD w (6532 + i) 0
 
--- of a trail r: the literal at position q, the entry of node m, and how many clauses stand before those of position q
-abbrev pub litAt : (ℕ → ℕ) → ℕ → ℕ
-litAt r q = r (1 + q)
-
-abbrev pub entryOf : (ℕ → ℕ) → ℕ → ℕ
-entryOf r m = r (2017 + m)
-
+-- of a trail r: how many clauses stand before those of position q
 abbrev pub baseOf : (ℕ → ℕ) → ℕ → ℕ
 baseOf r q = r (4033 + q)
 
--- the literals at the first positions, the newest first
-unfoldable pub trail : ℕ → (ℕ → ℕ) → List ℕ
-trail zero r = []
-trail (suc q) r = litAt r q ∷ trail q r
-
 -- the literals held true
-abbrev pub held : (ℕ → ℕ) → List ℕ
-held r = trail (r 0) r
-
 abbrev pub gOf : List ℕ → List ℕ
 gOf w = held (tail w)
-
--- a literal's value by its node's entry, 2 × position + sign + 1 or 0, and its sign
-abbrev pub side : ℕ → ℕ → Value
-side e s = cond (eqb e 0) undecided (cond (eqb ((e - 1) % 2) s) holds fails)
-
--- the entries give the values of the literals of n nodes
-abbrev pub Vals : ℕ → (ℕ → ℕ) → Type 0
-Vals n r = (l : ℕ) → l < 2 * n → side (entryOf r (l / 2)) (l % 2) ≡ valueOf (held r) l
-
--- the literals and the entries agree
-pub record Trail (n : ℕ) (r : ℕ → ℕ) : Type 0 where
-  pub good : Good n (held r)
-  pub vals : Vals n r
-  pub place : (q : ℕ) → q < r 0 → entryOf r (litAt r q / 2) ≡ 2 * q + litAt r q % 2 + 1
-  pub low : (m : ℕ) → m < n → entryOf r m ≤ 2 * r 0
-  pub from : (m : ℕ) → m < n → (entryOf r m ≡ 0 → ⊥) → litAt r ((entryOf r m - 1) / 2) / 2 ≡ m
 
 -- each position has the number of clauses before it
 abbrev pub Numbered : (ℕ → Node) → List ℕ → (ℕ → ℕ) → Type 0
@@ -100,11 +67,6 @@ pub record Indexed (x : List ℕ) (n : ℕ) : Type 0 where
   pub few : n ≤ mostNodes
   pub table : Table n (indexNode x)
   pub links : Links x n
-
--- at most 64 goals, literals of n nodes
-pub record Goals (n : ℕ) (goals : List ℕ) : Type 0 where
-  pub most : length goals ≤ 64
-  pub below : Below n goals
 
 -- ---- what the work area holds
 

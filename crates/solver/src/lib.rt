@@ -14,7 +14,15 @@ ghost use Rattle.calculus.specs.Model.{Fresh};
 ghost use Rattle.index.specs.Index.{mostNodes, indexNode};
 ghost use Rattle.marks.specs.Marks.{area, places};
 ghost use Rattle.solver.specs.Templates.{rows, cell};
+ghost use Rattle.solver.specs.Reason.{literals, clauseAt, Stands, pressingClass, Reasoned};
 ghost use Rattle.solver.specs.Work.{valueCode, joinCode, codeAt, tail, baseOf, litAt, gOf, Vals, Indexed, Goals, Ready, Holds, numberAt, Refreshed, Renewed, Stale, Touched, Aimed, Pushed, Popped};
+
+// A clause: how many literals it has, 0 to 2, and which.
+pub struct Clause {
+    pub len: u8,
+    pub first: u16,
+    pub second: u16,
+}
 
 // The clauses of a literal, by kind and sign, row 2 * kind + sign: for each of two clauses its length, 3 where there is none, and
 // two operand choices: 0 is a, 1 is not a, 2 is b, 3 is not b.
@@ -366,6 +374,83 @@ pub fn next_move(x: &[u16], n: usize, goals: &[u16], work: &[u16]) -> Move
         return Move::Split(work[k] / 4);
     }
     Move::Done
+}
+
+// A clause with no literals.
+const NO_LITERALS: Clause = Clause {
+    len: 0,
+    first: 0,
+    second: 0,
+};
+
+// Clause j of a literal; one with no literals where there is none.
+fn clause_of(x: &[u16], n: usize, templates: &[[u8; 6]; 14], l: u16, j: usize) -> Clause
+    requires { ⌜ Indexed (now x) n ⌝ }
+    requires { ⌜ now templates ≡ rows ⌝ }
+    requires { ⌜ (l < 2 * n) × (j < 2) ⌝ }
+    ensures { λ r. ⌜ literals r ≡ getD (expand (indexNode (now (x .entry))) l) j [] ⌝ }
+{
+    let row = row_of(x, n, l);
+    let len = template(templates, row, 3 * j);
+    if len == 0 {
+        return NO_LITERALS;
+    }
+    if 3 <= len {
+        return NO_LITERALS;
+    }
+    let node = (l / 2) as usize;
+    let first = choose(x, n, node, template(templates, row, 3 * j + 1));
+    let second = choose(x, n, node, template(templates, row, 3 * j + 2));
+    Clause { len, first, second }
+}
+
+// The clause at a place.
+fn clause_at(x: &[u16], n: usize, goals: &[u16], work: &[u16], k: usize) -> Clause
+    requires { ⌜ Indexed (now x) n ⌝ }
+    requires { ⌜ area ≤ length (now work) ⌝ }
+    requires { ⌜ Stands n (now goals) (tail (now work)) k ⌝ }
+    ensures { λ r. ⌜ literals r ≡ clauseAt (indexNode (now (x .entry))) (now (goals .entry)) (tail (now (work .entry))) k ⌝ }
+{
+    if k < GOALS {
+        return Clause {
+            len: 1,
+            first: goals[k],
+            second: 0,
+        };
+    }
+    let l = work[TRAIL + (LITERALS + (k - GOALS) / 3)];
+    clause_of(x, n, &TEMPLATES, l, (k - GOALS) % 3)
+}
+
+// The class of the code that the next move is read off: 1 for a conflict, 2 for a unit, 0 for neither.
+fn pressing(work: &[u16]) -> u16
+    requires { ⌜ area ≤ length (now work) ⌝ }
+    ensures { λ r. ⌜ r ≡ pressingClass (now (work .entry)) ⌝ }
+{
+    let conflicts = work[TOTALS + 1];
+    let units = work[TOTALS + 2];
+    if 0 < conflicts {
+        return 1;
+    }
+    if 0 < units {
+        return 2;
+    }
+    0
+}
+
+// The clause that the next conflict or unit is on; any clause at another move.
+pub fn reason(x: &[u16], n: usize, goals: &[u16], work: &[u16]) -> Clause
+    requires { ⌜ Indexed (now x) n ⌝ }
+    requires { ⌜ Goals n (now goals) ⌝ }
+    requires { ⌜ Holds (indexNode (now x)) n (now goals) (now work) ⌝ }
+    ensures { λ r. ⌜ Reasoned (indexNode (now (x .entry))) n (now (goals .entry)) (gOf (now (work .entry))) r ⌝ }
+{
+    let class = pressing(work);
+    if class == 0 {
+        return NO_LITERALS;
+    }
+    let k = marks::first(work, class);
+    clause_at(x, n, goals, work, k)
 }
 
 // Nothing is assumed.

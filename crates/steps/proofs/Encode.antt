@@ -85,4 +85,4 @@ module _ (d : List ℕ) (ss : List Step) (all : Bytes d) (e : decodeSteps d ≡ 
       let test : formTest d ≡ fine = read-fine d ss e in
       let ok = size-met d test in
       rw (read-steps d ss e)
-      (file-is derivations fits d (length d / 512) all (ok .1) (ok .0) (block-fine d (ok .0) (blocks-met d test)) stepBytes (stepAt d) record-bytes)
+      (file-is derivations fits d (length d / 512) (ok .1) (ok .0) (block-fine d (ok .0) (blocks-met d test)) all stepBytes (stepAt d) record-bytes)

@@ -2,13 +2,12 @@
 -- Assumes nothing.
 use mathlib.Core.Path.{_≡_, _∙_, ap, sym, refl}
 use mathlib.Core.List.{List}
-use mathlib.Core.Bool.{true, false, not}
+use mathlib.Core.Bool.{true}
 use Prim.Native.Nat.{ℕ, suc, _+_, _-_, _*_, _/_, _%_, _<_, _≤_}
 use native.Mathlib.Nat.{zero-add}
 use native.Mathlib.Omega.{arith}
-use lib.Dec.{eqb, leb, lit<}
+use lib.Dec.{eqb, lit<}
 use lib.ListN.{length, getD}
-use borrow.Author.Tests.{eqb-true, eqb-false, ne-eqb, leb-true, not-true}
 use Rattle.scope.specs.Outcome.{answer, fine, first}
 use Rattle.scope.specs.Block.{blockAt, recordsIn}
 use Rattle.scope.specs.Table.{listFrom}
@@ -16,9 +15,9 @@ use Rattle.scope.proofs.First.{fine-each}
 use Rattle.scope.proofs.Lists.{length-listFrom, getD-listFrom}
 use Rattle.scope.proofs.Tests.{required, then-first, then-next}
 use Rattle.codec.specs.Valid.{Fits}
-use Rattle.codec.proofs.Rows.{both, row}
+use Rattle.codec.proofs.Rows.{row}
 use Rattle.codec.proofs.Blocks.{Passed, passed}
-use Rattle.codec.proofs.Files.{by-last}
+use Rattle.codec.proofs.Files.{whole-length, block-of as record-block}
 use Rattle.rules.specs.declared.Step.{Step}
 use Rattle.rules.specs.Steps.{derivations, stepAt, stepOk, sizeOk, formTest, decodeSteps}
 use Rattle.steps.specs.Opened.{placeOf, blockRow, stepRow}
@@ -29,13 +28,7 @@ fits = record { some = lit< tt; room = refl }
 -- a length that passes row 40 is that of 1 to 65,536 whole blocks
 pub whole-blocks : (n : ℕ) → sizeOk n ≡ true → (0 < n / 512) × (n ≡ 512 * (n / 512)) × (n / 512 ≤ 65536)
 unfolding sizeOk
-whole-blocks n e =
-    let ok = both (not (eqb n 0)) _ e in
-    let ok₁ = both (eqb (n % 512) 0) (leb n 33554432) (ok .1) in
-    let some = eqb-false n 0 (not-true (eqb n 0) (ok .0)) in
-    let whole = eqb-true (n % 512) 0 (ok₁ .0) in
-    let most = leb-true n 33554432 (ok₁ .1) in
-    (omega arith, omega arith, omega arith)
+whole-blocks = whole-length 65536
 
 -- blocks that pass rows 41 to 43
 module _ (d : List ℕ) (some : 0 < length d / 512) (blocks : first (blockRow d) 0 (length d / 512) ≡ fine) where
@@ -93,24 +86,11 @@ module _ (d : List ℕ) (test : formTest d ≡ fine) where
   unfolding decodeSteps
   steps-read = rw test
 
-  -- every block but the last is full
-  full-block : (j : ℕ) → suc j < length d / 512 → getD (blockAt d j) 1 0 ≡ 126
-  full-block j h =
-      let more : eqb (suc j) (length d / 512) ≡ false = ne-eqb (suc j) (length d / 512) (λ q. omega arith) in
-      let ok = passed derivations (blockAt d j) j _ (block-fine d (size-met .0) blocks-met j (omega arith)) in
-      eqb-true (getD (blockAt d j) 1 0) 126 (rw more at (ok .full))
-
   -- the block of a step, and the step's place in it
   pub block-of : (k : ℕ) → k < recordsIn derivations d → (k / 126 < length d / 512) × (k % 126 < getD (blockAt d (k / 126)) 1 0)
-  unfolding recordsIn
   block-of k h =
-      let m : ℕ = length d / 512 in
-      let j : k / 126 < m = omega (arith, size-met .0, last-passed d (size-met .0) blocks-met .most) in (
-        j,
-        by-last (k / 126) m j
-            (λ e. let q : m - 1 ≡ k / 126 = omega arith in omega (arith, rw q at h))
-            (λ e. omega (arith, full-block (k / 126) e)),
-      )
+      let b = record-block derivations fits d (length d / 512) (size-met .1) (size-met .0) (block-fine d (size-met .0) blocks-met) k h in
+      (b .0, omega (arith, b .1))
 
   -- behind the last step there is no block, or the block's count is reached
   pub block-past : (k : ℕ) → recordsIn derivations d ≤ k → k / 126 < length d / 512 → getD (blockAt d (k / 126)) 1 0 ≤ k % 126

@@ -1,24 +1,21 @@
 -- The rows of a derivation's form as the code meets them: of a step, of a block, of the whole, then the answer of the count.
 -- Assumes nothing.
-use mathlib.Core.Path.{_≡_, _∙_, ap}
+use mathlib.Core.Path.{_≡_, ap}
 use mathlib.Core.List.{List}
 use mathlib.Core.Logic.{_⊎_, inl, inr}
 use mathlib.Core.Bool.{true, false}
-use Prim.Native.Nat.{ℕ, _+_, _-_, _*_, _/_}
-use native.Mathlib.Nat.{add-sub-cancel-left}
-use native.Mathlib.Numerals.{add-one}
+use Prim.Native.Nat.{ℕ, _/_}
 use lib.Dec.{eqb, leb, lit<, lit≤}
-use lib.ListN.{length, getD, take, drop}
-use lib.Seq.{getD-take, getD-drop}
+use lib.ListN.{length}
 use borrow.Author.Tests.{ne-eqb}
 use Rattle.scope.specs.declared.Format.{Format}
-use Rattle.scope.specs.Outcome.{Outcome, answer, refused, fine, first}
-use Rattle.scope.specs.Block.{blockTest, blockAt, recordAt, recordsIn}
+use Rattle.scope.specs.Outcome.{answer, refused, fine, first}
+use Rattle.scope.specs.Block.{recordsIn}
 use Rattle.scope.proofs.Lists.{length-listFrom}
 use Rattle.block.specs.Format.{Fitting}
 use Rattle.rules.specs.declared.Step.{Step}
 use Rattle.rules.specs.Steps.{derivations, stepAt, stepOk, sizeOk, formTest, decodeSteps}
-use Rattle.steps.specs.Opened.{placeOf, blockRow, stepRow, stepCount}
+use Rattle.steps.specs.Opened.{blockRow, stepRow, stepCount}
 
 -- the letters of the rules without a position, as the code's branches name them
 abbrev Plain : ℕ → Type 0
@@ -48,27 +45,8 @@ module _ (s : Step) where
         ne-eqb (s .rule) 85 (λ e. p (inr (inr (inr e)))),
       )
 
--- the part of a derivation from a step's place on is its record
-pub part-record : (d : List ℕ) (k at : ℕ) → at ≡ placeOf k → take (at + 4 - at) (drop at d) ≡ recordAt derivations d k
-unfolding recordAt
-part-record d k at e = simp (add-sub-cancel-left, e)
-
 pub fitting : (F : Format) → F ≡ derivations → Fitting F
 fitting F e = rw e (record { room = lit≤ tt; numbered = lit< tt })
-
--- the test of block j, as the code asks it
-pub block-tested : (d : List ℕ) (j : ℕ) (F : Format) (o : Outcome (Unit {0})) → F ≡ derivations
-    → o ≡ blockTest F (take (512 * j + 512 - 512 * j) (drop (512 * j) d)) j (eqb (j + 1) (length d / 512)) → o ≡ blockRow d j
-block-tested d j F o e q = q ∙ simp (e, add-sub-cancel-left, add-one)
-
--- the count that block j states stands in its second byte
-pub count-at : (d : List ℕ) (j : ℕ) → getD (blockAt d j) 1 0 ≡ getD d (512 * j + 1) 0
-count-at d j = getD-take 512 (drop (512 * j) d) 1 0 (lit< tt) ∙ getD-drop (512 * j) d 1 0
-
--- the count that all blocks state, by its parts
-pub count-parts : (d : List ℕ) → recordsIn derivations d ≡ 126 * (length d / 512 - 1) + getD d (512 * (length d / 512 - 1) + 1) 0
-unfolding recordsIn
-count-parts d = rw (count-at d (length d / 512 - 1))
 
 -- row 44 of step k: met, or the refusal
 module _ (d : List ℕ) (k : ℕ) where

@@ -4,11 +4,9 @@ use mathlib.Core.List.{List}
 use mathlib.Core.Bool.{Bool, true, false, not, _||_}
 use Prim.Native.Nat.{ℕ, suc, _+_, _-_, _*_, _/_, _%_, _<_, _≤_}
 use native.Mathlib.Nat.{add-sub-cancel-left, zero-add}
-use native.Mathlib.Numerals.{add-one}
 use native.Mathlib.Omega.{arith}
 use lib.Dec.{eqb, ltb, lit<, lit≤}
-use lib.ListN.{length, getD, take, drop}
-use lib.Seq.{getD-take, getD-drop}
+use lib.ListN.{length, getD}
 use borrow.Author.Tests.{ne-eqb, eqb-true, lt-ltb, le-ltb}
 use Rattle.scope.specs.declared.Format.{Format}
 use Rattle.scope.specs.declared.Node.{Node}
@@ -21,6 +19,7 @@ use Rattle.scope.specs.Table.{tables, nodeAt, readRecord, repeats, recordTest, 
 use Rattle.scope.specs.Calls.{tableCount, tableRecord, noNode}
 use Rattle.scope.proofs.Tests.{refused-no, then-first, bound, passed-on}
 use Rattle.scope.proofs.Lists.{length-listFrom, getD-listFrom}
+use Rattle.scope.proofs.Records.{count-at}
 use Rattle.block.specs.Format.{Fitting}
 use Rattle.record.specs.declared.Read.{Read}
 use Rattle.record.specs.declared.Read.the-variants.{Refused as Unread}
@@ -30,11 +29,6 @@ use Rattle.codec.proofs.Blocks.{passed}
 use Rattle.codec.proofs.Tables.{answers, length-ok, few-records, block-of, record-reads}
 use Rattle.repeats.specs.Chains.{placeOf, Chains}
 use Rattle.table.specs.Counted.{Tested}
-
--- the part of a table from a record's place on is its record
-pub part-record : (t : List ℕ) (n at : ℕ) → at ≡ placeOf n → take (at + 8 - at) (drop at t) ≡ recordAt tables t n
-unfolding recordAt
-part-record t n at e = simp (add-sub-cancel-left, e)
 
 -- a refusal is the verdict of the tests, and nothing is said of the chains
 pub refuses : (t head next : List ℕ) (v : Verdict) (tests : Outcome (Unit {0})) (n : ℕ) {number place : ℕ}
@@ -64,19 +58,12 @@ passes-on t head next n m v r f p q e =
 pub fitting : (F : Format) → F ≡ tables → Fitting F
 fitting F e = rw e (record { room = lit≤ tt; numbered = lit< tt })
 
--- block j: its test, as the code asks it
+-- block j: its test
 module _ (t : List ℕ) (j : ℕ) where
   abbrev pub BlockTest : Outcome (Unit {0})
   BlockTest = blockTest tables (blockAt t j) j (eqb (suc j) (length t / 512))
 
-  pub block-tested : (F : Format) (o : Outcome (Unit {0})) → F ≡ tables
-      → o ≡ blockTest F (take (512 * j + 512 - 512 * j) (drop (512 * j) t)) j (eqb (j + 1) (length t / 512)) → o ≡ BlockTest
-  block-tested F o e q = q ∙ simp (e, add-sub-cancel-left, add-one)
-
-  -- the count that the block states, and how large it is
-  pub count-at : getD (blockAt t j) 1 0 ≡ getD t (512 * j + 1) 0
-  count-at = getD-take 512 (drop (512 * j) t) 1 0 (lit< tt) ∙ getD-drop (512 * j) t 1 0
-
+  -- how large the count is that the block states
   pub count-most : BlockTest ≡ fine → getD t (512 * j + 1) 0 ≤ 63
   count-most e = rw count-at at (passed tables (blockAt t j) j (eqb (suc j) (length t / 512)) e .most)
 
@@ -103,7 +90,7 @@ module _ (t : List ℕ) (j : ℕ) where
       → Tested t head next v (first (recordTest t) (63 * j) (63 * j + k - 63 * j)) (63 * j + k)
       → Tested t head next v (blockRows t j) (63 * j + getD (blockAt t j) 1 0)
   block-entered head next v k e q h =
-      let s : getD (blockAt t j) 1 0 ≡ k = count-at ∙ sym q in
+      let s : getD (blockAt t j) 1 0 ≡ k = count-at t j ∙ sym q in
       rw (block-fine e, s) (simp add-sub-cancel-left at h)
 
   -- the nodes of a full block are those before the next one
@@ -142,11 +129,6 @@ module _ (t : List ℕ) where
       let a = answers t (b .0) (b .1) in
       let same : length (b .0) ≡ n = cc (b .2) in
       (a .0, sym same ∙ ap length (a .1) ∙ length-listFrom (nodeAt t) (recordsIn tables t) 0)
-
-  -- the count by its parts, as the code finds it
-  pub count-parts : recordsIn tables t ≡ 63 * (length t / 512 - 1) + getD t (512 * (length t / 512 - 1) + 1) 0
-  unfolding recordsIn
-  count-parts = rw (count-at t (length t / 512 - 1))
 
   -- the record of a literal: a refusal of the count; 20; the record
   module _ (l : ℕ) where

@@ -2,8 +2,8 @@
 use mathlib.Core.Path.{_≡_, _∙_, ap, sym, refl}
 use mathlib.Core.List.{List, [], _∷_, _++_}
 use mathlib.Core.Bool.{Bool, true, false, cond}
-use Prim.Native.Nat.{ℕ, zero, suc, _+_, _-_, _<_, _≤_}
-use native.Mathlib.Nat.{add-zero, zero-add, add-suc, suc-add}
+use Prim.Native.Nat.{ℕ, suc, _+_, _<_, _≤_}
+use native.Mathlib.Nat.{zero-add}
 use native.Mathlib.Numerals.{add-one}
 use native.Mathlib.Omega.{arith}
 use lib.Dec.{eqb}
@@ -14,6 +14,7 @@ use Rattle.scope.specs.declared.Node.{Node}
 use Rattle.scope.specs.Block.{recordAt, recordsIn}
 use Rattle.scope.specs.Table.{tables, nodeAt, listFrom}
 use Rattle.scope.specs.Truth.{litTruth, joined, nodeTruth, truthsFrom}
+use Rattle.scope.proofs.Lists.{listFrom-more}
 use Rattle.codec.specs.Valid.{Bytes}
 use Rattle.codec.proofs.Tables.{few-records, record-reads}
 use Rattle.repeats.specs.Chains.{placeOf}
@@ -21,13 +22,6 @@ use Rattle.table.proofs.Rows.{record-within}
 use Rattle.truth.specs.Evaluated.{Low, Evaluable}
 use Rattle.truth.proofs.Truths.{truths-more, lit-take}
 use Rattle.truth.proofs.Low.{reads-low}
-
--- one element more
-listFrom-more : {A : Type 0} (f : ℕ → A) (n i : ℕ) → listFrom f i (suc n) ≡ listFrom f i n ++ f (i + n) ∷ []
-unfolding listFrom
-listFrom-more f zero i = ap (λ (j : ℕ). f j ∷ []) (sym (add-zero i))
-listFrom-more f (suc n) i =
-    ap (f i ∷_) (listFrom-more f n (suc i) ∙ ap (λ (j : ℕ). listFrom f (suc i) n ++ f j ∷ []) (suc-add i n ∙ sym (add-suc i n)))
 
 -- what stands in the second place matters where the test fails
 cond-same : (b x : Bool) {y z : Bool} → (b ≡ false → y ≡ z) → cond b x y ≡ cond b x z

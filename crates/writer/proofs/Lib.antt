@@ -2,3 +2,4 @@
 pub mod Copies
 pub mod Seals
 pub mod Grows
+pub mod Parts

@@ -2,12 +2,12 @@
 -- Assumes nothing.
 use mathlib.Core.Path.{_≡_, _∙_, refl}
 use mathlib.Core.List.{List, [], _∷_, _++_, append-nil}
-use Prim.Native.Nat.{ℕ, zero, suc, _+_, _-_, _%_, _/_, _≤_}
-use native.Mathlib.Nat.{le-refl}
+use Prim.Native.Nat.{ℕ, _+_, _-_, _%_, _/_, _≤_}
 use native.Mathlib.Omega.{arith}
 use lib.ListN.{length, set, take, drop, replicate, drop-of-length-le, length-append, length-replicate}
-use lib.Seq.{paste, sets-eq, getD-take, take-append-le}
-use Rattle.scope.specs.Block.{weighted, checkOf, wordBytes, seal, blockOf}
+use lib.Seq.{paste, sets-eq, take-append-le}
+use Rattle.scope.specs.Block.{checkOf, wordBytes, seal, blockOf}
+use Rattle.scope.proofs.Seals.{seal-same}
 use Rattle.writer.proofs.Copies.{copy-into-zeros}
 
 -- two stores at the end
@@ -22,21 +22,7 @@ pub check-stored : {check : ℕ} (b : List ℕ) → check ≡ checkOf b → leng
 unfolding seal
 check-stored b e h = rw (← e) (last-two b _ _ h)
 
--- the check depends only on the bytes that it weighs
-weighted-take : (n m : ℕ) (b : List ℕ) → n ≤ m → weighted (take m b) n ≡ weighted b n
-unfolding weighted
-weighted-take zero m b h = refl
-weighted-take (suc n) m b h = rw (weighted-take n m b (omega arith), getD-take m b n 0 h)
-
-pub check-same : (a b : List ℕ) → take 510 a ≡ take 510 b → checkOf a ≡ checkOf b
-unfolding checkOf
-check-same a b e = rw (← weighted-take 510 510 a (le-refl 510), e, weighted-take 510 510 b (le-refl 510))
-
-pub seal-same : (a b : List ℕ) → take 510 a ≡ take 510 b → seal a ≡ seal b
-unfolding seal
-seal-same a b e = rw (e, check-same a b e)
-
--- what stands after these bytes does not count
+-- what stands after the first 510 bytes does not count
 pub seal-front : (a w : List ℕ) → 510 ≤ length a → seal (a ++ w) ≡ seal a
 seal-front a w h = seal-same (a ++ w) a (take-append-le 510 a w h)
 

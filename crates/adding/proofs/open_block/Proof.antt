@@ -1,7 +1,7 @@
 -- `adding::open_block` meets its contract: the part from the used length on is lent, and comes back with a block at its start.
 -- Assumes nothing.
 use Rattle.scope.specs.Block.{blockOf}
-use Rattle.adding.proofs.Buffers.{part-back}
+use Rattle.writer.proofs.Parts.{part-back}
 use native.Mathlib.Omega.{arith}
 use borrow.Author.Needs.{needs}
 use Rattle.adding.proofs.open_block.Statement.{statement}

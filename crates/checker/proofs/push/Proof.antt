@@ -1,10 +1,8 @@
 -- `checker::push` meets its contract. The clauses are appended, and then the literal joins the trail. Assumes nothing.
-use Prim.Native.Nat.{_/_}
-use native.Mathlib.Omega.{arith}
 use borrow.Author.Needs.{needs}
+use Rattle.calculus.proofs.Sizes.{expand-few}
 use Rattle.index.specs.Index.{indexNode}
 use Rattle.checker.proofs.Stores.{enter-ready, joined-is}
-use Rattle.checker.proofs.Appends.{expand-few}
 use Rattle.checker.proofs.push.Statement.{statement}
 use Rattle.checker.proofs.push.Tie as tie
 
@@ -23,7 +21,7 @@ returns : tie.Need-returns
 returns c =
     let s = c .before .before .before .before .before .before .before .before .before .before in
     let l = s .args .l in
-    joined-is (c .before .before .before .before .before .before .append .ensures) (s .pre .1 .0 .1) (expand-few (indexNode (s .args .x .now)) l (s .pre .0 .table .kinds (l / 2) (omega (arith, s .pre .1 .1 .1 .0)) .1)) (c .before .before .enter .ensures)
+    joined-is (c .before .before .before .before .before .before .append .ensures) (s .pre .1 .0 .1) (expand-few (indexNode (s .args .x .now)) l) (c .before .before .enter .ensures)
 
 pub push-spec : {M : Type 1} → statement M
 push-spec = tie.close (tie.spec append-requires enter-requires same-length returns)

@@ -5,258 +5,87 @@ use native.Mathlib.Omega.{arith}
 use lib.ListN.{length-set}
 use Rattle.index.specs.Index.{indexNode}
 use Rattle.checker.specs.Work.{depth}
-use Rattle.checker.proofs.Ruled.{opened, open-depth, open-size, open-count, open-literals, open-reaches, shrink-ready, restores}
+use Rattle.checker.proofs.Ruled.{Opened, opened, Restorable, restorable, open-reaches, shrink-ready, restores}
 use Rattle.checker.proofs.restore.Statement.{statement}
 use Rattle.checker.proofs.restore.Tie as tie
 
+-- a split is open
+open-split : (s : tie.Start) → Opened (indexNode (s .args .x .now)) (s .args .n) (s .args .work .now)
+open-split s = opened (indexNode (s .args .x .now)) (s .args .n) (s .args .work .now) (s .pre .0 .few) (s .pre .1 .0) (s .pre .1 .1)
+
+low : (s : tie.Start) → Restorable (s .args .n) (s .args .work .now)
+low s = restorable (indexNode (s .args .x .now)) (s .args .n) (s .args .work .now) (s .pre .0 .few) (open-split s)
+
 slice-read-d : tie.Need-slice-read-d
-slice-read-d c =
-    let s = c .before .before .before in
-    let t = indexNode (s .args .x .now) in
-    let w = s .args .work .now in
-    let few = s .pre .0 .few in
-    let o = opened t (s .args .n) w few (s .pre .1 .0) (s .pre .1 .1) in
-    let d = open-depth t (s .args .n) w few o in
-    let z = open-size t (s .args .n) w few o in
-    omega (arith, d .0, d .1, z, few)
+slice-read-d c = omega (arith, low (c .before .before .before))
 
 sub-d : tie.Need-sub-d
-sub-d c =
-    let s = c .before .before .before in
-    let t = indexNode (s .args .x .now) in
-    let w = s .args .work .now in
-    let few = s .pre .0 .few in
-    let o = opened t (s .args .n) w few (s .pre .1 .0) (s .pre .1 .1) in
-    let d = open-depth t (s .args .n) w few o in
-    let z = open-size t (s .args .n) w few o in
-    omega (arith, d .0, d .1, z, few)
+sub-d c = omega (arith, low (c .before .before .before))
 
 cast-d : tie.Need-cast-d
-cast-d c =
-    let s = c .before .before .before in
-    let t = indexNode (s .args .x .now) in
-    let w = s .args .work .now in
-    let few = s .pre .0 .few in
-    let o = opened t (s .args .n) w few (s .pre .1 .0) (s .pre .1 .1) in
-    let d = open-depth t (s .args .n) w few o in
-    let z = open-size t (s .args .n) w few o in
-    omega (arith, d .0, d .1, z, few)
+cast-d c = omega (arith, low (c .before .before .before))
 
 add-c : tie.Need-add-c
-add-c c =
-    let s = c .before .before .before in
-    let t = indexNode (s .args .x .now) in
-    let w = s .args .work .now in
-    let few = s .pre .0 .few in
-    let o = opened t (s .args .n) w few (s .pre .1 .0) (s .pre .1 .1) in
-    let d = open-depth t (s .args .n) w few o in
-    let z = open-size t (s .args .n) w few o in
-    omega (arith, d .0, d .1, z, few)
+add-c c = omega (arith, low (c .before .before .before))
 
 mul-c : tie.Need-mul-c
-mul-c c =
-    let s = c .before .before .before in
-    let t = indexNode (s .args .x .now) in
-    let w = s .args .work .now in
-    let few = s .pre .0 .few in
-    let o = opened t (s .args .n) w few (s .pre .1 .0) (s .pre .1 .1) in
-    let d = open-depth t (s .args .n) w few o in
-    let z = open-size t (s .args .n) w few o in
-    omega (arith, d .0, d .1, z, few)
+mul-c c = omega (arith, low (c .before .before .before))
 
 slice-read-c : tie.Need-slice-read-c
-slice-read-c c =
-    let s = c .before .before .before .before in
-    let t = indexNode (s .args .x .now) in
-    let w = s .args .work .now in
-    let few = s .pre .0 .few in
-    let o = opened t (s .args .n) w few (s .pre .1 .0) (s .pre .1 .1) in
-    let d = open-depth t (s .args .n) w few o in
-    let z = open-size t (s .args .n) w few o in
-    omega (arith, d .0, d .1, z, few)
+slice-read-c c = omega (arith, low (c .before .before .before .before))
 
 add-mark : tie.Need-add-mark
-add-mark c =
-    let s = c .before .before .before .before in
-    let t = indexNode (s .args .x .now) in
-    let w = s .args .work .now in
-    let few = s .pre .0 .few in
-    let o = opened t (s .args .n) w few (s .pre .1 .0) (s .pre .1 .1) in
-    let d = open-depth t (s .args .n) w few o in
-    let z = open-size t (s .args .n) w few o in
-    omega (arith, d .0, d .1, z, few)
+add-mark c = omega (arith, low (c .before .before .before .before))
 
 mul-mark : tie.Need-mul-mark
-mul-mark c =
-    let s = c .before .before .before .before in
-    let t = indexNode (s .args .x .now) in
-    let w = s .args .work .now in
-    let few = s .pre .0 .few in
-    let o = opened t (s .args .n) w few (s .pre .1 .0) (s .pre .1 .1) in
-    let d = open-depth t (s .args .n) w few o in
-    let z = open-size t (s .args .n) w few o in
-    omega (arith, d .0, d .1, z, few)
+mul-mark c = omega (arith, low (c .before .before .before .before))
 
 slice-read-mark : tie.Need-slice-read-mark
-slice-read-mark c =
-    let s = c .before .before .before .before .before in
-    let t = indexNode (s .args .x .now) in
-    let w = s .args .work .now in
-    let few = s .pre .0 .few in
-    let o = opened t (s .args .n) w few (s .pre .1 .0) (s .pre .1 .1) in
-    let d = open-depth t (s .args .n) w few o in
-    let z = open-size t (s .args .n) w few o in
-    omega (arith, d .0, d .1, z, few)
+slice-read-mark c = omega (arith, low (c .before .before .before .before .before))
 
 cast-l : tie.Need-cast-l
-cast-l c =
-    let s = c .before .before .before .before .before in
-    let t = indexNode (s .args .x .now) in
-    let w = s .args .work .now in
-    let few = s .pre .0 .few in
-    let o = opened t (s .args .n) w few (s .pre .1 .0) (s .pre .1 .1) in
-    let d = open-depth t (s .args .n) w few o in
-    let z = open-size t (s .args .n) w few o in
-    let q = open-count t (s .args .n) w few o (depth w - 1) refl in
-    let m = open-literals t (s .args .n) w few o in
-    omega (arith, d .0, d .1, z, few, q, m)
+cast-l c = omega (arith, low (c .before .before .before .before .before))
 
 add-l : tie.Need-add-l
-add-l c =
-    let s = c .before .before .before .before .before in
-    let t = indexNode (s .args .x .now) in
-    let w = s .args .work .now in
-    let few = s .pre .0 .few in
-    let o = opened t (s .args .n) w few (s .pre .1 .0) (s .pre .1 .1) in
-    let d = open-depth t (s .args .n) w few o in
-    let z = open-size t (s .args .n) w few o in
-    let q = open-count t (s .args .n) w few o (depth w - 1) refl in
-    let m = open-literals t (s .args .n) w few o in
-    omega (arith, d .0, d .1, z, few, q, m)
+add-l c = omega (arith, low (c .before .before .before .before .before))
 
 add-l-2 : tie.Need-add-l-2
-add-l-2 c =
-    let s = c .before .before .before .before .before in
-    let t = indexNode (s .args .x .now) in
-    let w = s .args .work .now in
-    let few = s .pre .0 .few in
-    let o = opened t (s .args .n) w few (s .pre .1 .0) (s .pre .1 .1) in
-    let d = open-depth t (s .args .n) w few o in
-    let z = open-size t (s .args .n) w few o in
-    let q = open-count t (s .args .n) w few o (depth w - 1) refl in
-    let m = open-literals t (s .args .n) w few o in
-    omega (arith, d .0, d .1, z, few, q, m)
+add-l-2 c = omega (arith, low (c .before .before .before .before .before))
 
 mul-l : tie.Need-mul-l
-mul-l c =
-    let s = c .before .before .before .before .before in
-    let t = indexNode (s .args .x .now) in
-    let w = s .args .work .now in
-    let few = s .pre .0 .few in
-    let o = opened t (s .args .n) w few (s .pre .1 .0) (s .pre .1 .1) in
-    let d = open-depth t (s .args .n) w few o in
-    let z = open-size t (s .args .n) w few o in
-    let q = open-count t (s .args .n) w few o (depth w - 1) refl in
-    let m = open-literals t (s .args .n) w few o in
-    omega (arith, d .0, d .1, z, few, q, m)
+mul-l c = omega (arith, low (c .before .before .before .before .before))
 
 slice-read-l : tie.Need-slice-read-l
-slice-read-l c =
-    let s = c .before .before .before .before .before .before in
-    let t = indexNode (s .args .x .now) in
-    let w = s .args .work .now in
-    let few = s .pre .0 .few in
-    let o = opened t (s .args .n) w few (s .pre .1 .0) (s .pre .1 .1) in
-    let d = open-depth t (s .args .n) w few o in
-    let z = open-size t (s .args .n) w few o in
-    let q = open-count t (s .args .n) w few o (depth w - 1) refl in
-    let m = open-literals t (s .args .n) w few o in
-    omega (arith, d .0, d .1, z, few, q, m)
+slice-read-l c = omega (arith, low (c .before .before .before .before .before .before))
 
 unwind-requires : tie.Need-unwind-requires
 unwind-requires c κs =
     let s = c .before .before .before .before .before .before .before in
-    let t = indexNode (s .args .x .now) in
     let w = s .args .work .now in
-    let few = s .pre .0 .few in
-    let o = opened t (s .args .n) w few (s .pre .1 .0) (s .pre .1 .1) in
-    let z = open-size t (s .args .n) w few o in
-    (z, open-reaches t (s .args .n) w few o (depth w - 1) refl)
+    (low s .size, open-reaches (indexNode (s .args .x .now)) (s .args .n) w (s .pre .0 .few) (open-split s) (depth w - 1) refl)
 
 shrink-requires : tie.Need-shrink-requires
 shrink-requires c κs =
     let s = c .before .before .before .before .before .before .before .before .before .before .before in
-    let t = indexNode (s .args .x .now) in
-    let w = s .args .work .now in
-    let few = s .pre .0 .few in
-    let o = opened t (s .args .n) w few (s .pre .1 .0) (s .pre .1 .1) in
-    shrink-ready t (s .args .n) w few o refl (c .before .before .before .unwind .ensures)
+    shrink-ready (indexNode (s .args .x .now)) (s .args .n) (s .args .work .now) (s .pre .0 .few) (open-split s) refl (c .before .before .before .unwind .ensures)
 
 add-work : tie.Need-add-work
-add-work c =
-    let s = c .before .before .before .before .before .before .before .before .before .before .before .before .before .before in
-    let t = indexNode (s .args .x .now) in
-    let w = s .args .work .now in
-    let few = s .pre .0 .few in
-    let o = opened t (s .args .n) w few (s .pre .1 .0) (s .pre .1 .1) in
-    let d = open-depth t (s .args .n) w few o in
-    let z = open-size t (s .args .n) w few o in
-    omega (arith, d .0, d .1, z, few)
+add-work c = omega (arith, low (c .before .before .before .before .before .before .before .before .before .before .before .before .before .before))
 
 mul-work : tie.Need-mul-work
-mul-work c =
-    let s = c .before .before .before .before .before .before .before .before .before .before .before .before .before .before in
-    let t = indexNode (s .args .x .now) in
-    let w = s .args .work .now in
-    let few = s .pre .0 .few in
-    let o = opened t (s .args .n) w few (s .pre .1 .0) (s .pre .1 .1) in
-    let d = open-depth t (s .args .n) w few o in
-    let z = open-size t (s .args .n) w few o in
-    omega (arith, d .0, d .1, z, few)
+mul-work c = omega (arith, low (c .before .before .before .before .before .before .before .before .before .before .before .before .before .before))
 
 slice-read-work : tie.Need-slice-read-work
-slice-read-work c =
-    let s = c .before .before .before .before .before .before .before .before .before .before .before .before .before .before .before in
-    let t = indexNode (s .args .x .now) in
-    let w = s .args .work .now in
-    let few = s .pre .0 .few in
-    let o = opened t (s .args .n) w few (s .pre .1 .0) (s .pre .1 .1) in
-    let d = open-depth t (s .args .n) w few o in
-    let z = open-size t (s .args .n) w few o in
-    omega (arith, d .0, d .1, z, few, c .before .before .before .before .before .before .before .unwind .ensures .size, c .before .before .before .shrink .ensures .size)
+slice-read-work c = omega (arith, low (c .before .before .before .before .before .before .before .before .before .before .before .before .before .before .before), c .before .before .before .before .before .before .before .unwind .ensures .size, c .before .before .before .shrink .ensures .size)
 
 slice-write-work : tie.Need-slice-write-work
-slice-write-work c =
-    let s = c .before .before .before .before .before .before .before .before .before .before .before .before .before .before .before in
-    let t = indexNode (s .args .x .now) in
-    let w = s .args .work .now in
-    let few = s .pre .0 .few in
-    let o = opened t (s .args .n) w few (s .pre .1 .0) (s .pre .1 .1) in
-    let d = open-depth t (s .args .n) w few o in
-    let z = open-size t (s .args .n) w few o in
-    omega (arith, d .0, d .1, z, few, c .before .before .before .before .before .before .before .unwind .ensures .size, c .before .before .before .shrink .ensures .size)
+slice-write-work c = omega (arith, low (c .before .before .before .before .before .before .before .before .before .before .before .before .before .before .before), c .before .before .before .before .before .before .before .unwind .ensures .size, c .before .before .before .shrink .ensures .size)
 
 cast-work : tie.Need-cast-work
-cast-work c =
-    let s = c .before .before .before .before .before .before .before .before .before .before .before .before .before .before .before in
-    let t = indexNode (s .args .x .now) in
-    let w = s .args .work .now in
-    let few = s .pre .0 .few in
-    let o = opened t (s .args .n) w few (s .pre .1 .0) (s .pre .1 .1) in
-    let d = open-depth t (s .args .n) w few o in
-    let z = open-size t (s .args .n) w few o in
-    omega (arith, d .0, d .1, z, few, c .before .before .before .before .before .before .before .unwind .ensures .size, c .before .before .before .shrink .ensures .size)
+cast-work c = omega (arith, low (c .before .before .before .before .before .before .before .before .before .before .before .before .before .before .before), c .before .before .before .before .before .before .before .unwind .ensures .size, c .before .before .before .shrink .ensures .size)
 
 slice-write-work-2 : tie.Need-slice-write-work-2
-slice-write-work-2 c =
-    let s = c .before .before .before .before .before .before .before .before .before .before .before .before .before .before .before in
-    let t = indexNode (s .args .x .now) in
-    let w = s .args .work .now in
-    let few = s .pre .0 .few in
-    let o = opened t (s .args .n) w few (s .pre .1 .0) (s .pre .1 .1) in
-    let d = open-depth t (s .args .n) w few o in
-    let z = open-size t (s .args .n) w few o in
-    simp length-set (omega (arith, d .0, d .1, z, few, c .before .before .before .before .before .before .before .unwind .ensures .size, c .before .before .before .shrink .ensures .size))
+slice-write-work-2 c = simp length-set (omega (arith, low (c .before .before .before .before .before .before .before .before .before .before .before .before .before .before .before), c .before .before .before .before .before .before .before .unwind .ensures .size, c .before .before .before .shrink .ensures .size))
 
 same-length : tie.Need-same-length
 same-length c = simp length-set (c .before .before .before .shrink .ensures .size ∙ c .before .before .before .before .before .before .before .unwind .ensures .size)

@@ -1,11 +1,17 @@
 -- `checker::rule_c` meets its contract. Each test that fails is one of the rule's conditions; past them the newest split turns right. Assumes nothing.
-use mathlib.Core.Path.{sym, _∙_}
+use mathlib.Core.Path.{_≡_, sym, _∙_}
+use mathlib.Core.Bool.{true}
 use borrow.Author.Tests.{not-true, not-false}
 use borrow.Author.Needs.{needs}
 use Rattle.index.specs.Index.{indexNode}
+use Rattle.checker.specs.Work.{standsIn}
 use Rattle.checker.proofs.Ruled.{size-of, stands-ready, number-of, c-falls, c-lacks, c-turns}
 use Rattle.checker.proofs.rule_c.Statement.{statement}
 use Rattle.checker.proofs.rule_c.Tie as tie
+
+-- the clause stands
+stood : (c : tie.Else1) → standsIn (c .before .before .before .before .before .args .work .now) (c .before .before .before .before .before .args .k) ≡ true
+stood c = sym (c .before .stands .ensures) ∙ not-false _ (c .if1 .left)
 
 stands-requires : tie.Need-stands-requires
 stands-requires c κs =
@@ -28,7 +34,7 @@ remaining-requires : tie.Need-remaining-requires
 remaining-requires c κs =
     let s = c .before .before .before .before .before .before in
     let few = s .pre .0 .few in
-    let st = sym (c .before .before .stands .ensures) ∙ not-false _ (c .before .if1 .left) in
+    let st = stood (c .before) in
     (size-of few (s .pre .1), number-of few (s .pre .1) (s .args .k) st)
 
 same-length-2 : tie.Need-same-length-2
@@ -40,7 +46,7 @@ returns-2 c =
     let t = indexNode (s .args .x .now) in
     let w = s .args .work .now in
     let few = s .pre .0 .few in
-    let st = sym (c .before .before .before .before .before .stands .ensures) ∙ not-false _ (c .before .before .before .before .if1 .left) in
+    let st = stood (c .before .before .before .before) in
     c-lacks t (s .args .n) w few (s .args .k) st (c .before .before .remaining .ensures .0) (c .before .before .remaining .ensures .1) (λ x y. c .if2 .taken x)
 
 same-length-3 : tie.Need-same-length-3
@@ -52,7 +58,7 @@ returns-3 c =
     let t = indexNode (s .args .x .now) in
     let w = s .args .work .now in
     let few = s .pre .0 .few in
-    let st = sym (c .before .before .before .before .before .before .before .stands .ensures) ∙ not-false _ (c .before .before .before .before .before .before .if1 .left) in
+    let st = stood (c .before .before .before .before .before .before) in
     c-lacks t (s .args .n) w few (s .args .k) st (c .before .before .before .before .remaining .ensures .0) (c .before .before .before .before .remaining .ensures .1) (λ x y. c .if3 .taken y)
 
 turn-requires : tie.Need-turn-requires
@@ -67,7 +73,7 @@ returns-4 c =
     let t = indexNode (s .args .x .now) in
     let w = s .args .work .now in
     let few = s .pre .0 .few in
-    let st = sym (c .before .before .before .before .before .before .before .before .before .before .before .stands .ensures) ∙ not-false _ (c .before .before .before .before .before .before .before .before .before .before .if1 .left) in
+    let st = stood (c .before .before .before .before .before .before .before .before .before .before) in
     c-turns t (s .args .n) w few (s .args .k) st (c .before .before .turn .last .1 .1 .0) (c .before .before .turn .result) (c .before .before .before .before .before .before .before .before .remaining .ensures .0) (c .before .before .before .before .before .before .before .before .remaining .ensures .1) (c .before .before .before .before .before .before .if2 .left) (c .before .before .before .before .if3 .left) (c .before .before .turn .ensures)
 
 pub rule-c-spec : {M : Type 1} → statement M

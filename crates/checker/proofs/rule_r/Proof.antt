@@ -1,12 +1,18 @@
 -- `checker::rule_r` meets its contract. Each test that fails is one of the rule's conditions; past them the literal is struck. Assumes nothing.
-use mathlib.Core.Path.{sym, _∙_}
+use mathlib.Core.Path.{_≡_, sym, _∙_}
+use mathlib.Core.Bool.{true}
 use native.Mathlib.Omega.{arith}
 use borrow.Author.Tests.{not-true, not-false}
 use borrow.Author.Needs.{needs}
 use Rattle.index.specs.Index.{indexNode}
-use Rattle.checker.proofs.Ruled.{size-of, trail-of, newest-of, stands-ready, number-of, position-of, pick-below, r-falls, r-lacks, r-repeats, r-refuses, r-runs}
+use Rattle.checker.specs.Work.{standsIn}
+use Rattle.checker.proofs.Ruled.{size-of, trail-of, newest-of, stands-ready, number-of, Strikable, strikable, pick-below, r-falls, r-lacks, r-repeats, r-refuses, r-runs}
 use Rattle.checker.proofs.rule_r.Statement.{statement}
 use Rattle.checker.proofs.rule_r.Tie as tie
+
+-- the clause stands
+stood : (c : tie.Else1) → standsIn (c .before .before .before .before .before .args .work .now) (c .before .before .before .before .before .args .k) ≡ true
+stood c = sym (c .before .stands .ensures) ∙ not-false _ (c .if1 .left)
 
 stands-requires : tie.Need-stands-requires
 stands-requires c κs =
@@ -29,7 +35,7 @@ literal-requires : tie.Need-literal-requires
 literal-requires c κs =
     let s = c .before .before .before .before .before .before in
     let few = s .pre .0 .few in
-    let st = sym (c .before .before .stands .ensures) ∙ not-false _ (c .before .if1 .left) in
+    let st = stood (c .before) in
     (size-of few (s .pre .1), number-of few (s .pre .1) (s .args .k) st)
 
 same-length-2 : tie.Need-same-length-2
@@ -41,63 +47,33 @@ returns-2 c =
     let t = indexNode (s .args .x .now) in
     let w = s .args .work .now in
     let few = s .pre .0 .few in
-    let st = sym (c .before .before .before .before .stands .ensures) ∙ not-false _ (c .before .before .before .if1 .left) in
+    let st = stood (c .before .before .before) in
     let e = c .before .literal .ensures in
     r-lacks t (s .args .n) w few (s .args .k) st (s .args .p) e (c .if2 .taken)
 
-mul-m : tie.Need-mul-m
-mul-m c =
+-- the literal's mark lies within the work area
+low : (c : tie.Else2) → Strikable (c .before .before .before .before .before .before .before .before .args .work .now) (c .before .before .before .before .before .before .before .before .args .k) (c .before .before .before .before .before .before .before .before .args .p)
+low c =
     let s = c .before .before .before .before .before .before .before .before in
-    let few = s .pre .0 .few in
-    let st = sym (c .before .before .before .before .stands .ensures) ∙ not-false _ (c .before .before .before .if1 .left) in
-    let e = c .before .literal .ensures in
-    let low = position-of few (s .pre .1) (s .pre .0 .table) (s .args .k) st (s .args .p) (c .before .literal .result) e (c .if2 .left) in
-    omega (arith, low, number-of few (s .pre .1) (s .args .k) st, size-of few (s .pre .1))
+    strikable (s .pre .0 .few) (s .pre .1) (s .pre .0 .table) (s .args .k) (stood (c .before .before .before)) (s .args .p) (c .before .literal .result) (c .before .literal .ensures) (c .if2 .left)
+
+mul-m : tie.Need-mul-m
+mul-m c = omega (arith, low c)
 
 add-m : tie.Need-add-m
-add-m c =
-    let s = c .before .before .before .before .before .before .before .before in
-    let few = s .pre .0 .few in
-    let st = sym (c .before .before .before .before .stands .ensures) ∙ not-false _ (c .before .before .before .if1 .left) in
-    let e = c .before .literal .ensures in
-    let low = position-of few (s .pre .1) (s .pre .0 .table) (s .args .k) st (s .args .p) (c .before .literal .result) e (c .if2 .left) in
-    omega (arith, low, number-of few (s .pre .1) (s .args .k) st, size-of few (s .pre .1))
+add-m c = omega (arith, low c)
 
 add-m-2 : tie.Need-add-m-2
-add-m-2 c =
-    let s = c .before .before .before .before .before .before .before .before in
-    let few = s .pre .0 .few in
-    let st = sym (c .before .before .before .before .stands .ensures) ∙ not-false _ (c .before .before .before .if1 .left) in
-    let e = c .before .literal .ensures in
-    let low = position-of few (s .pre .1) (s .pre .0 .table) (s .args .k) st (s .args .p) (c .before .literal .result) e (c .if2 .left) in
-    omega (arith, low, number-of few (s .pre .1) (s .args .k) st, size-of few (s .pre .1))
+add-m-2 c = omega (arith, low c)
 
 add-if3 : tie.Need-add-if3
-add-if3 c =
-    let s = c .before .before .before .before .before .before .before .before in
-    let few = s .pre .0 .few in
-    let st = sym (c .before .before .before .before .stands .ensures) ∙ not-false _ (c .before .before .before .if1 .left) in
-    let e = c .before .literal .ensures in
-    let low = position-of few (s .pre .1) (s .pre .0 .table) (s .args .k) st (s .args .p) (c .before .literal .result) e (c .if2 .left) in
-    omega (arith, low, number-of few (s .pre .1) (s .args .k) st, size-of few (s .pre .1))
+add-if3 c = omega (arith, low c)
 
 mul-if3 : tie.Need-mul-if3
-mul-if3 c =
-    let s = c .before .before .before .before .before .before .before .before in
-    let few = s .pre .0 .few in
-    let st = sym (c .before .before .before .before .stands .ensures) ∙ not-false _ (c .before .before .before .if1 .left) in
-    let e = c .before .literal .ensures in
-    let low = position-of few (s .pre .1) (s .pre .0 .table) (s .args .k) st (s .args .p) (c .before .literal .result) e (c .if2 .left) in
-    omega (arith, low, number-of few (s .pre .1) (s .args .k) st, size-of few (s .pre .1))
+mul-if3 c = omega (arith, low c)
 
 slice-read-if3 : tie.Need-slice-read-if3
-slice-read-if3 c =
-    let s = c .before .before .before .before .before .before .before .before .before in
-    let few = s .pre .0 .few in
-    let st = sym (c .before .before .before .before .before .stands .ensures) ∙ not-false _ (c .before .before .before .before .if1 .left) in
-    let e = c .before .before .literal .ensures in
-    let low = position-of few (s .pre .1) (s .pre .0 .table) (s .args .k) st (s .args .p) (c .before .before .literal .result) e (c .before .if2 .left) in
-    omega (arith, low, number-of few (s .pre .1) (s .args .k) st, size-of few (s .pre .1))
+slice-read-if3 c = omega (arith, low (c .before))
 
 same-length-3 : tie.Need-same-length-3
 same-length-3 c = search needs
@@ -108,7 +84,7 @@ returns-3 c =
     let t = indexNode (s .args .x .now) in
     let w = s .args .work .now in
     let few = s .pre .0 .few in
-    let st = sym (c .before .before .before .before .before .before .stands .ensures) ∙ not-false _ (c .before .before .before .before .before .if1 .left) in
+    let st = stood (c .before .before .before .before .before) in
     let e = c .before .before .before .literal .ensures in
     r-repeats t (s .args .n) w few (s .args .k) st (s .args .p) e (c .before .before .if2 .left) (c .if3 .taken)
 
@@ -119,7 +95,7 @@ value-requires : tie.Need-value-requires
 value-requires c κs =
     let s = c .before .before .before .before .before .before .before .before .before .before .before in
     let few = s .pre .0 .few in
-    let st = sym (c .before .before .before .before .before .before .before .stands .ensures) ∙ not-false _ (c .before .before .before .before .before .before .if1 .left) in
+    let st = stood (c .before .before .before .before .before .before) in
     let e = c .before .before .before .before .literal .ensures in
     ((size-of few (s .pre .1), few, pick-below few (s .pre .1) (s .pre .0 .table) (s .args .k) st (s .args .p) (c .before .before .before .before .literal .result) e (c .before .before .before .if2 .left)), trail-of few (s .pre .1) .vals)
 
@@ -132,18 +108,15 @@ returns-4 c =
     let t = indexNode (s .args .x .now) in
     let w = s .args .work .now in
     let few = s .pre .0 .few in
-    let st = sym (c .before .before .before .before .before .before .before .before .before .stands .ensures) ∙ not-false _ (c .before .before .before .before .before .before .before .before .if1 .left) in
+    let st = stood (c .before .before .before .before .before .before .before .before) in
     let e = c .before .before .before .before .before .before .literal .ensures in
     r-refuses t (s .args .n) w few (s .args .k) st (s .args .p) e (c .before .before .before .before .before .if2 .left) (c .before .before .before .if3 .left) (c .before .value .ensures) (c .if4 .taken)
 
 strike-requires : tie.Need-strike-requires
 strike-requires c κs =
     let s = c .before .before .before .before .before .before .before .before .before .before .before .before .before .before in
-    let few = s .pre .0 .few in
-    let st = sym (c .before .before .before .before .before .before .before .before .before .before .stands .ensures) ∙ not-false _ (c .before .before .before .before .before .before .before .before .before .if1 .left) in
-    let e = c .before .before .before .before .before .before .before .literal .ensures in
-    let low = position-of few (s .pre .1) (s .pre .0 .table) (s .args .k) st (s .args .p) (c .before .before .before .before .before .before .before .literal .result) e (c .before .before .before .before .before .before .if2 .left) in
-    (size-of few (s .pre .1), omega (arith, low, number-of few (s .pre .1) (s .args .k) st, size-of few (s .pre .1)), newest-of few (s .pre .1))
+    let m = low (c .before .before .before .before .before .before) in
+    (m .size, omega (arith, m), newest-of (s .pre .0 .few) (s .pre .1))
 
 same-length-5 : tie.Need-same-length-5
 same-length-5 c = search needs
@@ -154,7 +127,7 @@ returns-5 c =
     let t = indexNode (s .args .x .now) in
     let w = s .args .work .now in
     let few = s .pre .0 .few in
-    let st = sym (c .before .before .before .before .before .before .before .before .before .before .before .before .before .stands .ensures) ∙ not-false _ (c .before .before .before .before .before .before .before .before .before .before .before .before .if1 .left) in
+    let st = stood (c .before .before .before .before .before .before .before .before .before .before .before .before) in
     let e = c .before .before .before .before .before .before .before .before .before .before .literal .ensures in
     r-runs t (s .args .n) w few (s .args .k) st (s .args .p) e (c .before .before .before .before .before .before .before .before .before .if2 .left) (c .before .before .before .before .before .before .before .if3 .left) (c .before .before .before .before .before .value .ensures) (c .before .before .before .before .if4 .left) (c .before .before .strike .ensures)
 

@@ -3,7 +3,7 @@ use Prim.Native.Nat.{_+_, _/_, _%_}
 use borrow.Author.Needs.{needs}
 use Rattle.calculus.specs.Order.{valueOf}
 use Rattle.checker.specs.Work.{trailAt, gOf}
-use Rattle.checker.proofs.Stores.{side-none, side-true, side-false}
+use Rattle.trail.proofs.Trails.{side-none, side-true, side-false}
 use Rattle.checker.proofs.value.Statement.{statement}
 use Rattle.checker.proofs.value.Tie as tie
 

@@ -1,12 +1,10 @@
 -- `deciding::decide` meets its contract: a refusal is the first row's that refuses, and else the search decides. Assumes nothing.
 use mathlib.Core.Path.{_≡_, _∙_, ap, sym}
-use Prim.Native.Nat.{_≤_}
 use borrow.Author.Needs.{needs}
 use Rattle.scope.specs.Outcome.{answer, verdictOf}
 use Rattle.scope.specs.Calls.{tableCount}
-use Rattle.codec.proofs.Tables.{few-records}
 use Rattle.table.specs.Counted.{countedOf}
-use Rattle.table.proofs.Rows.{counted}
+use Rattle.deciding.proofs.Nodes.{few-counted}
 use Rattle.deciding.proofs.Answers.{refuses, table-refused, rows-refused, prepared}
 use Rattle.deciding.proofs.decide.Statement.{statement}
 use Rattle.deciding.proofs.decide.Tie as tie
@@ -20,17 +18,12 @@ enum-known-c c = search needs
 enum-known-c-2 : tie.Need-enum-known-c-2
 enum-known-c-2 c = search needs
 
--- the table reads, and has as many nodes as were counted, which are few
+-- the table reads, and has as many nodes as were counted
 answered : (c : tie.After-known-told2) → tableCount (c .before .before .before .before .before .before .before .args .t .now) ≡ answer (c .before .c2 .given .0 .0)
 answered c = sym (c .before .before .before .count .ensures) ∙ ap countedOf (c .before .c2 .given .1)
 
-few : (c : tie.After-known-told2) → c .before .c2 .given .0 .0 ≤ 2016
-few c =
-    let q = counted _ (answered c) in
-    rw (q .1) (few-records _ (λ i. c .before .before .before .before .before .before .shared-slice-known .given i .fits) (q .0))
-
 rows-requires : tie.Need-rows-requires
-rows-requires c κs = few c
+rows-requires c κs = few-counted _ (λ i. c .before .before .before .before .before .before .shared-slice-known .given i .fits) (answered c)
 
 enum-known-v : tie.Need-enum-known-v
 enum-known-v c = search needs

@@ -6,7 +6,8 @@ use lib.ListN.{length}
 use borrow.Author.Needs.{needs}
 use Rattle.codec.specs.Valid.{Bytes}
 use Rattle.solver.specs.Work.{Indexed}
-use Rattle.deciding.proofs.Answers.{few, buildable, goals-of, indexed, pointed, ends-closed, ends-model}
+use Rattle.deciding.proofs.Nodes.{goals-of, few, buildable, indexed}
+use Rattle.deciding.proofs.Answers.{pointed, ends-closed, ends-model}
 use Rattle.deciding.proofs.run.Statement.{statement}
 use Rattle.deciding.proofs.run.Tie as tie
 
@@ -21,7 +22,7 @@ size c = omega (arith, c .build .kept .1 .1 .0)
 index : (c : tie.After-build) → Indexed (c .build .last .1 .1 .0) (c .before .before .before .before .before .args .nodes)
 index c =
     let s = c .before .before .before .before .before in
-    indexed (s .args .t .now) (s .args .nodes) (s .args .goal) (s .args .settings .now) (s .args .work .now) (bytes (c .before .before .before .before)) (s .pre) (c .build .last .1 .1 .0) (size c) (c .build .ensures)
+    indexed (s .args .t .now) (s .args .nodes) (s .pre .readable) (s .pre .all) (bytes (c .before .before .before .before)) (c .build .last .1 .1 .0) (c .build .ensures) (size c)
 
 slice-aggregate-build : tie.Need-slice-aggregate-build
 slice-aggregate-build c = search needs
@@ -29,12 +30,12 @@ slice-aggregate-build c = search needs
 build-requires : tie.Need-build-requires
 build-requires c κs =
     let s = c .before .before .before .before in
-    (buildable (s .args .t .now) (s .args .nodes) (s .args .goal) (s .args .settings .now) (s .args .work .now) (bytes (c .before .before .before)) (s .pre), search needs)
+    (buildable (s .args .t .now) (s .args .nodes) (s .pre .readable) (s .pre .all) (bytes (c .before .before .before)), search needs)
 
 cast-t12 : tie.Need-cast-t12
 cast-t12 c =
     let s = c .before .before .before .before .before .before in
-    omega (arith, few (s .args .t .now) (s .args .nodes) (s .args .goal) (s .args .settings .now) (s .args .work .now) (bytes (c .before .before .before .before .before)) (s .pre), s .pre .inside)
+    omega (arith, few (s .args .t .now) (s .args .nodes) (s .pre .readable) (s .pre .all) (bytes (c .before .before .before .before .before)), s .pre .inside)
 
 slice-aggregate-start : tie.Need-slice-aggregate-start
 slice-aggregate-start c = search needs
@@ -45,7 +46,7 @@ slice-aggregate-start-2 c = search needs
 start-requires : tie.Need-start-requires
 start-requires c κs =
     let s = c .before .before .before .before .before .before .before .before .before in
-    (index (c .before .before .before .before), (goals-of (s .args .t .now) (s .args .nodes) (s .args .goal) (s .args .settings .now) (s .args .work .now) (bytes (c .before .before .before .before .before .before .before .before)) (s .pre), s .pre .area))
+    (index (c .before .before .before .before), (goals-of (s .args .nodes) (s .args .goal) (s .pre .inside), s .pre .area))
 
 slice-aggregate-search : tie.Need-slice-aggregate-search
 slice-aggregate-search c = search needs
@@ -56,7 +57,7 @@ slice-aggregate-search-2 c = search needs
 search-requires : tie.Need-search-requires
 search-requires c κs =
     let s = c .before .before .before .before .before .before .before .before .before .before .before .before .before .before .before in
-    (index (c .before .before .before .before .before .before .before .before .before .before), (goals-of (s .args .t .now) (s .args .nodes) (s .args .goal) (s .args .settings .now) (s .args .work .now) (bytes (c .before .before .before .before .before .before .before .before .before .before .before .before .before .before)) (s .pre), c .before .before .before .before .before .start .ensures .0))
+    (index (c .before .before .before .before .before .before .before .before .before .before), (goals-of (s .args .nodes) (s .args .goal) (s .pre .inside), c .before .before .before .before .before .start .ensures .0))
 
 enum-told : tie.Need-enum-told
 enum-told c = search needs

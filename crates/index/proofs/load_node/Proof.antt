@@ -1,6 +1,9 @@
 -- `index::load_node` meets its contract: the five stores write the node that the record holds. Assumes nothing.
+use mathlib.Core.Path.{_∙_, ap}
 use lib.ListN.{length-set}
-use Rattle.index.proofs.Nodes.{node-read, loaded-more}
+use Rattle.scope.specs.Table.{tables, nodeOf}
+use Rattle.scope.proofs.Records.{part-record}
+use Rattle.index.proofs.Nodes.{loaded-more}
 use native.Mathlib.Omega.{arith}
 use borrow.Author.Needs.{needs}
 use Rattle.index.proofs.load_node.Statement.{statement}
@@ -87,7 +90,7 @@ same-length c = search needs
 returns : tie.Need-returns
 returns c =
     let start = c .before .before .before .before .before .before in
-    loaded-more (start .args .t .now) (start .args .x .now) (start .args .m) (c .before .fields .result) (start .pre .0 .0) (node-read _ _ _ (c .before .fields .ensures) (c .before .before .before .place .ensures)) (start .pre .1)
+    loaded-more (start .args .t .now) (start .args .x .now) (start .args .m) (c .before .fields .result) (start .pre .0 .0) (c .before .fields .ensures ∙ ap nodeOf (part-record tables _ _ _ (c .before .before .before .place .ensures))) (start .pre .1)
 
 pub load-node-spec : {M : Type 1} → statement M
 load-node-spec =

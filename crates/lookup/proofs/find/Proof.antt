@@ -3,9 +3,10 @@ use mathlib.Core.Path.{_≡_, _∙_, ap, sym, refl}
 use Prim.Native.Nat.{ℕ, _+_, _-_, _≤_}
 use native.Mathlib.Nat.{sub-zero, zero-add}
 use Rattle.scope.specs.declared.Node.{Node}
-use Rattle.scope.specs.Table.{sameNode, nodeAt, listFrom}
+use Rattle.scope.specs.Table.{tables, sameNode, nodeOf, nodeAt, listFrom}
 use Rattle.scope.specs.Calls.{indexOf}
-use Rattle.lookup.proofs.Finds.{part-node, found, passed, none}
+use Rattle.scope.proofs.Records.{part-record}
+use Rattle.lookup.proofs.Finds.{found, passed, none}
 use native.Mathlib.Omega.{arith}
 use borrow.Author.Needs.{needs}
 use Rattle.lookup.proofs.find.Statement.{statement}
@@ -21,7 +22,7 @@ abbrev μ-loop : tie.MeasureT-loop
 compared : (c : tie.After-same Inv-loop μ-loop) → c .same .result ≡ sameNode (nodeAt (c .before .before .before .before .before .before .before .args .t .now) (c .before .before .before .before .before .loop .n)) (c .before .before .before .before .before .before .before .args .x)
 compared c =
     let a = c .before .before .before .before .before .before .before .args in
-    c .same .ensures ∙ ap (λ (y : Node). sameNode y (a .x)) (c .before .fields .ensures ∙ part-node (a .t .now) (c .before .before .before .before .before .loop .n) _ (c .before .before .before .place .ensures))
+    c .same .ensures ∙ ap (λ (y : Node). sameNode y (a .x)) (c .before .fields .ensures ∙ ap nodeOf (part-record tables (a .t .now) (c .before .before .before .before .before .loop .n) _ (c .before .before .before .place .ensures)))
 
 loop-holds : tie.Need-loop-holds Inv-loop μ-loop
 loop-holds c = (search needs, simp (sub-zero, zero-add))

@@ -1,7 +1,7 @@
 -- `reader::step_of` meets its contract: its two tests are those of `nextOf`. Assumes nothing.
 use mathlib.Core.Path.{_∙_, ap, sym}
 use Prim.Native.Nat.{_*_, _/_, _+_}
-use Rattle.steps.proofs.Rows.{count-at}
+use Rattle.scope.proofs.Records.{count-at}
 use Rattle.reader.specs.declared.Handed.the-variants.{Step as One}
 use Rattle.reader.proofs.Steps.{no-block, block-ends, a-step}
 use native.Mathlib.Omega.{arith}

@@ -1,6 +1,9 @@
 -- `repeats::key` meets its contract: it reads the record of node n in place. Assumes nothing.
+use mathlib.Core.Path.{_∙_, ap}
 use borrow.Author.Needs.{needs}
-use Rattle.repeats.proofs.Keys.{key-read}
+use Rattle.scope.specs.Table.{tables, nodeOf}
+use Rattle.scope.proofs.Records.{part-record}
+use Rattle.repeats.specs.Chains.{keyOf}
 use Rattle.repeats.proofs.key.Statement.{statement}
 use Rattle.repeats.proofs.key.Tie as tie
 
@@ -44,7 +47,7 @@ add-result-2 : tie.Need-add-result-2
 add-result-2 c = search needs
 
 returns : tie.Need-returns
-returns c = key-read _ _ _ (c .before .before .before .fields .ensures) (c .before .before .before .before .before .place .ensures)
+returns c = ap keyOf (c .before .before .before .fields .ensures ∙ ap nodeOf (part-record tables _ _ _ (c .before .before .before .before .before .place .ensures)))
 
 pub key-spec : {M : Type 1} → statement M
 key-spec =

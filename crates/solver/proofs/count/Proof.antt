@@ -2,7 +2,7 @@
 use mathlib.Core.Path.{sym}
 use borrow.Author.Needs.{needs}
 use Rattle.solver.specs.Work.{tail}
-use Rattle.solver.proofs.Areas.{trail-length}
+use Rattle.trail.proofs.Trails.{trail-length}
 use Rattle.solver.proofs.count.Statement.{statement}
 use Rattle.solver.proofs.count.Tie as tie
 

@@ -3,7 +3,7 @@ use Prim.Native.Nat.{_/_, _%_}
 use borrow.Author.Needs.{needs}
 use Rattle.calculus.specs.Order.{valueOf}
 use Rattle.solver.specs.Work.{tail, entryOf, gOf}
-use Rattle.solver.proofs.Codes.{side-none, side-true, side-false}
+use Rattle.trail.proofs.Trails.{side-none, side-true, side-false}
 use Rattle.solver.proofs.value.Statement.{statement}
 use Rattle.solver.proofs.value.Tie as tie
 

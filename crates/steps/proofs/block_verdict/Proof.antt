@@ -1,5 +1,7 @@
 -- `steps::block_verdict` meets its contract: it asks for the test of the 512 bytes of block j. Assumes nothing.
-use Rattle.steps.proofs.Rows.{fitting, block-tested}
+use Rattle.scope.proofs.Records.{block-tested}
+use Rattle.rules.specs.Steps.{derivations}
+use Rattle.steps.proofs.Rows.{fitting}
 use borrow.Author.Needs.{needs}
 use Rattle.steps.proofs.block_verdict.Statement.{statement}
 use Rattle.steps.proofs.block_verdict.Tie as tie
@@ -31,7 +33,7 @@ test-requires c κs = (search needs, fitting _ (c .derivations .ensures))
 returns : tie.Need-returns
 returns c =
     let a = c .before .before .before .before .args in
-    block-tested (a .d .now) (a .j) _ _ (c .before .derivations .ensures) (c .test .ensures)
+    block-tested _ derivations (a .d .now) (a .j) _ (c .before .derivations .ensures) (c .test .ensures)
 
 pub block-verdict-spec : {M : Type 1} → statement M
 block-verdict-spec = tie.close (tie.spec mul-at add-end add-last sub-test part-test-start part-test-end derivations-requires test-requires returns)

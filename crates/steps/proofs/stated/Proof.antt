@@ -2,7 +2,8 @@
 use mathlib.Core.Path.{sym}
 use Prim.Native.Nat.{_-_, _*_, _/_, _+_}
 use lib.ListN.{length}
-use Rattle.steps.proofs.Rows.{count-parts}
+use Rattle.scope.proofs.Records.{count-parts}
+use Rattle.rules.specs.Steps.{derivations}
 use native.Mathlib.Omega.{arith}
 use borrow.Author.Needs.{needs}
 use Rattle.steps.proofs.stated.Statement.{statement}
@@ -30,7 +31,7 @@ add-result-2 : tie.Need-add-result-2
 add-result-2 c = omega (arith, c .shared-slice-known .given (512 * (length (c .before .args .d .now) / 512 - 1) + 1))
 
 returns : tie.Need-returns
-returns c = sym (count-parts _)
+returns c = sym (count-parts derivations _)
 
 pub stated-spec : {M : Type 1} → statement M
 stated-spec = tie.close (tie.spec sub-full mul-result mul-result-2 add-result shared-slice-read-result cast-result add-result-2 returns)

@@ -3,7 +3,9 @@ use mathlib.Core.Path.{_≡_, _∙_, ap, sym, refl}
 use Prim.Native.Nat.{ℕ, _+_, _*_, _≤_}
 use lib.ListN.{getD}
 use Rattle.scope.specs.Outcome.{verdictOf, fine}
-use Rattle.table.proofs.Rows.{fitting, refuses, BlockTest, block-tested, count-most, within, block-refused, block-entered}
+use Rattle.scope.specs.Table.{tables}
+use Rattle.scope.proofs.Records.{block-tested}
+use Rattle.table.proofs.Rows.{fitting, refuses, BlockTest, count-most, within, block-refused, block-entered}
 use native.Mathlib.Omega.{arith}
 use borrow.Author.Needs.{needs}
 use Rattle.table.proofs.block_rows.Statement.{statement}
@@ -13,7 +15,7 @@ use Rattle.table.proofs.block_rows.Tie as tie
 tested : (c : tie.After-test) → verdictOf (c .test .result) ≡ BlockTest (c .before .before .before .before .before .before .args .t .now) (c .before .before .before .before .before .before .args .j)
 tested c =
     let a = c .before .before .before .before .before .before .args in
-    block-tested (a .t .now) (a .j) _ _ (c .before .tables .ensures) (c .test .ensures)
+    block-tested _ tables (a .t .now) (a .j) _ (c .before .tables .ensures) (c .test .ensures)
 
 passes : (c : tie.After-enum-told) → BlockTest (c .before .before .before .before .before .before .before .before .args .t .now) (c .before .before .before .before .before .before .before .before .args .j) ≡ fine
 passes c = sym (tested (c .before .before)) ∙ ap verdictOf (c .enum-told .given .1)

@@ -3,9 +3,10 @@ use mathlib.Core.Path.{_≡_, _∙_, ap, sym, refl}
 use Prim.Native.Nat.{ℕ, _<_, _-_, _*_, _/_, _+_, _≤_}
 use lib.ListN.{length, getD}
 use Rattle.scope.specs.Outcome.{fine, answer, verdictOf}
-use Rattle.scope.specs.Table.{tableTest}
+use Rattle.scope.specs.Table.{tables, tableTest}
+use Rattle.scope.proofs.Records.{count-parts}
 use Rattle.codec.proofs.Tables.{length-ok, few-records}
-use Rattle.table.proofs.Rows.{count-refused, count-fine, count-parts}
+use Rattle.table.proofs.Rows.{count-refused, count-fine}
 use native.Mathlib.Omega.{arith}
 use borrow.Author.Needs.{needs}
 use Rattle.table.proofs.count.Statement.{statement}
@@ -49,7 +50,7 @@ enum-known-v : tie.Need-enum-known-v
 enum-known-v c = search needs
 
 returns : tie.Need-returns
-returns c = sym (count-fine _ (reads (c .before)) ∙ ap answer (count-parts _))
+returns c = sym (count-fine _ (reads (c .before)) ∙ ap answer (count-parts tables _))
 
 returns-2 : tie.Need-returns-2
 returns-2 c = sym (count-refused _ (sym (c .before .before .before .verdict .ensures) ∙ ap verdictOf (c .before .v .given .1)))

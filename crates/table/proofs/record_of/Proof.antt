@@ -7,10 +7,11 @@ use lib.ListN.{length}
 use Rattle.scope.specs.Outcome.{fine, answer}
 use Rattle.scope.specs.Block.{recordsIn}
 use Rattle.scope.specs.Table.{tables, tableTest, readRecord}
+use Rattle.scope.proofs.Records.{part-record}
 use Rattle.codec.specs.Valid.{Bytes}
 use Rattle.codec.proofs.Tables.{few-records, record-reads}
 use Rattle.table.specs.Counted.{countedOf}
-use Rattle.table.proofs.Rows.{part-record, counted, literal-refused, literal-over, literal-node, record-within}
+use Rattle.table.proofs.Rows.{counted, literal-refused, literal-over, literal-node, record-within}
 use native.Mathlib.Omega.{arith}
 use borrow.Author.Needs.{needs}
 use Rattle.table.proofs.record_of.Statement.{statement}
@@ -75,7 +76,7 @@ returns-3 c =
     let known = c .before .before .before .before in
     let n : a .literal / 2 < recordsIn tables (a .t .now) = omega (arith, c .before .before .before .if1 .left, reads known .1) in
     c .read-record .ensures
-    ∙ ap (λ (l : List ℕ). readRecord l (a .literal / 2)) (part-record (a .t .now) (a .literal / 2) _ (c .before .before .place .ensures))
+    ∙ ap (λ (l : List ℕ). readRecord l (a .literal / 2)) (part-record tables (a .t .now) (a .literal / 2) _ (c .before .before .place .ensures))
     ∙ record-reads (a .t .now) (bytes known) (reads known .0) (a .literal / 2) n
     ∙ sym (literal-node (a .t .now) (a .literal) (reads known .0) (omega (arith, c .before .before .before .if1 .left, reads known .1)))
 

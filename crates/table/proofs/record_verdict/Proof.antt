@@ -5,7 +5,8 @@ use Prim.Native.Nat.{ℕ}
 use Rattle.record.specs.Read.{readOf}
 use Rattle.scope.specs.Block.{recordAt}
 use Rattle.scope.specs.Table.{tables, readRecord}
-use Rattle.table.proofs.Rows.{part-record, refuses, row-repeat, row-fine, passes-on}
+use Rattle.scope.proofs.Records.{part-record}
+use Rattle.table.proofs.Rows.{refuses, row-repeat, row-fine, passes-on}
 use native.Mathlib.Omega.{arith}
 use borrow.Author.Needs.{needs}
 use Rattle.table.proofs.record_verdict.Statement.{statement}
@@ -15,7 +16,7 @@ use Rattle.table.proofs.record_verdict.Tie as tie
 reads : (c : tie.After-read-record) → readOf (c .read-record .result) ≡ readRecord (recordAt tables (c .before .before .before .before .before .before .args .t .now) (c .before .before .before .before .before .before .args .n)) (c .before .before .before .before .before .before .args .n)
 reads c =
     let a = c .before .before .before .before .before .before .args in
-    c .read-record .ensures ∙ ap (λ (l : List ℕ). readRecord l (a .n)) (part-record (a .t .now) (a .n) _ (c .before .before .place .ensures))
+    c .read-record .ensures ∙ ap (λ (l : List ℕ). readRecord l (a .n)) (part-record tables (a .t .now) (a .n) _ (c .before .before .place .ensures))
 
 place-requires : tie.Need-place-requires
 place-requires c κs = search needs

@@ -5,10 +5,10 @@ use Prim.Native.Nat.{_≤_, _-_}
 use native.Mathlib.Omega.{arith}
 use lib.ListN.{length, take, length-set}
 use borrow.Author.Needs.{needs}
-use Rattle.scope.specs.Table.{nodeOf, nodeAt, listFrom}
+use Rattle.scope.specs.Table.{tables, nodeOf, nodeAt, listFrom}
 use Rattle.scope.specs.Truth.{truthsFrom}
+use Rattle.scope.proofs.Records.{part-record}
 use Rattle.codec.specs.Valid.{Bytes}
-use Rattle.table.proofs.Rows.{part-record}
 use Rattle.truth.specs.Evaluated.{Low}
 use Rattle.truth.proofs.Low.{low-up}
 use Rattle.truth.proofs.Filling.{filled-more, node-below, node-within, node-low}
@@ -54,7 +54,7 @@ fields-requires c κs = search needs
 
 -- the node that was read is node n, and its operands are of earlier nodes
 read : (c : tie.After-fields Inv-loop μ-loop) → c .fields .result ≡ nodeAt (c .before .before .before .before .before .before .before .before .args .t .now) (c .before .before .before .before .loop .n)
-read c = c .fields .ensures ∙ ap nodeOf (part-record _ _ _ (c .before .before .place .ensures))
+read c = c .fields .ensures ∙ ap nodeOf (part-record tables _ _ _ (c .before .before .place .ensures))
 
 low : (c : tie.After-fields Inv-loop μ-loop) → Low (c .fields .result) (c .before .before .before .before .loop .n)
 low c =

@@ -4,7 +4,7 @@ use mathlib.Core.Bool.{Bool, true, false}
 use Prim.Native.Nat.{ℕ, zero, suc, _+_, _<_, _≤_}
 use native.Mathlib.Omega.{arith}
 use native.Mathlib.Decide.{ℕ-discrete}
-use Rattle.marks.specs.Marks.{one, tally}
+use Rattle.scope.specs.Count.{one, tally}
 
 -- tests that agree give one count
 pub tally-same : (p q : ℕ → Bool) (m : ℕ) → ((j : ℕ) → j < m → p j ≡ q j) → tally p m ≡ tally q m
@@ -32,6 +32,13 @@ tally-change p q k (suc m) i h = go (ℕ-discrete m k) (tally-change p q k m)
         let a : one (p m) ≡ one (q m) = ap one (h m (omega arith) e) in
         let b = r (omega (arith, e)) (λ j l n. h j (omega arith) n) in
         omega (arith, a, b)
+
+-- .. by one, where a number passes no more
+pub tally-less : (p q : ℕ → Bool) (k m : ℕ) → k < m → ((j : ℕ) → (j ≡ k → ⊥) → p j ≡ q j) → p k ≡ true → q k ≡ false → suc (tally q m) ≡ tally p m
+tally-less p q k m i h a b =
+    let x : one (p k) ≡ 1 = ap one a in
+    let y : one (q k) ≡ 0 = ap one b in
+    omega (arith, tally-change p q k m i (λ j l n. h j n), x, y)
 
 one-most : (b : Bool) → one b ≤ 1
 one-most true = omega arith

@@ -1,0 +1,46 @@
+-- `bevaridhom::bev_derive` meets its contract: the answer of `deriving::derive`, case by case, and its bytes. Assumes nothing.
+use Rattle.bevaridhom.proofs.Hosts.{told-derive}
+use borrow.Author.Needs.{needs}
+use Rattle.bevaridhom.proofs.bev_derive.Statement.{statement}
+use Rattle.bevaridhom.proofs.bev_derive.Tie as tie
+
+derive-requires : tie.Need-derive-requires
+derive-requires c κs = search needs
+
+enum-known-c : tie.Need-enum-known-c
+enum-known-c c = search needs
+
+enum-known-c-2 : tie.Need-enum-known-c-2
+enum-known-c-2 c = search needs
+
+same-length : tie.Need-same-length
+same-length c = search needs
+
+same-length-2 : tie.Need-same-length-2
+same-length-2 c = search needs
+
+returns : tie.Need-returns
+returns c = told-derive _ _ _ _ _ _ _ (c .before .before .before .before .before .before .before .derive .ensures) (c .before .c .given .1)
+
+same-length-3 : tie.Need-same-length-3
+same-length-3 c = search needs
+
+same-length-4 : tie.Need-same-length-4
+same-length-4 c = search needs
+
+returns-2 : tie.Need-returns-2
+returns-2 c = told-derive _ _ _ _ _ _ _ (c .before .before .before .before .before .before .before .derive .ensures) (c .before .c2 .given .1)
+
+pub bev-derive-spec : {M : Type 1} → statement M
+bev-derive-spec =
+    tie.close
+    (tie.spec
+    derive-requires
+    enum-known-c
+    enum-known-c-2
+    same-length
+    same-length-2
+    returns
+    same-length-3
+    same-length-4
+    returns-2)

@@ -1,0 +1,24 @@
+-- `bevaridhom::bev_step` meets its contract: what `reader::step_of` hands out, case by case. Assumes nothing.
+use mathlib.Core.Path.{_∙_, ap, sym}
+use Rattle.bevaridhom.specs.Answers.{stepAnswer}
+use borrow.Author.Needs.{needs}
+use Rattle.bevaridhom.proofs.bev_step.Statement.{statement}
+use Rattle.bevaridhom.proofs.bev_step.Tie as tie
+
+step-of-requires : tie.Need-step-of-requires
+step-of-requires c κs = search needs
+
+enum-known-c : tie.Need-enum-known-c
+enum-known-c c = search needs
+
+enum-told : tie.Need-enum-told
+enum-told c = search needs
+
+returns : tie.Need-returns
+returns c = sym (ap stepAnswer (sym (c .before .before .before .step-of .ensures) ∙ c .before .c .given .1))
+
+returns-2 : tie.Need-returns-2
+returns-2 c = sym (ap stepAnswer (sym (c .before .before .step-of .ensures) ∙ c .enum-told .given .1))
+
+pub bev-step-spec : {M : Type 1} → statement M
+bev-step-spec = tie.close (tie.spec step-of-requires enum-known-c enum-told returns returns-2)

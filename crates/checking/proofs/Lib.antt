@@ -1,0 +1,4 @@
+-- Laws for the proofs of check's functions. Assumes nothing.
+pub mod Same
+pub mod Meaning
+pub mod Answers

@@ -1,0 +1,2 @@
+-- Check's own contract. Assumes nothing.
+pub mod Checks

@@ -1,0 +1,282 @@
+-- The limit of a count, how many steps each move has, and what the contracts of counting come to at each return. Assumes nothing.
+use mathlib.Core.Path.{_≡_, refl, sym, ap, _∙_}
+use mathlib.Core.Bool.{cond}
+use mathlib.Core.List.{List, [], _∷_}
+use Prim.Native.Nat.{ℕ, zero, suc, _+_, _-_, _<_, _≤_}
+use native.Mathlib.Omega.{arith}
+use native.Mathlib.Decide.{decLt}
+use lib.Dec.{eqb}
+use lib.ListN.{length, getD, drop, length-append}
+use borrow.Author.Tests.{ne-eqb, lt-ltb, le-ltb}
+use Rattle.scope.specs.declared.Node.{Node}
+use Rattle.calculus.specs.Expansion.{neg, expand}
+use Rattle.calculus.specs.Order.{Value, holds, fails, undecided, valueOf, State, met, empty, one, many, opened, joined, stateOf, clauses, move, tree}
+use Rattle.calculus.specs.Model.{Table, Below}
+use Rattle.calculus.specs.declared.Move.the-variants.{Conflict, Unit as Single, Done, Split}
+use Rattle.calculus.proofs.Count.{room}
+use Rattle.calculus.proofs.Fresh.{split-fresh}
+use Rattle.calculus.proofs.Moves.{conflict-clause, unit-clause}
+use Rattle.rules.specs.declared.Step.{Step}
+use Rattle.rules.specs.Steps.{U, R, C}
+use Rattle.rules.specs.Rules.{isFails}
+use Rattle.rules.specs.Derivation.{removals, stepsOf}
+use Rattle.solver.specs.Work.{gOf, Holds}
+use Rattle.solver.specs.Reason.{literals, Reasoned}
+use Rattle.solver.specs.declared.Clause.{Clause}
+use Rattle.deciding.specs.Search.{Turned, Searched}
+use Rattle.deciding.specs.declared.Stop.the-variants.{Closed as Shut, Model as Ends, Fork}
+use Rattle.deciding.specs.declared.Found.the-variants.{Model, Closed as AllClosed}
+use Rattle.deciding.proofs.Searches.{tree-conflict, tree-unit, tree-split, fuel, Run, run-starts, run-conflict, run-done, run-split, run-room, run-unit, shut-open, shut-fork, open-fork, stopped-closed, stopped-model, left-model, left-turned, right-list, right-model, end-more, right-closed}
+use Rattle.counting.specs.Count.{atMost, stepCount, Sized, Advanced, foundBy, Counted}
+use Rattle.counting.specs.declared.Told.{Told}
+use Rattle.counting.specs.declared.Tally.{Tally}
+use Rattle.counting.specs.declared.Tally.the-variants.{Open, Closed}
+
+-- ---- the limit
+
+module _ (cap s : ℕ) where
+  pub most-under : s < cap → s ≡ atMost cap s
+  most-under h = simp (lt-ltb s cap h)
+
+  pub most-over : cap ≤ s → cap ≡ atMost cap s
+  most-over h = simp (le-ltb s cap h)
+
+pub most-low : (cap s : ℕ) → atMost cap s ≤ cap
+most-low cap s = go (decLt s cap)
+  where
+    go : Dec (s < cap) → atMost cap s ≤ cap
+    go (yes h) = omega (arith, most-under cap s h)
+    go (no h) = omega (arith, most-over cap s (omega (arith, h)))
+
+-- a limit that was met is met later
+pub most-more : (cap a b : ℕ) → atMost cap (atMost cap a + b) ≡ atMost cap (a + b)
+most-more cap a b = go (decLt a cap)
+  where
+    go : Dec (a < cap) → atMost cap (atMost cap a + b) ≡ atMost cap (a + b)
+    go (yes h) = ap (λ (m : ℕ). atMost cap (m + b)) (sym (most-under cap a h))
+    go (no h) =
+        let e = most-over cap a (omega (arith, h)) in
+        sym (most-over cap (atMost cap a + b) (omega (arith, e))) ∙ most-over cap (a + b) (omega (arith, h))
+
+-- ---- the R of a clause: one for each literal, at a conflict; for each but one, at a unit
+
+opened-some : (l : ℕ) (s : State) → opened l s ≡ empty → ⊥
+opened-some l met e = let z : _≡_ {A = ℕ} 0 1 = cc in omega arith
+opened-some l empty e = let z : _≡_ {A = ℕ} 0 1 = cc in omega arith
+opened-some l (one m) e = let z : _≡_ {A = ℕ} 0 1 = cc in omega arith
+opened-some l (many m) e = let z : _≡_ {A = ℕ} 0 1 = cc in omega arith
+
+opened-one : (l m : ℕ) (s : State) → opened l s ≡ one m → s ≡ empty
+opened-one l m met e = absurd (let z : _≡_ {A = ℕ} 0 1 = cc in omega arith)
+opened-one l m empty e = refl
+opened-one l m (one k) e = absurd (let z : _≡_ {A = ℕ} 0 1 = cc in omega arith)
+opened-one l m (many k) e = absurd (let z : _≡_ {A = ℕ} 0 1 = cc in omega arith)
+
+module _ (G : List ℕ) (k : ℕ) where
+  removals-all : (p : ℕ) (c : List ℕ) → stateOf G c ≡ empty → length (removals G k p c) ≡ length c
+  unfolding removals stateOf
+  removals-all p [] e = refl
+  removals-all p (l ∷ c) e = go (valueOf G l) e (removals-all (suc p) c)
+    where
+      go : (v : Value) → joined v l (stateOf G c) ≡ empty → (stateOf G c ≡ empty → length (removals G k (suc p) c) ≡ length c)
+          → length (cond (isFails v) (R p k ∷ removals G k (suc p) c) (removals G k (suc p) c)) ≡ suc (length c)
+      go holds q f = absurd (let z : _≡_ {A = ℕ} 0 1 = cc in omega arith)
+      go fails q f = ap suc (f q)
+      go undecided q f = absurd (opened-some l (stateOf G c) q)
+
+  removals-but-one : (p m : ℕ) (c : List ℕ) → stateOf G c ≡ one m → suc (length (removals G k p c)) ≡ length c
+  unfolding removals stateOf
+  removals-but-one p m [] e = absurd (let z : _≡_ {A = ℕ} 0 1 = cc in omega arith)
+  removals-but-one p m (l ∷ c) e = go (valueOf G l) e (removals-but-one (suc p) m c)
+    where
+      go : (v : Value) → joined v l (stateOf G c) ≡ one m → (stateOf G c ≡ one m → suc (length (removals G k (suc p) c)) ≡ length c)
+          → suc (length (cond (isFails v) (R p k ∷ removals G k (suc p) c) (removals G k (suc p) c))) ≡ suc (length c)
+      go holds q f = absurd (let z : _≡_ {A = ℕ} 0 1 = cc in omega arith)
+      go fails q f = ap suc (f q)
+      go undecided q f = ap suc (removals-all (suc p) c (opened-one l m (stateOf G c) q))
+
+-- ---- the steps from G, by its next move
+
+module _ (t : ℕ → Node) (n : ℕ) (goals G : List ℕ) where
+  steps-conflict : {k : ℕ} → move (expand t) goals G ≡ Conflict k → stepCount t n goals G ≡ length (getD (clauses (expand t) goals G) k []) + 1
+  unfolding stepsOf
+  steps-conflict {k} e =
+      let c : List ℕ = getD (clauses (expand t) goals G) k [] in
+      let a = removals-all G k 0 c (conflict-clause (expand t) goals G k e .1) in
+      rw (tree-conflict t goals G (n - length G) e)
+      (omega (arith, length-append (removals G k 0 c) (C k ∷ []), a))
+
+  module _ (h : length G < n) where
+    steps-unit : {k l : ℕ} → move (expand t) goals G ≡ Single k l
+        → stepCount t n goals G ≡ length (getD (clauses (expand t) goals G) k []) + stepCount t n goals (l ∷ G)
+    unfolding stepsOf
+    steps-unit {k} {l} e =
+        let c : List ℕ = getD (clauses (expand t) goals G) k [] in
+        let a = removals-but-one G k 0 l c (unit-clause (expand t) goals G k l e .1) in
+        let below : List Step = stepsOf (expand t) goals (l ∷ G) (tree (expand t) goals (n - suc (length G)) (l ∷ G)) in
+        rw (fuel t goals G n h, tree-unit t goals G (n - suc (length G)) e)
+        (omega (arith, length-append (removals G k 0 c) (U k ∷ below), a))
+
+    steps-split : {l : ℕ} → move (expand t) goals G ≡ Split l
+        → stepCount t n goals G ≡ 1 + (stepCount t n goals (l ∷ G) + stepCount t n goals (neg l ∷ G))
+    unfolding stepsOf
+    steps-split {l} e =
+        let left : List Step = stepsOf (expand t) goals (l ∷ G) (tree (expand t) goals (n - suc (length G)) (l ∷ G)) in
+        let right : List Step = stepsOf (expand t) goals (neg l ∷ G) (tree (expand t) goals (n - suc (length G)) (neg l ∷ G)) in
+        rw (fuel t goals G n h, tree-split t goals G (n - suc (length G)) e)
+        (omega (arith, length-append left right))
+
+-- ---- the size of a clause
+
+module _ {t : ℕ → Node} {n : ℕ} {goals G : List ℕ} {c : Clause} (q : Reasoned t n goals G c) where
+  sized-as : {r : ℕ} → r ≡ length (literals c) → r ≤ 2 → Sized t goals G r
+  sized-as e h = record {
+    conflict = λ k m. e ∙ sym (ap length (q .conflict k m));
+    unit = λ k l m. e ∙ sym (ap length (q .unit k l m));
+    low = h;
+  }
+
+  pub sized-small : c .len < 2 → Sized t goals G (c .len)
+  sized-small h = sized-as (go (c .len) h) (omega (arith, h))
+    where
+      go : (m : ℕ) → m < 2 → m ≡ length (cond (eqb m 0) [] (cond (eqb m 1) (c .first ∷ []) (c .first ∷ c .second ∷ [])))
+      go zero i = refl
+      go (suc zero) i = refl
+      go (suc (suc m)) i = absurd (omega arith)
+
+  pub sized-two : 2 ≤ c .len → Sized t goals G 2
+  sized-two h = sized-as (simp (ne-eqb (c .len) 0 (λ e. omega (arith, e, h)), ne-eqb (c .len) 1 (λ e. omega (arith, e, h)))) (omega arith)
+
+-- ---- the units
+
+-- what holds before each turn: the search goes on as from the start, and so does the count
+pub record Counting (t : ℕ → Node) (n : ℕ) (goals w w′ : List ℕ) (cap s count : ℕ) : Type 0 where
+  pub run : Run t n goals w w′
+  pub low : count ≤ cap
+  pub same : atMost cap (count + stepCount t n goals (gOf w′)) ≡ atMost cap (s + stepCount t n goals (gOf w))
+
+pub counting-starts : {t : ℕ → Node} {n : ℕ} {goals w : List ℕ} {cap s : ℕ} → Holds t n goals w → s ≤ cap → Counting t n goals w w cap s s
+counting-starts h l = record { run = run-starts h; low = l; same = refl }
+
+-- `more` of the steps to come are counted
+count-more : (cap count more rest all : ℕ) → all ≡ more + rest → atMost cap (atMost cap (count + more) + rest) ≡ atMost cap (count + all)
+count-more cap count more rest all e =
+    let z : count + more + rest ≡ count + all = omega arith in
+    most-more cap (count + more) rest ∙ ap (atMost cap) z
+
+module _ {t : ℕ → Node} {n : ℕ} {goals w w′ : List ℕ} {cap s count : ℕ} (r : Counting t n goals w w′ cap s count) where
+  pub counting-conflict : {k size c : ℕ} → move (expand t) goals (gOf w′) ≡ Conflict k → Sized t goals (gOf w′) size → c ≡ atMost cap (count + (size + 1))
+      → Advanced t n goals w w′ cap s (record { stop = Shut; count = c })
+  counting-conflict {k} {size} {c} e z q =
+      let all : size + 1 ≡ stepCount t n goals (gOf w′) = ap (_+ 1) (z .conflict k e) ∙ sym (steps-conflict t n goals (gOf w′) e) in
+      record {
+        settled = run-conflict (r .run) e;
+        low = omega (arith, q, most-low cap (count + (size + 1)));
+        closes = λ _. q ∙ ap (λ (m : ℕ). atMost cap (count + m)) all ∙ r .same;
+        forks = λ l y. shut-fork y;
+      }
+
+  pub counting-done : move (expand t) goals (gOf w′) ≡ Done → Advanced t n goals w w′ cap s (record { stop = Ends; count = count })
+  counting-done e = record {
+    settled = run-done (r .run) e;
+    low = r .low;
+    closes = λ y. shut-open (sym y);
+    forks = λ l y. open-fork y;
+  }
+
+  module _ (T : Table n t) (B : Below n goals) where
+    pub counting-split : {l c : ℕ} → move (expand t) goals (gOf w′) ≡ Split l → c ≡ atMost cap (count + 1)
+        → Advanced t n goals w w′ cap s (record { stop = Fork l; count = c })
+    counting-split {l} {c} e q =
+        let f = split-fresh n t goals T B (gOf w′) (r .run .holds .ready .trail .good) l e in
+        let h = room n (gOf w′) l (r .run .holds .ready .trail .good) f in
+        let left = stepCount t n goals (l ∷ gOf w′) in
+        let right = stepCount t n goals (neg l ∷ gOf w′) in
+        record {
+          settled = run-split (r .run) e;
+          low = omega (arith, q, most-low cap (count + 1));
+          closes = λ y. shut-fork (sym y);
+          forks = λ m y. let z : m ≡ l = cc in
+              rw (z, q)
+              (count-more cap count 1 (left + right) (stepCount t n goals (gOf w′)) (steps-split t n goals (gOf w′) h e) ∙ r .same);
+        }
+
+    pub counting-unit : {k l size c : ℕ} {w″ : List ℕ} → move (expand t) goals (gOf w′) ≡ Single k l → Sized t goals (gOf w′) size
+        → c ≡ atMost cap (count + size) → Holds t n goals w″ → gOf w″ ≡ l ∷ gOf w′ → length w″ ≡ length w′ → Counting t n goals w w″ cap s c
+    counting-unit {k} {l} {size} {c} e z q h y d =
+        let all : stepCount t n goals (gOf w′) ≡ size + stepCount t n goals (l ∷ gOf w′) =
+        steps-unit t n goals (gOf w′) (run-room (r .run) T B e) e ∙ ap (_+ stepCount t n goals (l ∷ gOf w′)) (sym (z .unit k l e)) in
+        record {
+          run = run-unit (r .run) T B e h y d;
+          low = omega (arith, q, most-low cap (count + size));
+          same = rw (y, q) (count-more cap count size (stepCount t n goals (l ∷ gOf w′)) (stepCount t n goals (gOf w′)) all ∙ r .same);
+        }
+
+-- ---- the search
+
+-- a model: there are no steps
+counted-open : {t : ℕ → Node} {n : ℕ} {goals w w′ : List ℕ} {cap s : ℕ} → Searched t n goals w w′ Model → Counted t n goals w w′ cap s Open
+counted-open h = record {
+  searched = h;
+  counted = λ c q. absurd (let z : _≡_ {A = ℕ} 0 1 = cc in omega arith);
+}
+
+-- every branch closes
+counted-closed : {t : ℕ → Node} {n : ℕ} {goals w w′ : List ℕ} {cap s m : ℕ} → Searched t n goals w w′ AllClosed
+    → m ≡ atMost cap (s + stepCount t n goals (gOf w)) → Counted t n goals w w′ cap s (Closed m)
+counted-closed {m = m} h e = record {
+  searched = h;
+  counted = λ c q. let z : c ≡ m = cc in z ∙ e;
+}
+
+module _ {t : ℕ → Node} {n : ℕ} {goals w w₁ : List ℕ} {cap s : ℕ} {told : Told} (a : Advanced t n goals w w₁ cap s told) where
+  -- the units end on a conflict
+  pub ended-closed : {w₂ : List ℕ} → told .stop ≡ Shut → Holds t n goals w₂ → gOf w₂ ≡ drop (length (gOf w₁) - length (gOf w)) (gOf w₁)
+      → Counted t n goals w w₂ cap s (Closed (told .count))
+  ended-closed e h q = counted-closed (stopped-closed (a .settled) e h q) (a .closes e)
+
+  -- or on a model
+  pub ended-open : told .stop ≡ Ends → Counted t n goals w w₁ cap s Open
+  ended-open e = counted-open (stopped-model (a .settled) e)
+
+  -- or on a split: the left branch
+  module _ (T : Table n t) (B : Below n goals) {l : ℕ} (e : told .stop ≡ Fork l) {w₂ w₃ : List ℕ} {left : Tally} (q : gOf w₂ ≡ l ∷ gOf w₁)
+      (b : Counted t n goals w₂ w₃ cap (told .count) left) where
+    pub left-open : left ≡ Open → Counted t n goals w w₃ cap s Open
+    left-open p = counted-open (left-model T B (a .settled) e q (b .searched) (ap foundBy p))
+
+    module _ {c : ℕ} (p : left ≡ Closed c) where
+      left-count : c ≡ atMost cap (told .count + stepCount t n goals (l ∷ gOf w₁))
+      left-count = b .counted c p ∙ ap (λ (G : List ℕ). atMost cap (told .count + stepCount t n goals G)) q
+
+      pub left-low : c ≤ cap
+      left-low = omega (arith, left-count, most-low cap (told .count + stepCount t n goals (l ∷ gOf w₁)))
+
+      pub left-done : Turned n l (gOf w₃)
+      left-done = left-turned T B (a .settled) e q (b .searched) (ap foundBy p)
+
+      -- the right branch
+      module _ (w₄ : List ℕ) (d : gOf w₄ ≡ neg l ∷ drop 1 (gOf w₃)) where
+        pub right-held : gOf w₄ ≡ neg l ∷ gOf w₁
+        right-held = right-list T B (a .settled) e q (b .searched) (ap foundBy p) w₄ d
+
+        module _ {w₅ : List ℕ} {right : Tally} (f : Counted t n goals w₄ w₅ cap c right) where
+          pub right-open : right ≡ Open → Counted t n goals w w₅ cap s Open
+          right-open z = counted-open (right-model T B (a .settled) e q (b .searched) (ap foundBy p) w₄ d (f .searched) (ap foundBy z))
+
+          module _ {m : ℕ} (z : right ≡ Closed m) where
+            both-count : m ≡ atMost cap (s + stepCount t n goals (gOf w))
+            both-count =
+                let x = stepCount t n goals (l ∷ gOf w₁) in
+                let y = stepCount t n goals (neg l ∷ gOf w₁) in
+                let sum : told .count + x + y ≡ told .count + (x + y) = omega arith in
+                f .counted m z ∙ ap (λ (G : List ℕ). atMost cap (c + stepCount t n goals G)) right-held
+                ∙ ap (λ (i : ℕ). atMost cap (i + y)) left-count ∙ most-more cap (told .count + x) y ∙ ap (atMost cap) sum ∙ a .forks l e
+
+            pub right-more : length (gOf w) ≤ length (gOf w₅)
+            right-more = end-more T B (a .settled) e q (b .searched) (ap foundBy p) w₄ d (f .searched) (ap foundBy z)
+
+            pub right-done : {w₆ : List ℕ} → Holds t n goals w₆ → gOf w₆ ≡ drop (length (gOf w₅) - length (gOf w)) (gOf w₅)
+                → Counted t n goals w w₆ cap s (Closed m)
+            right-done h y =
+                counted-closed (right-closed T B (a .settled) e q (b .searched) (ap foundBy p) w₄ d (f .searched) (ap foundBy z) h y) both-count

@@ -1,0 +1,2 @@
+-- Laws of counting, for the proofs of the functions. Assumes nothing.
+pub mod Counts

@@ -1,0 +1,60 @@
+-- How many steps the derivation in the solver's order has, up to a limit, and what counting them leaves of the work area: what the
+-- search would. Assumes nothing.
+use mathlib.Core.Path.{_≡_}
+use mathlib.Core.Bool.{cond}
+use mathlib.Core.List.{List, [], _∷_}
+use Prim.Native.Nat.{ℕ, _+_, _-_, _≤_}
+use lib.Dec.{ltb}
+use lib.ListN.{length, getD}
+use Rattle.scope.specs.declared.Node.{Node}
+use Rattle.calculus.specs.Expansion.{neg, expand}
+use Rattle.calculus.specs.Order.{clauses, move, tree}
+use Rattle.calculus.specs.declared.Move.the-variants.{Conflict, Unit as Single}
+use Rattle.rules.specs.declared.Step.{Step}
+use Rattle.rules.specs.Derivation.{stepsOf}
+use Rattle.solver.specs.Work.{gOf}
+use Rattle.deciding.specs.Search.{Settled, Searched}
+use Rattle.deciding.specs.declared.Stop.the-variants.{Closed as Shut, Fork}
+use Rattle.deciding.specs.declared.Found.{Found}
+use Rattle.deciding.specs.declared.Found.the-variants.{Model, Closed as AllClosed}
+use Rattle.counting.specs.declared.Told.{Told}
+use Rattle.counting.specs.declared.Tally.{Tally}
+use Rattle.counting.specs.declared.Tally.the-variants.{Open, Closed}
+
+-- a count that stops at its limit; the search goes on, since 30, 'goal possible', is checked before 31, 'more bytes needed'
+abbrev pub atMost : ℕ → ℕ → ℕ
+atMost cap s = cond (ltb s cap) s cap
+
+-- 'a U, C or S for each UNIT, CONFLICT and SPLIT of its search, .. an R for each false literal of the clause': the steps of the
+-- search from G, with as much fuel as there are undecided nodes; and how many
+abbrev pub stepsFrom : (ℕ → Node) → ℕ → List ℕ → List ℕ → List Step
+stepsFrom t n goals G = stepsOf (expand t) goals G (tree (expand t) goals (n - length G) G)
+
+abbrev pub stepCount : (ℕ → Node) → ℕ → List ℕ → List ℕ → ℕ
+stepCount t n goals G = length (stepsFrom t n goals G)
+
+-- how many literals the clause of the next conflict or unit has
+pub record Sized (t : ℕ → Node) (goals G : List ℕ) (r : ℕ) : Type 0 where
+  pub conflict : (k : ℕ) → move (expand t) goals G ≡ Conflict k → r ≡ length (getD (clauses (expand t) goals G) k [])
+  pub unit : (k l : ℕ) → move (expand t) goals G ≡ Single k l → r ≡ length (getD (clauses (expand t) goals G) k [])
+  pub low : r ≤ 2
+
+-- the units have joined, and their steps are counted, with those of the move that ends them; s were counted before
+pub record Advanced (t : ℕ → Node) (n : ℕ) (goals w w′ : List ℕ) (cap s : ℕ) (r : Told) : Type 0 where
+  pub settled : Settled t n goals w w′ (r .stop)
+  pub low : r .count ≤ cap
+  pub closes : r .stop ≡ Shut → r .count ≡ atMost cap (s + stepCount t n goals (gOf w))
+  pub forks : (l : ℕ) → r .stop ≡ Fork l
+      → atMost cap (r .count + (stepCount t n goals (l ∷ gOf w′) + stepCount t n goals (neg l ∷ gOf w′))) ≡ atMost cap (s + stepCount t n goals (gOf w))
+
+-- what a tally says of the search
+abbrev pub foundBy : Tally → Found
+foundBy Open = Model
+foundBy (Closed c) = AllClosed
+
+-- the search is done, s steps being counted before it
+pub record Counted (t : ℕ → Node) (n : ℕ) (goals w w′ : List ℕ) (cap s : ℕ) (r : Tally) : Type 0 where
+  -- open: a model, which is held; closed: 'all branches closed', and the literals held are those of the start
+  pub searched : Searched t n goals w w′ (foundBy r)
+  -- 'It answers the step count'
+  pub counted : (c : ℕ) → r ≡ Closed c → c ≡ atMost cap (s + stepCount t n goals (gOf w))

@@ -1,0 +1,2 @@
+-- What counting comes to. Assumes nothing.
+pub mod Count

@@ -1,0 +1,122 @@
+// How many steps the derivation in the solver's order has, up to a limit. The search runs as decide's does and writes nothing; where a
+// model is found there is no derivation. The count stops at its limit, and the search goes on.
+use calculus::Move;
+use deciding::Stop;
+ghost use mathlib.Core.Path.{_≡_};
+ghost use Prim.Native.Nat.{_+_, _≤_};
+ghost use Rattle.index.specs.Index.{indexNode};
+ghost use Rattle.solver.specs.Work.{gOf, Indexed, Goals, Holds};
+ghost use Rattle.counting.specs.Count.{atMost, Sized, Advanced, Counted};
+
+// Where the units end, and the count up to there.
+struct Told {
+    stop: Stop,
+    count: usize,
+}
+
+// What a search comes to: a model, or every branch closes, with the count.
+pub enum Tally {
+    Open,
+    Closed(usize),
+}
+
+// `more` are counted beyond s, up to a limit.
+fn capped(s: usize, more: usize, cap: usize) -> usize
+    requires { ⌜ s ≤ cap ⌝ }
+    ensures { λ r. ⌜ r ≡ atMost cap (s + more) ⌝ }
+{
+    if more < cap - s { s + more } else { cap }
+}
+
+// How many literals the clause of the next conflict or unit has.
+fn clause_size(x: &[u16], n: usize, goals: &[u16], work: &[u16]) -> usize
+    requires { ⌜ Indexed (now x) n ⌝ }
+    requires { ⌜ Goals n (now goals) ⌝ }
+    requires { ⌜ Holds (indexNode (now x)) n (now goals) (now work) ⌝ }
+    ensures { λ r. ⌜ Sized (indexNode (now (x .entry))) (now (goals .entry)) (gOf (now (work .entry))) r ⌝ }
+{
+    let c = solver::reason(x, n, goals, work);
+    if c.len < 2 { c.len as usize } else { 2 }
+}
+
+// The units join, one after another, up to another move. A unit has as many steps as its clause has literals: an R for each but one,
+// and a U. A conflict has one more than its clause's literals.
+fn units(x: &[u16], n: usize, goals: &[u16], work: &mut [u16], cap: usize, s: usize) -> Told
+    requires { ⌜ Indexed (now x) n ⌝ }
+    requires { ⌜ Goals n (now goals) ⌝ }
+    requires { ⌜ Holds (indexNode (now x)) n (now goals) (now work) ⌝ }
+    requires { ⌜ s ≤ cap ⌝ }
+    ensures { λ r. ⌜ Advanced (indexNode (now (x .entry))) n (now (goals .entry)) (now (work .entry)) (now (work .exit)) cap s r ⌝ }
+{
+    let mut count = s;
+    loop {
+        let m = solver::next_move(x, n, goals, work);
+        match m {
+            Move::Conflict(_) => {
+                let size = clause_size(x, n, goals, work);
+                count = capped(count, size + 1, cap);
+                return Told {
+                    stop: Stop::Closed,
+                    count,
+                };
+            }
+            Move::Unit(_, l) => {
+                let size = clause_size(x, n, goals, work);
+                count = capped(count, size, cap);
+                solver::assume(x, n, goals, work, l);
+            }
+            Move::Done => {
+                return Told {
+                    stop: Stop::Model,
+                    count,
+                };
+            }
+            Move::Split(l) => {
+                count = capped(count, 1, cap);
+                return Told {
+                    stop: Stop::Fork(l),
+                    count,
+                };
+            }
+        }
+    }
+}
+
+// The search from the literals held, s steps being counted: a model, which stays, or the count with that of all its steps, and the
+// literals held are those of the start.
+pub fn count(x: &[u16], n: usize, goals: &[u16], work: &mut [u16], cap: usize, s: usize) -> Tally
+    requires { ⌜ Indexed (now x) n ⌝ }
+    requires { ⌜ Goals n (now goals) ⌝ }
+    requires { ⌜ Holds (indexNode (now x)) n (now goals) (now work) ⌝ }
+    requires { ⌜ s ≤ cap ⌝ }
+    ensures { λ r. ⌜ Counted (indexNode (now (x .entry))) n (now (goals .entry)) (now (work .entry)) (now (work .exit)) cap s r ⌝ }
+{
+    let held = solver::count(work);
+    let told = units(x, n, goals, work, cap, s);
+    let stop = told.stop;
+    match stop {
+        Stop::Closed => {
+            deciding::undo_to(x, n, goals, work, held);
+            Tally::Closed(told.count)
+        }
+        Stop::Model => Tally::Open,
+        Stop::Fork(l) => {
+            solver::assume(x, n, goals, work, l);
+            let left = count(x, n, goals, work, cap, told.count);
+            match left {
+                Tally::Open => Tally::Open,
+                Tally::Closed(c) => {
+                    deciding::turn(x, n, goals, work, l);
+                    let right = count(x, n, goals, work, cap, c);
+                    match right {
+                        Tally::Open => Tally::Open,
+                        Tally::Closed(d) => {
+                            deciding::undo_to(x, n, goals, work, held);
+                            Tally::Closed(d)
+                        }
+                    }
+                }
+            }
+        }
+    }
+}

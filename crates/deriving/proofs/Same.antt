@@ -1,0 +1,30 @@
+-- Nodes that agree below n give one derivation. Assumes nothing.
+use mathlib.Core.Path.{_≡_, refl, ap, ap₂, _∙_}
+use mathlib.Core.List.{List, [], _∷_, _++_}
+use Prim.Native.Nat.{ℕ, _<_}
+use lib.ListN.{getD}
+use Rattle.scope.specs.declared.Node.{Node}
+use Rattle.calculus.specs.Expansion.{expand}
+use Rattle.calculus.specs.Order.{Tree, tree}
+use Rattle.calculus.specs.Model.{Table, Below, Good}
+use Rattle.calculus.proofs.Search.{Grown, closes, joins, ends, parts, grown-whole}
+use Rattle.rules.specs.declared.Step.{Step}
+use Rattle.rules.specs.Steps.{U, C, S}
+use Rattle.rules.specs.Derivation.{removals, removed, stepsOf}
+use Rattle.deciding.proofs.Bridge.{clauses-same, search-same}
+
+module _ (n : ℕ) (t u : ℕ → Node) (same : (i : ℕ) → i < n → t i ≡ u i) (goals : List ℕ) where
+  removed-same : (G : List ℕ) → Good n G → (k : ℕ) → removed (expand t) goals G k ≡ removed (expand u) goals G k
+  removed-same G g k = ap (λ (cs : List (List ℕ)). removals G k 0 (getD cs k [])) (clauses-same n t u same goals G g)
+
+  -- the steps of a tree that is grown over t
+  steps-same : {G : List ℕ} {tr : Tree} → Grown n t goals G tr → stepsOf (expand t) goals G tr ≡ stepsOf (expand u) goals G tr
+  unfolding stepsOf
+  steps-same {G} (closes {k = k} g m) = ap (_++ C k ∷ []) (removed-same G g k)
+  steps-same {G} (joins {k = k} g m f r) = ap₂ (λ (a b : List Step). a ++ U k ∷ b) (removed-same G g k) (steps-same r)
+  steps-same (ends g m) = refl
+  steps-same (parts {l = l} g m f p q) = ap₂ (λ (a b : List Step). S l ∷ a ++ b) (steps-same p) (steps-same q)
+
+  pub derivation-same : Table n t → Below n goals
+      → stepsOf (expand t) goals [] (tree (expand t) goals n []) ≡ stepsOf (expand u) goals [] (tree (expand u) goals n [])
+  derivation-same T B = steps-same (grown-whole n t goals T B) ∙ ap (stepsOf (expand u) goals []) (search-same n t u same goals T B)

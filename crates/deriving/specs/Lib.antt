@@ -1,0 +1,3 @@
+-- What derive's functions leave, and derive's own contract. Assumes nothing.
+pub mod Trace
+pub mod Derives

@@ -1,0 +1,29 @@
+-- `gather::close` meets its contract: the steps that still gather are written. Assumes nothing.
+use Rattle.gather.specs.Kept.{gathered}
+use Rattle.gather.proofs.Pushes.{close-none, close-some, place-for}
+use native.Mathlib.Omega.{arith}
+use borrow.Author.Needs.{needs}
+use Rattle.gather.proofs.close.Statement.{statement}
+use Rattle.gather.proofs.close.Tie as tie
+
+flush-requires : tie.Need-flush-requires
+flush-requires c κs =
+    let r = c .before .before .before .before .pre in
+    let p = place-for r (omega (arith, c .before .before .if1 .taken)) in
+    (r .gathers .whole, omega (arith, r .gathers .few), p .0, p .1)
+
+same-length : tie.Need-same-length
+same-length c = search needs
+
+returns : tie.Need-returns
+returns c =
+    let a = c .before .before .before .before .before .before .before .args in
+    close-some (a .out .now) (gathered (a .block .now) (a .count) (a .blocks)) (c .before .before .flush .last .0) (omega (arith, c .before .before .before .before .before .if1 .taken)) (c .before .before .flush .ensures)
+
+returns-2 : tie.Need-returns-2
+returns-2 c =
+    let a = c .before .before .args in
+    close-none (a .out .now) (gathered (a .block .now) (a .count) (a .blocks)) (λ h. omega (arith, c .if1 .left))
+
+pub close-spec : {M : Type 1} → statement M
+close-spec = tie.close (tie.spec flush-requires same-length returns returns-2)

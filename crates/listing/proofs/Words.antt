@@ -1,0 +1,64 @@
+-- A goal's word is that of decide's answer, a node's line has its words, and a table's listing its lines. Assumes nothing.
+use mathlib.Core.Path.{_≡_, _∙_, refl, sym}
+use mathlib.Core.List.{List, [], _∷_, _++_}
+use Prim.Native.Nat.{ℕ, _+_, _*_, _<_, _≤_}
+use native.Mathlib.Omega.{arith}
+use lib.ListN.{length}
+use borrow.Author.Tests.{lt-ltb, le-leb}
+use Rattle.scope.specs.declared.Node.{Node}
+use Rattle.scope.specs.Outcome.{Outcome, answer, refused, _>>=_}
+use Rattle.scope.specs.Table.{decode}
+use Rattle.scope.specs.Calls.{tableCount}
+use Rattle.scope.proofs.Tests.{refused-no, bound}
+use Rattle.calculus.specs.Order.{Answer, possible, impossible, unfinished, answerOf}
+use Rattle.calculus.specs.Decide.{searchOf, decide}
+use Rattle.deciding.specs.declared.Decided.{Decided}
+use Rattle.deciding.specs.declared.Decided.the-variants.{Possible, Impossible, Refused}
+use Rattle.deciding.specs.Decides.{decidedOf, wordOf}
+use Rattle.text.specs.Text.{ascii, decimal, refusedLine}
+use Rattle.text.specs.Listing.{wordFor, answerWord, heading, nodeLine, nodeLines, listed, listing}
+use Rattle.listing.specs.Lines.{decidedWord, Judged}
+
+same-word : (r : Decided) (a : Answer) → decidedOf r ≡ answer (wordOf a) → decidedWord r ≡ wordFor a
+same-word Possible (possible G) e = refl
+same-word Possible impossible e = absurd (let z : _≡_ {A = ℕ} 0 1 = cc in omega arith)
+same-word Possible unfinished e = absurd (let z : _≡_ {A = ℕ} 0 1 = cc in omega arith)
+same-word Impossible (possible G) e = absurd (let z : _≡_ {A = ℕ} 0 1 = cc in omega arith)
+same-word Impossible impossible e = refl
+same-word Impossible unfinished e = absurd (let z : _≡_ {A = ℕ} 0 1 = cc in omega arith)
+same-word (Refused f) a e = absurd (let z : _≡_ {A = ℕ} 0 1 = cc in omega arith)
+
+-- buffers that are long enough
+pub judged : (t : List ℕ) (goal : ℕ) (s w : List ℕ) (r : Decided) → 1024 ≤ length s → 32768 ≤ length w
+    → decidedOf r ≡ (decide t goal s w >>= λ d. answer (wordOf (d .verdict))) → Judged t goal r
+unfolding decide
+judged t goal s w r points area e rs reads inside =
+    same-word r (answerOf (searchOf rs (goal ∷ [])))
+    (e ∙ rw (reads, lt-ltb goal (2 * length rs) inside, le-leb 1024 (length s) points, le-leb 32768 (length w) area))
+
+-- a node's line, of the words of its two literals
+pub line-of : (rs : List Node) (n : ℕ) {yes no : List ℕ} → yes ≡ answerWord rs (2 * n) → no ≡ answerWord rs (2 * n + 1)
+    → decimal n ++ (ascii " " ++ (yes ++ (ascii " " ++ (no ++ ascii "\n")))) ≡ nodeLine rs n
+unfolding nodeLine
+line-of rs n p q = rw (p, q)
+
+-- the listing of a table that was counted, and of one that was refused
+refused-listed : (x : Outcome (List Node)) {number place : ℕ} → (x >>= λ rs. answer (length rs)) ≡ refused number place
+    → listed x ≡ refusedLine number place
+refused-listed (answer rs) e = refused-no (sym e)
+refused-listed (refused number place) e = cc
+
+read-listed : (x : Outcome (List Node)) (rs : List Node) (nodes : ℕ) → x ≡ answer rs → length rs ≡ nodes → heading ++ nodeLines rs nodes ≡ listed x
+read-listed x rs nodes p q = rw (p, q)
+
+pub refused-listing : (t : List ℕ) {number place : ℕ} → tableCount t ≡ refused number place → refusedLine number place ≡ listing t
+unfolding tableCount
+refused-listing t e = sym (refused-listed (decode t) e)
+
+pub counted-listing : (t : List ℕ) {nodes : ℕ} → tableCount t ≡ answer nodes
+    → (rs : List Node) × (decode t ≡ answer rs) × (length rs ≡ nodes) × (heading ++ nodeLines rs nodes ≡ listing t)
+unfolding tableCount
+counted-listing t {nodes} e =
+    let b = bound (decode t) (λ rs. answer (length rs)) e in
+    let same : length (b .0) ≡ nodes = cc (b .2) in
+    (b .0, b .1, same, read-listed (decode t) (b .0) nodes (b .1) same)

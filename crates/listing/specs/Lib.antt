@@ -1,0 +1,2 @@
+-- What the listing program's functions leave. Assumes nothing.
+pub mod Lines

@@ -1,0 +1,158 @@
+/* Derivations, an independent reading of the scope paper in plain C: the form of the bytes, and the checker's rules on a state that is
+ * saved whole at every split. It shares nothing with the library. */
+#ifndef RULES_H
+#define RULES_H
+
+#include "order.h"
+
+typedef struct { o_state s; uint8_t struck[O_CLAUSES], gone[O_CLAUSES][2]; } o_branch;
+typedef struct { unsigned number; size_t place; } o_told;
+
+static inline o_told o_no(unsigned number, size_t place)
+{
+    o_told v = { number, place };
+    return v;
+}
+
+static inline const uint8_t *o_step_at(const uint8_t *d, size_t k) { return d + 512 * (k / 126) + 4 + 4 * (k % 126); }
+
+/* The blocks that hold steps, written to a buffer; their length. */
+static inline size_t o_steps_build(uint8_t *d, const uint8_t (*steps)[4], size_t n)
+{
+    size_t blocks = (n + 125) / 126;
+    memset(d, 0, 512 * blocks);
+    for (size_t j = 0; j < blocks; j++) {
+        uint8_t *b = d + 512 * j;
+        size_t count = n - 126 * j < 126 ? n - 126 * j : 126;
+        b[0] = 68;
+        b[1] = (uint8_t)count;
+        b[2] = (uint8_t)j;
+        b[3] = (uint8_t)(j >> 8);
+        memcpy(b + 4, steps[126 * j], 4 * count);
+        o_seal(b);
+    }
+    return 512 * blocks;
+}
+
+/* Rows 40 to 44, and the step count. */
+static inline o_told o_form(const uint8_t *d, size_t len, size_t *steps)
+{
+    *steps = 0;
+    if (len == 0 || len % 512 || len > 33554432)
+        return o_no(40, 0);
+    for (size_t j = 0; j < len / 512; j++) {
+        const uint8_t *b = d + 512 * j;
+        int last = j + 1 == len / 512;
+        if (o_check(b) != o_word(b + 510))
+            return o_no(41, j);
+        if (b[0] != 68 || o_word(b + 2) != j || b[1] == 0 || b[1] > 126 || (!last && b[1] != 126))
+            return o_no(42, j);
+        for (int i = 4 + 4 * b[1]; i < 510; i++)
+            if (b[i])
+                return o_no(43, j);
+        *steps += b[1];
+    }
+    for (size_t k = 0; k < *steps; k++) {
+        const uint8_t *s = o_step_at(d, k);
+        if (!(s[0] == 82 && s[1] <= 1) && !(s[1] == 0 && (s[0] == 85 || s[0] == 69 || s[0] == 67 || s[0] == 83)))
+            return o_no(44, k);
+    }
+    return o_no(0, 0);
+}
+
+/* One step on a branch: 0 its condition fails, 1 it goes on, 2 the branch closes. */
+static inline int o_apply(o_branch *b, const uint8_t *t, int rule, int p, int k)
+{
+    o_state *s = &b->s;
+    if (k >= s->clauses || b->struck[k])
+        return 0;
+    const o_clause *c = &s->clause[k];
+    int left = 0, lit = 0, met = 0;
+    for (int i = 0; i < c->len; i++)
+        if (!b->gone[k][i]) {
+            left++;
+            lit = c->lit[i];
+            met |= o_value(s, lit) == 1;
+        }
+    switch (rule) {
+    case 85:
+        if (left != 1 || o_value(s, lit) != 0)
+            return 0;
+        b->struck[k] = 1;
+        o_join(s, t, lit);
+        return 1;
+    case 82:
+        if (p >= c->len || b->gone[k][p] || o_value(s, c->lit[p]) != 2)
+            return 0;
+        b->gone[k][p] = 1;
+        return 1;
+    case 69:
+        if (!met)
+            return 0;
+        b->struck[k] = 1;
+        return 1;
+    default:
+        return left == 0 ? 2 : 0;
+    }
+}
+
+static inline o_branch *o_root(int goal)
+{
+    o_branch *b = calloc(1, sizeof *b);
+    if (!b)
+        exit(2);
+    o_clause_of(&b->s, 1, goal, 0);
+    return b;
+}
+
+/* Each step in turn and the end: 0, or 45 to 47 with its place. */
+static inline o_told o_run(const uint8_t *t, size_t nodes, int goal, const uint8_t *d, size_t steps)
+{
+    static o_branch *waiting[2100];
+    size_t depth = 0;
+    o_branch *b = o_root(goal);
+    o_told v = o_no(0, 0);
+    for (size_t i = 0; i < steps && !v.number; i++) {
+        const uint8_t *s = o_step_at(d, i);
+        int value = (int)o_word(s + 2);
+        if (!b)
+            v = o_no(46, i);
+        else if (s[0] == 83) {
+            if ((size_t)value >= 2 * nodes || o_value(&b->s, value))
+                v = o_no(45, i);
+            else {
+                o_branch *right = malloc(sizeof *right);
+                if (!right)
+                    exit(2);
+                *right = *b;
+                o_join(&right->s, t, value ^ 1);
+                o_join(&b->s, t, value);
+                waiting[depth++] = right;
+            }
+        } else
+            switch (o_apply(b, t, s[0], s[1], value)) {
+            case 0:
+                v = o_no(45, i);
+                break;
+            case 2:
+                free(b);
+                b = depth ? waiting[--depth] : NULL;
+            }
+    }
+    if (!v.number && b)
+        v = o_no(47, steps);
+    free(b);
+    while (depth)
+        free(waiting[--depth]);
+    return v;
+}
+
+/* Check of a readable table and a goal in it. */
+static inline o_told o_checked(const uint8_t *t, size_t nodes, int goal, const uint8_t *d, size_t len)
+{
+    size_t steps;
+    o_told v = o_form(d, len, &steps);
+    return v.number ? v : o_run(t, nodes, goal, d, steps);
+}
+
+#endif

@@ -1,0 +1,99 @@
+/* What the C tests share: counting of checks, a work area between canaries, records, random tables, the deepest table. */
+#ifndef TABLES_H
+#define TABLES_H
+
+#include "../include/bevaridhom.h"
+#include "oracle.h"
+#include <stdio.h>
+
+static unsigned long checks, failed;
+
+#define EXPECT(cond)                                                       \
+    do {                                                                   \
+        checks++;                                                          \
+        if (!(cond)) {                                                     \
+            failed++;                                                      \
+            printf("%s:%d: %s\n", __FILE__, __LINE__, #cond);              \
+        }                                                                  \
+    } while (0)
+
+enum { GUARD = 32 };
+static uint16_t area[GUARD + BEV_WORK + GUARD], *const work = area + GUARD;
+static uint64_t seed = 2463534242u;
+
+static void guard(void)
+{
+    for (int i = 0; i < GUARD; i++)
+        area[i] = area[GUARD + BEV_WORK + i] = 0xBEEF;
+}
+
+static int whole(void)
+{
+    for (int i = 0; i < GUARD; i++)
+        if (area[i] != 0xBEEF || area[GUARD + BEV_WORK + i] != 0xBEEF)
+            return 0;
+    return 1;
+}
+
+static unsigned pick(unsigned below)
+{
+    seed ^= seed << 13;
+    seed ^= seed >> 7;
+    seed ^= seed << 17;
+    return (unsigned)(seed >> 11) % below;
+}
+
+static void rec(uint8_t *r, unsigned kind, unsigned a, unsigned b)
+{
+    memset(r, 0, 8);
+    r[0] = (uint8_t)kind;
+    r[2] = (uint8_t)a;
+    r[3] = (uint8_t)(a >> 8);
+    r[4] = (uint8_t)b;
+    r[5] = (uint8_t)(b >> 8);
+}
+
+/* Some points, then operations on random earlier nodes: all kinds, both signs, shared nodes. */
+static size_t random_table(uint8_t *t, unsigned points, size_t n)
+{
+    static uint8_t r[300][8];
+    for (size_t i = 0; i < n; i++) {
+        int again = 1;
+        for (int tries = 0; again; tries++) {
+            unsigned kind = i < points ? 2 : pick(12) ? 3 + pick(4) : 1;
+            if (kind <= 2)
+                rec(r[i], kind, kind == 2 ? (unsigned)i : 0, 0);
+            else {
+                unsigned p = pick((unsigned)i), q = pick((unsigned)i);
+                if (pick(3))
+                    p = (unsigned)i - 1 - pick((unsigned)i < 4 ? (unsigned)i : 4);
+                while (p == q)
+                    q = pick((unsigned)i);
+                if (kind != 5 && p > q) {
+                    unsigned s = p;
+                    p = q;
+                    q = s;
+                }
+                rec(r[i], kind, 2 * p + pick(2), 2 * q + pick(2));
+            }
+            again = 0;
+            for (size_t m = 0; m < i; m++)
+                again |= memcmp(r[m], r[i], 8) == 0;
+        }
+    }
+    return o_build(t, (const uint8_t (*)[8])r, n);
+}
+
+/* TRUE, ATOM, AND(¬TRUE, ATOM), then a chain IMP(¬previous, ¬TRUE): over 2,000 nested splits, and every branch closes. */
+static size_t deep_table(uint8_t *t)
+{
+    static uint8_t r[2016][8];
+    rec(r[0], 1, 0, 0);
+    rec(r[1], 2, 0, 0);
+    rec(r[2], 3, 1, 2);
+    for (unsigned i = 3; i < 2016; i++)
+        rec(r[i], 5, 2 * (i - 1) + 1, 1);
+    return o_build(t, (const uint8_t (*)[8])r, 2016);
+}
+
+#endif
