@@ -65,6 +65,11 @@ bev_opened bev_open(const uint8_t *derivation, size_t derivation_len);
 /* The step at an index of a derivation that bev_open has answered: left 1 and the step, or left 0 where none is left. */
 bev_stepped bev_step(const uint8_t *derivation, size_t derivation_len, size_t index);
 
+/* Reads a DIMACS text (conjunctive normal form) and builds its table in an empty buffer: answers the goal literal and the used length.
+ * Variable v is point v - 1; the goal is true exactly where every clause is. Refusals: 60 heading, 61 body (no byte has changed), 51
+ * and 52 as in bev_add, at the node count (the buffer's contents are then free). */
+bev_added bev_dimacs(const uint8_t *text, size_t text_len, uint8_t *buffer, size_t buffer_len);
+
 #ifdef __cplusplus
 }
 #endif

@@ -1,4 +1,4 @@
--- What a host is told of decide, derive and check, whatever case the answer is. Assumes nothing.
+-- What a host is told of decide, derive, check and the DIMACS reader, whatever case the answer is. Assumes nothing.
 use mathlib.Core.Path.{_≡_, _∙_, ap, sym, refl}
 use mathlib.Core.List.{List}
 use Prim.Native.Nat.{ℕ, _≤_, _<_}
@@ -15,8 +15,11 @@ use Rattle.deriving.specs.Derives.{derivedOf, Derives}
 use Rattle.checking.specs.declared.Checked.{Checked}
 use Rattle.checking.specs.declared.Checked.the-variants.{Accepted, Refused as NotAccepted}
 use Rattle.checking.specs.Checks.{checkedOf, Checks}
+use Rattle.adding.specs.declared.Added.{Added as Put}
+use Rattle.adding.specs.Added.{addedOf}
+use Rattle.cnfread.specs.Reads.{Reads}
 use Rattle.bevaridhom.specs.declared.BevDecided.{BevDecided}
-use Rattle.bevaridhom.specs.Answers.{decideAnswer, HostDecides, deriveAnswer, HostDerives, checkAnswer, HostChecks}
+use Rattle.bevaridhom.specs.Answers.{decideAnswer, HostDecides, deriveAnswer, HostDerives, checkAnswer, HostChecks, markAnswer, HostReads}
 
 same-number : {A : Type 0} {m n p q : ℕ} → _≡_ {A = Outcome A} (refused m p) (refused n q) → m ≡ n
 same-number e = cc
@@ -62,4 +65,11 @@ pub told-check : (t : List ℕ) (goal : ℕ) (w d w′ : List ℕ) (r : Checked)
 told-check t goal w d w′ r h e = record {
   answered = ap (λ (x : Checked). checkAnswer (checkedOf x)) (sym e) ∙ ap checkAnswer (h .answered);
   work = kept-check t goal w d w′ r h;
+}
+
+pub told-read : (text buf after : List ℕ) (v : Put) {v′ : Put} → Reads text buf v after → v ≡ v′ → HostReads text buf (markAnswer (addedOf v′)) after
+told-read text buf after v h e = record {
+  answered = ap (λ (x : Put). markAnswer (addedOf x)) (sym e) ∙ ap markAnswer (h .answered);
+  bytes = h .bytes;
+  kept = h .kept;
 }

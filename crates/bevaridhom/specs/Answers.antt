@@ -10,6 +10,8 @@ use Rattle.calculus.specs.Decide.{decide, settingsAfter}
 use Rattle.rules.specs.Derive.{derive, derivedAfter, check}
 use Rattle.deciding.specs.Decides.{Word, can, cannot, nothing, wordOf}
 use Rattle.adding.specs.declared.Mark.{Mark}
+use Rattle.cnf.specs.Text.{fileOf}
+use Rattle.cnf.specs.Reader.{dimacs}
 use Rattle.adding.specs.Added.{marked}
 use Rattle.bevaridhom.specs.declared.BevCount.{BevCount}
 use Rattle.bevaridhom.specs.declared.BevRecord.{BevRecord}
@@ -91,3 +93,10 @@ openAnswer (refused n p) = record { number = n; place = p; steps = 0 }
 abbrev pub stepAnswer : Handed → BevStep
 stepAnswer (Step s) = record { left = 1; rule = s .rule; position = s .position; value = s .value }
 stepAnswer Done = record { left = 0; rule = 0; position = 0; value = 0 }
+
+-- the DIMACS reader for a host: the goal literal and the used length; the table's bytes; 60 and 61 change no byte, and after 51 or 52
+-- the buffer is free
+pub record HostReads (text buf : List ℕ) (r : BevAdded) (after : List ℕ) : Type 0 where
+  pub answered : r ≡ addAnswer (dimacs text buf)
+  pub bytes : (x : Added) → dimacs text buf ≡ answer x → after ≡ x .bytes
+  pub kept : (number place : ℕ) → fileOf text ≡ refused number place → after ≡ buf

@@ -3,7 +3,7 @@ ghost use mathlib.Core.Path.{_≡_};
 ghost use Rattle.scope.specs.Calls.{tableCount, tableRecord, evaluate, add, bytesAfter};
 ghost use Rattle.steps.specs.Opened.{stepCount};
 ghost use Rattle.reader.specs.Handed.{nextOf};
-ghost use Rattle.bevaridhom.specs.Answers.{countAnswer, recordAnswer, truthAnswer, addAnswer, openAnswer, stepAnswer, HostDecides, HostDerives, HostChecks};
+ghost use Rattle.bevaridhom.specs.Answers.{countAnswer, recordAnswer, truthAnswer, addAnswer, openAnswer, stepAnswer, HostDecides, HostDerives, HostChecks, HostReads};
 use adding::Added;
 use checking::Checked;
 use deciding::Decided;
@@ -269,6 +269,28 @@ pub extern "C" fn bev_step(d: &[u8], index: usize) -> BevStep
             rule: 0,
             position: 0,
             value: 0,
+        },
+    }
+}
+
+// The goal of a DIMACS text and its table, built in an empty buffer. After 51 or 52 the buffer is free.
+#[no_mangle]
+pub extern "C" fn bev_dimacs(text: &[u8], buf: &mut [u8]) -> BevAdded
+    ensures { λ r. ⌜ HostReads (now (text .entry)) (now (buf .entry)) r (now (buf .exit)) ⌝ }
+{
+    let c = cnfread::read(text, buf);
+    match c {
+        Added::At(m) => BevAdded {
+            number: 0,
+            place: 0,
+            literal: m.literal,
+            used: m.used,
+        },
+        Added::Refused(f) => BevAdded {
+            number: f.number,
+            place: f.place,
+            literal: 0,
+            used: 0,
         },
     }
 }

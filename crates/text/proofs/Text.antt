@@ -1,16 +1,18 @@
--- Laws of text in a buffer, and of decimal numbers. Assumes nothing.
+-- Laws of text in a buffer, of decimal numbers, and of reading them. Assumes nothing.
 use mathlib.Core.Path.{_≡_, _∙_, refl, ap, sym}
 use mathlib.Core.List.{List, [], _∷_, _++_, append-assoc}
-use mathlib.Core.Bool.{Bool, true, false, cond}
+use mathlib.Core.Bool.{Bool, true, false, cond, _&&_}
 use Prim.Native.Nat.{ℕ, zero, suc, _+_, _-_, _*_, _/_, _%_, _^_, _<_, _≤_}
 use native.Mathlib.Nat.{add-zero, one-le-pow, pow-succ', pow-le-pow-right}
+use native.Mathlib.Numerals.{add-one}
 use native.Mathlib.Omega.{arith}
 use lib.Dec.{leb, ltb, lit<}
-use lib.ListN.{length, take, drop, length-append, take-append-drop}
-use lib.Seq.{paste, length-paste, take-length, length-take-le, take-at, drop-at, drop-drop}
-use borrow.Author.Tests.{lt-ltb, le-ltb, leb-true, leb-false}
+use lib.ListN.{length, take, drop, length-append, take-append-drop, getD, drop-of-length-le}
+use lib.Seq.{paste, length-paste, take-length, length-take-le, take-at, drop-at, drop-drop, drop-cons}
+use borrow.Author.Tests.{ne-eqb, le-leb, lt-leb, lt-ltb, le-ltb, leb-true, leb-false}
+use Rattle.io.specs.Counts.{Counts}
 use Rattle.io.specs.Digits.{glyph, digits, Fewest}
-use Rattle.text.specs.Text.{digitsOf, decimal, over, Put}
+use Rattle.text.specs.Text.{digitsOf, decimal, over, Put, number, none, readFrom, readNumber}
 
 -- a copy of a whole text
 pub pasted : (out : List ℕ) (at : ℕ) (s : List ℕ) (i : ℕ) {out′ : List ℕ} → at + length s ≤ length out → i ≡ length s → out′ ≡ paste out at s i
@@ -56,6 +58,12 @@ within {out} {out₁} {s} {a} {b} h p =
     ∙ ap (_+ length (s ++ drop (a + length s) out)) (length-take-le a out h) ∙ ap (a +_) (length-append s (drop (a + length s) out)) in
     omega arith
 
+-- .. so that it can be lent
+pub counted : {out out₁ s : List ℕ} {a b : ℕ} → a ≤ length out → Put out a s out₁ b → Counts b out₁
+counted {out} {out₁} {s} {a} {b} h p =
+    let inside : b ≤ length out₁ = omega (arith, within h p, p .size) in
+    (inside, sym (length-take-le b out₁ inside))
+
 -- ---- decimal numbers
 
 -- a number below ten is one digit
@@ -94,3 +102,38 @@ twenty-by false k n e h w =
 
 pub twenty : (k n : ℕ) → n < 18446744073709551616 → Fewest 10 1 n k → k ≤ 20
 twenty k n h w = twenty-by (leb k 20) k n refl h w
+
+-- ---- the number that a text says
+
+module _ (s : List ℕ) (v i : ℕ) (h : i < length s) where
+  abbrev here : ℕ
+  here = getD s i 0
+
+  opened : readFrom v (drop i s) ≡ cond (leb 48 here && (leb here 57 && ltb v 1000000000)) (readFrom (10 * v + (here - 48)) (drop (suc i) s)) none
+  unfolding readFrom
+  opened = rw (drop-cons s i 0 h)
+
+  pub low-byte : here < 48 → readFrom v (drop i s) ≡ none
+  low-byte e = opened ∙ rw (lt-leb 48 here e)
+
+  pub high-byte : 57 < here → readFrom v (drop i s) ≡ none
+  high-byte e = opened ∙ rw (le-leb 48 here (omega arith), lt-leb here 57 e)
+
+  module _ (low : 48 ≤ here) (high : here ≤ 57) where
+    pub too-long : 1000000000 ≤ v → readFrom v (drop i s) ≡ none
+    too-long e = opened ∙ rw (le-leb 48 here low, le-leb here 57 high, le-ltb v 1000000000 e)
+
+    pub one-more : v < 1000000000 → readFrom (10 * v + (here - 48)) (drop (i + 1) s) ≡ readFrom v (drop i s)
+    one-more e = sym (opened ∙ rw (le-leb 48 here low, le-leb here 57 high, lt-ltb v 1000000000 e, add-one i))
+
+pub no-more : (s : List ℕ) (v i : ℕ) → length s ≤ i → readFrom v (drop i s) ≡ number v
+unfolding readFrom
+no-more s v i h = rw (drop-of-length-le s {i = i} h)
+
+pub no-digits : (s : List ℕ) → length s ≡ 0 → readNumber s ≡ none
+unfolding readNumber
+no-digits s e = rw e
+
+pub some-digits : (s : List ℕ) → (length s ≡ 0 → ⊥) → readFrom 0 s ≡ readNumber s
+unfolding readNumber
+some-digits s e = rw (ne-eqb (length s) 0 e)

@@ -1,12 +1,14 @@
 -- Text as bytes: ASCII, decimal numbers, and the line of a refusal. Assumes nothing.
 use mathlib.Core.Path.{_≡_}
 use mathlib.Core.List.{List, [], _∷_, _++_}
-use mathlib.Core.Bool.{cond}
-use Prim.Native.Nat.{ℕ, zero, suc, _+_, _/_, _%_}
+use mathlib.Core.Bool.{cond, _&&_}
+use Prim.Native.Nat.{ℕ, zero, suc, _+_, _-_, _*_, _/_, _%_}
 use Prim.Native.Char.{code}
 use Prim.Native.String.{String, [] as end, _∷_ as _then_}
-use lib.Dec.{ltb}
+use lib.Dec.{eqb, leb, ltb}
 use lib.ListN.{length, take, drop}
+use Rattle.text.specs.declared.Numeral.{Numeral}
+use Rattle.text.specs.declared.Numeral.the-variants.{Number, Not}
 
 -- the bytes of a text
 unfoldable pub ascii : String → List ℕ
@@ -33,3 +35,22 @@ pub record Put (out : List ℕ) (at : ℕ) (s out′ : List ℕ) (end : ℕ) : T
   pub bytes : out′ ≡ over out at s
   pub ends : end ≡ at + length s
   pub size : length out′ ≡ length out
+
+-- what a text says as a number
+pub data Reading : Type 0 where
+  number : ℕ → Reading
+  none : Reading
+
+-- digits behind digits of value v, each of which leaves it below ten billion
+unfoldable pub readFrom : ℕ → List ℕ → Reading
+readFrom v [] = number v
+readFrom v (b ∷ s) = cond (leb 48 b && (leb b 57 && ltb v 1000000000)) (readFrom (10 * v + (b - 48)) s) none
+
+-- a number in base ten: one digit or more, up to ten
+unfoldable pub readNumber : List ℕ → Reading
+readNumber s = cond (eqb (length s) 0) none (readFrom 0 s)
+
+-- the values of every case of a `Numeral`
+abbrev pub numeralOf : Numeral → Reading
+numeralOf (Number n) = number n
+numeralOf Not = none

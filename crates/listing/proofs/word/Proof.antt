@@ -1,11 +1,8 @@
 -- `listing::word` meets its contract. Assumes nothing.
-use mathlib.Core.Path.{ap, subst⁻¹}
 use native.Mathlib.Omega.{arith}
 use borrow.Author.Needs.{needs}
-use Rattle.deciding.specs.declared.Decided.{Decided}
 use Rattle.text.specs.Text.{ascii}
 use Rattle.text.proofs.Text.{nothing}
-use Rattle.listing.specs.Lines.{decidedWord, Worded}
 use Rattle.listing.proofs.word.Statement.{statement}
 use Rattle.listing.proofs.word.Tie as tie
 

@@ -1,0 +1,183 @@
+/* The tables that are measured. */
+#ifndef CASES_H
+#define CASES_H
+
+#include "plain.h"
+#include <stdio.h>
+#include <stdlib.h>
+
+typedef struct { char name[32]; uint8_t table[16384]; size_t len, nodes, goal; } a_case;
+
+static uint64_t b_record[P_NODES];
+static size_t b_nodes;
+static uint64_t b_seed;
+
+static unsigned pick(unsigned below)
+{
+    b_seed ^= b_seed << 13;
+    b_seed ^= b_seed >> 7;
+    b_seed ^= b_seed << 17;
+    return (unsigned)(b_seed >> 11) % below;
+}
+
+enum { IS_TRUE = 1, ATOM, AND, OR, IMP, IFF };
+
+/* The literal of a record, which is added unless it is there. */
+static unsigned node(unsigned kind, unsigned a, unsigned b)
+{
+    if (kind > ATOM && kind != IMP && a / 2 > b / 2) {
+        unsigned s = a;
+        a = b;
+        b = s;
+    }
+    uint64_t r = kind | (uint64_t)a << 16 | (uint64_t)b << 32;
+    for (size_t n = 0; n < b_nodes; n++)
+        if (b_record[n] == r)
+            return 2 * (unsigned)n;
+    if (b_nodes == P_NODES || p_record(r, b_nodes)) {
+        fprintf(stderr, "bench: a case does not fit\n");
+        exit(2);
+    }
+    b_record[b_nodes++] = r;
+    return 2 * (unsigned)(b_nodes - 1);
+}
+
+static unsigned atom(unsigned point) { return node(ATOM, point, 0); }
+static unsigned no(unsigned l) { return l ^ 1; }
+
+/* One more member of a chain; `none` is the chain without any. */
+enum { none = 65535 };
+static unsigned chain(unsigned kind, unsigned so_far, unsigned l) { return so_far == none ? l : node(kind, so_far, l); }
+
+static void write_case(a_case *c, const char *name, unsigned n, unsigned goal)
+{
+    snprintf(c->name, sizeof c->name, n ? "%s %u" : "%s", name, n);
+    c->nodes = b_nodes;
+    c->goal = goal;
+    c->len = 512 * ((b_nodes + 62) / 63);
+    memset(c->table, 0, sizeof c->table);
+    for (size_t m = 0; m < b_nodes; m++) {
+        uint8_t *b = c->table + 512 * (m / 63);
+        b[0] = 70;
+        b[1]++;
+        b[2] = (uint8_t)(m / 63);
+        memcpy(b + 4 + 8 * (m % 63), &b_record[m], 8);
+    }
+    for (size_t j = 0; j < c->len / 512; j++)
+        p_seal(c->table + 512 * j);
+    b_nodes = 0;
+}
+
+/* n + 1 pigeons do not fit into n holes. */
+static void pigeonhole(a_case *c, unsigned n)
+{
+    unsigned all = none;
+    for (unsigned i = 0; i <= n; i++)
+        for (unsigned j = 0; j < n; j++)
+            atom(n * i + j);
+    for (unsigned i = 0; i <= n; i++) {
+        unsigned some = none;
+        for (unsigned j = 0; j < n; j++)
+            some = chain(OR, some, atom(n * i + j));
+        all = chain(AND, all, some);
+    }
+    for (unsigned j = 0; j < n; j++)
+        for (unsigned i = 0; i <= n; i++)
+            for (unsigned k = 0; k < i; k++)
+                all = chain(AND, all, node(OR, no(atom(n * k + j)), no(atom(n * i + j))));
+    write_case(c, "pigeonhole", n, all);
+}
+
+/* If any two neighbours of a ring of 2 n + 1 that are equal make all true, then all are true. */
+static void de_bruijn(a_case *c, unsigned n)
+{
+    unsigned m = 2 * n + 1, all = none, left = none;
+    for (unsigned i = 0; i < m; i++)
+        all = chain(AND, all, atom(i));
+    for (unsigned i = 0; i < m; i++)
+        left = chain(AND, left, node(IMP, node(IFF, atom(i), atom((i + 1) % m)), all));
+    write_case(c, "de Bruijn", n, no(node(IMP, left, all)));
+}
+
+/* ((p1 = p2) = ..) = pn is the same as p1 = (.. = pn). */
+static void equivalences(a_case *c, unsigned n)
+{
+    unsigned up = none, down = none;
+    for (unsigned i = 0; i < n; i++)
+        atom(i);
+    for (unsigned i = 0; i < n; i++)
+        up = chain(IFF, up, atom(i));
+    for (unsigned i = n; i-- > 0;)
+        down = chain(IFF, down, atom(i));
+    write_case(c, "equivalences", n, no(node(IFF, up, down)));
+}
+
+/* Not not (all p, or some not p), as implications of false. */
+static void franzen(a_case *c, unsigned n)
+{
+    unsigned falsity = no(node(IS_TRUE, 0, 0)), all = none, some = none;
+    for (unsigned i = 0; i < n; i++)
+        all = chain(AND, all, atom(i));
+    for (unsigned i = 0; i < n; i++)
+        some = chain(OR, some, node(IMP, atom(i), falsity));
+    write_case(c, "Franzen", n, no(node(IMP, node(IMP, node(OR, all, some), falsity), falsity)));
+}
+
+/* pn, and p(i) implies that p(i) implies p(i - 1): so p0. */
+static void schwichtenberg(a_case *c, unsigned n)
+{
+    unsigned left = atom(n);
+    for (unsigned i = 1; i <= n; i++)
+        left = chain(AND, left, node(IMP, atom(i), node(IMP, atom(i), atom(i - 1))));
+    write_case(c, "Schwichtenberg", n, no(node(IMP, left, atom(0))));
+}
+
+/* Random clauses of three points, 4.26 to a point. */
+static void random_clauses(a_case *c, unsigned n, unsigned seed)
+{
+    char name[32];
+    b_seed = 88172645463325252u + seed * 7919;
+    for (unsigned i = 0; i < 20; i++)
+        pick(2);
+    for (unsigned i = 0; i < n; i++)
+        atom(i);
+    unsigned all = none, clauses = n * 426 / 100;
+    for (unsigned k = 0; k < clauses; k++) {
+        unsigned x = pick(n), y = pick(n), z = pick(n);
+        while (y == x)
+            y = pick(n);
+        while (z == x || z == y)
+            z = pick(n);
+        unsigned pair = node(OR, 2 * x + pick(2), 2 * y + pick(2));
+        all = chain(AND, all, node(OR, pair, 2 * z + pick(2)));
+    }
+    snprintf(name, sizeof name, "random %u/%u", n, seed);
+    write_case(c, name, 0, all);
+}
+
+/* A table of so many nodes whose goals are all decided quickly: 96 points, then operations mostly of nodes far back. */
+static void easy(a_case *c, unsigned n, unsigned seed)
+{
+    b_seed = 88172645463325252u + seed * 104729;
+    for (unsigned i = 0; i < 96; i++)
+        atom(i);
+    while (b_nodes < n) {
+        unsigned m = (unsigned)b_nodes, x = pick(m), y = pick(m), kind = 3 + pick(4);
+        if (pick(3))
+            x = pick(96);
+        if (x != y)
+            node(kind, 2 * x + pick(2), 2 * y + pick(2));
+    }
+    write_case(c, "easy", n, 2 * (n - 1));
+}
+
+/* TRUE, a point, AND(not TRUE, point), then IMP(not previous, not TRUE): over 2,000 nested splits. */
+static void deepest(a_case *c)
+{
+    unsigned falsity = no(node(IS_TRUE, 0, 0)), l = node(AND, falsity, atom(0));
+    while (b_nodes < P_NODES)
+        l = node(IMP, no(l), falsity);
+    write_case(c, "deepest", 0, l);
+}
+
+#endif

@@ -1,0 +1,2 @@
+-- A law of loading. Assumes nothing.
+pub mod Loading

@@ -1,0 +1,2 @@
+-- What the functions of this crate answer. Assumes nothing.
+pub mod Loaded

@@ -1,0 +1,3 @@
+-- Laws of tables under way. Assumes nothing.
+pub mod Built
+pub mod Folds

@@ -1,0 +1,61 @@
+-- `cnfread::add_clause` meets its contract: both signs are TRUE, other clauses an OR. Assumes nothing.
+use mathlib.Core.Path.{_∙_, sym}
+use Rattle.cnffold.proofs.Built.{built-as}
+use Rattle.cnfread.specs.Clauses.{clauseAt}
+use Rattle.cnfread.proofs.Joining.{clause-both, clause-or}
+use borrow.Author.Needs.{needs}
+use Rattle.cnfread.proofs.add_clause.Statement.{statement}
+use Rattle.cnfread.proofs.add_clause.Tie as tie
+
+slice-aggregate-gather : tie.Need-slice-aggregate-gather
+slice-aggregate-gather c = search needs
+
+gather-requires : tie.Need-gather-requires
+gather-requires c κs = (c .before .before .before .pre, search needs)
+
+put-requires : tie.Need-put-requires
+put-requires c κs = search needs
+
+same-length : tie.Need-same-length
+same-length c = search needs
+
+returns : tie.Need-returns
+returns c =
+    let a = c .before .before .before .before .before .before .before .before .before .before .args in
+    let g = c .before .before .before .before .before .before .gather .ensures in
+    record {
+      built = λ l. built-as (clause-both (a .used) (a .buf .now) l (clauseAt (a .vars) (a .text .now) (a .at)) (sym (g .both) ∙ c .before .before .before .before .if1 .taken)) (c .before .before .put .ensures);
+      moves = g .moves;
+    }
+
+slice-aggregate-or-clause : tie.Need-slice-aggregate-or-clause
+slice-aggregate-or-clause c = search needs
+
+or-clause-requires : tie.Need-or-clause-requires
+or-clause-requires c κs = c .before .before .before .before .gather .ensures .small
+
+same-length-2 : tie.Need-same-length-2
+same-length-2 c = search needs
+
+returns-2 : tie.Need-returns-2
+returns-2 c =
+    let a = c .before .before .before .before .before .before .before .before .before .before .before .args in
+    let g = c .before .before .before .before .before .before .before .gather .ensures in
+    record {
+      built = λ l. built-as (clause-or (a .used) (a .buf .now) l (clauseAt (a .vars) (a .text .now) (a .at)) (g .list) (sym (g .both) ∙ c .before .before .before .before .before .if1 .left)) (c .before .before .or-clause .ensures);
+      moves = g .moves;
+    }
+
+pub add-clause-spec : {M : Type 1} → statement M
+add-clause-spec =
+    tie.close
+    (tie.spec
+    slice-aggregate-gather
+    gather-requires
+    put-requires
+    same-length
+    returns
+    slice-aggregate-or-clause
+    or-clause-requires
+    same-length-2
+    returns-2)

@@ -1,0 +1,4 @@
+-- Laws of the scan. Assumes nothing.
+pub mod Parts
+pub mod Clauses
+pub mod Headings

@@ -1,0 +1,2 @@
+-- What the functions on a text answer. Assumes nothing.
+pub mod Scanned

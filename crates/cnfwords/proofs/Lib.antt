@@ -1,0 +1,3 @@
+-- Laws of numbers and of words. Assumes nothing.
+pub mod Numbers
+pub mod Words

@@ -1,0 +1,2 @@
+-- What the functions on the body's words answer. Assumes nothing.
+pub mod Words

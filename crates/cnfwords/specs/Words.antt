@@ -1,0 +1,60 @@
+-- Numbers, where words start and end, and what stands next in a body. Assumes nothing.
+use mathlib.Core.Path.{_≡_}
+use mathlib.Core.List.{List, [], _∷_}
+use mathlib.Core.Bool.{Bool, true, false, cond, _&&_}
+use Prim.Native.Nat.{ℕ, _+_, _-_, _*_, _<_, _≤_}
+use lib.Dec.{eqb, leb}
+use lib.ListN.{length, getD, take, drop}
+use Rattle.cnf.specs.declared.Word.{Word}
+use Rattle.cnf.specs.declared.Word.the-variants.{Malformed, End, Literal}
+use Rattle.cnf.specs.Text.{few, valueFrom, separator, wordsFrom, words, allDigits, wordOf}
+use Rattle.cnfwords.specs.declared.Number.{Number}
+use Rattle.cnfwords.specs.declared.Number.the-variants.{Value, Malformed as None}
+use Rattle.cnfwords.specs.declared.Token.{Token}
+use Rattle.cnfwords.specs.declared.Token.the-variants.{Done, Malformed as Bad, End as Ended, Literal as Joins}
+
+-- 'numbers have 1 to 9 digits'
+unfoldable pub numberOf : List ℕ → Number
+numberOf w = cond (few w && allDigits w) (Value (valueFrom 0 w)) None
+
+-- what a number says with a sign, where there are so many variables
+abbrev pub said : Number → Bool → ℕ → Word
+said None negated vars = Malformed
+said (Value v) negated vars =
+    cond (leb v vars)
+    (cond negated (cond (eqb v 0) Malformed (Literal (2 * (v - 1) + 1)))
+    (cond (eqb v 0) End (Literal (2 * (v - 1)))))
+    Malformed
+
+-- the bytes from one place up to another
+abbrev pub part : List ℕ → ℕ → ℕ → List ℕ
+part text from end = take (end - from) (drop from text)
+
+-- from a place on, separators were passed: the words are the same, and what stands next is none
+pub record Skipped (text : List ℕ) (at r : ℕ) : Type 0 where
+  pub later : at ≤ r
+  pub within : r ≤ length text
+  pub same : words (drop r text) ≡ words (drop at text)
+  pub next : r < length text → separator (getD text r 0) ≡ false
+
+-- a word ends: what follows is a separator, or nothing
+pub record Parted (text : List ℕ) (at r : ℕ) : Type 0 where
+  pub later : at ≤ r
+  pub within : r ≤ length text
+  pub word : words (drop at text) ≡ wordsFrom (part text at r) (drop r text)
+  pub next : r < length text → separator (getD text r 0) ≡ true
+
+-- the next word says x, and the text goes on at a later place
+pub record Next (vars : ℕ) (text : List ℕ) (at : ℕ) (x : Word) (next : ℕ) : Type 0 where
+  pub word : List ℕ
+  pub first : words (drop at text) ≡ word ∷ words (drop next text)
+  pub says : wordOf vars word ≡ x
+  pub later : at < next
+  pub within : next ≤ length text
+
+-- what stands next in a body
+abbrev pub TokenAt : ℕ → List ℕ → ℕ → Token → Type 0
+TokenAt vars text at Done = words (drop at text) ≡ []
+TokenAt vars text at Bad = (next : ℕ) × Next vars text at Malformed next
+TokenAt vars text at (Ended next) = Next vars text at End next
+TokenAt vars text at (Joins l next) = Next vars text at (Literal l) next

@@ -1,0 +1,2 @@
+-- What the deciding program's functions leave. Assumes nothing.
+pub mod Points

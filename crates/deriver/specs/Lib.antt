@@ -1,0 +1,2 @@
+-- What the deriving program prints and writes. Assumes nothing.
+pub mod Told

@@ -1,0 +1,2 @@
+-- What is printed of check's answer. Assumes nothing.
+pub mod Said

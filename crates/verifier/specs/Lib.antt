@@ -1,0 +1,2 @@
+-- What the checking program prints. Assumes nothing.
+pub mod Said

@@ -1,0 +1,166 @@
+"""Tables, their truths by brute force, and the solver's order and derivations, an independent reading of the scope paper in plain Python:
+for the tests of the programs for people. It shares nothing with the library."""
+import random
+import sys
+
+sys.setrecursionlimit(10000)
+TRUE, ATOM, AND, OR, IMP, IFF = range(1, 7)
+A = [(ATOM, 0, 0), (ATOM, 1, 0), (AND, 0, 2), (OR, 0, 2), (IMP, 0, 2), (IFF, 0, 2), (TRUE, 0, 0), (AND, 4, 7), (IFF, 0, 3), (AND, 10, 16)]
+
+def seal(block):
+    total, weight = 0, 1
+    for byte in block[:510]:
+        total, weight = (total + byte * weight) % 65521, 3 * weight % 65521
+    return block[:510] + total.to_bytes(2, "little")
+
+def blocks(letter, capacity, records):
+    out = b""
+    for j in range(0, len(records), capacity):
+        part = records[j:j + capacity]
+        out += seal((bytes([letter, len(part)]) + (j // capacity).to_bytes(2, "little") + b"".join(part)).ljust(510, b"\0"))
+    return out
+
+def table(records):
+    return blocks(70, 63, [bytes([k, 0]) + a.to_bytes(2, "little") + b.to_bytes(2, "little") + bytes(2) for k, a, b in records])
+
+def derivation(steps):
+    return blocks(68, 126, [bytes([ord(rule), position]) + value.to_bytes(2, "little") for rule, position, value in steps])
+
+def edited(data, at, value):
+    """One byte changed, and its block sealed anew."""
+    d, j = bytearray(data), at // 512 * 512
+    d[at] = value
+    d[j:j + 512] = seal(bytes(d[j:j + 512]))
+    return bytes(d)
+
+def truths(records, yes):
+    v = []
+    def lit(l):
+        return v[l // 2] != (l % 2 == 1)
+    for kind, a, b in records:
+        if kind == TRUE:
+            v.append(True)
+        elif kind == ATOM:
+            v.append(a in yes)
+        else:
+            x, y = lit(a), lit(b)
+            v.append({AND: x and y, OR: x or y, IMP: not x or y, IFF: x == y}[kind])
+    return v
+
+def by_truth_table(records):
+    """For each node, whether some setting makes it true, and whether some makes it false."""
+    points = sorted({a for kind, a, _ in records if kind == ATOM})
+    yes, no = [False] * len(records), [False] * len(records)
+    for w in range(1 << len(points)):
+        for n, x in enumerate(truths(records, {p for i, p in enumerate(points) if w >> i & 1})):
+            yes[n] |= x
+            no[n] |= not x
+    return list(zip(yes, no))
+
+def some_table(rng, points, count):
+    records = [(ATOM, p, 0) for p in rng.sample(range(1024), points)]
+    while len(records) < count:
+        kind = rng.choice([TRUE, AND, OR, IMP, IFF, AND, OR, IMP, IFF])
+        p, q = rng.sample(range(len(records)), 2)
+        if kind != IMP:
+            p, q = min(p, q), max(p, q)
+        record = (kind, 0, 0) if kind == TRUE else (kind, 2 * p + rng.randrange(2), 2 * q + rng.randrange(2))
+        if record not in records:
+            records.append(record)
+    return records
+
+def full_table():
+    """2,016 nodes, and their answers: a point, an AND with it, what follows from the AND, and what contradicts it."""
+    records, answers = [(ATOM, 1000, 0)], [(True, True)]
+    for g in range(503):
+        a = len(records)
+        records += [(ATOM, g, 0), (AND, 0, 2 * a), (IMP, 2 * a + 2, 2 * a), (AND, 2 * a + 1, 2 * a + 2)]
+        answers += [(True, True), (True, True), (True, False), (False, True)]
+    return records + [(ATOM, 1001, 0), (ATOM, 1002, 0), (TRUE, 0, 0)], answers + [(True, True), (True, True), (True, False)]
+
+def expansion(records, l):
+    kind, a, b = records[l // 2]
+    if l % 2 == 0:
+        return {TRUE: [], ATOM: [], AND: [[a], [b]], OR: [[a, b]], IMP: [[a ^ 1, b]], IFF: [[a ^ 1, b], [a, b ^ 1]]}[kind]
+    return {TRUE: [[]], ATOM: [], AND: [[a ^ 1, b ^ 1]], OR: [[a ^ 1], [b ^ 1]], IMP: [[a], [b ^ 1]], IFF: [[a, b], [a ^ 1, b ^ 1]]}[kind]
+
+def search(records, goal):
+    """The final list and None, or None and the derivation's steps."""
+    steps = []
+    def removals(held, clause, k):
+        steps.extend(("R", p, k) for p, l in enumerate(clause) if l ^ 1 in held)
+    def branch(held, clauses):
+        while True:
+            unit = fork = None
+            for k, clause in enumerate(clauses):
+                if any(l in held for l in clause):
+                    continue
+                free = [l for l in clause if l ^ 1 not in held]
+                if not free:
+                    removals(held, clause, k)
+                    steps.append(("C", 0, k))
+                    return None
+                if len(free) == 1 and unit is None:
+                    unit = (k, clause, free[0])
+                if fork is None:
+                    fork = free[0]
+            if unit:
+                k, clause, l = unit
+                removals(held, clause, k)
+                steps.append(("U", 0, k))
+                held, clauses = held + [l], clauses + expansion(records, l)
+            elif fork is None:
+                return held
+            else:
+                steps.append(("S", 0, fork))
+                left = branch(held + [fork], clauses + expansion(records, fork))
+                if left is not None:
+                    return left
+                held, clauses = held + [fork ^ 1], clauses + expansion(records, fork ^ 1)
+    model = branch([], [[goal]])
+    return (model, None) if model is not None else (None, steps)
+
+def yes_points(records, model):
+    return sorted(records[l // 2][1] for l in model if l % 2 == 0 and records[l // 2][0] == ATOM)
+
+def checked(records, goal, steps):
+    """What check says of steps: None, or a refusal's number and place."""
+    held, struck, waiting, complete = [], set(), [], False
+    for i, (rule, p, k) in enumerate(steps):
+        if complete:
+            return 46, i
+        clauses = [[goal]]
+        for l in held:
+            clauses += expansion(records, l)
+        if rule == "S":
+            if k >= 2 * len(records) or k in held or k ^ 1 in held:
+                return 45, i
+            waiting.append((held + [k ^ 1], set(struck)))
+            held = held + [k]
+            continue
+        if k >= len(clauses) or k in struck:
+            return 45, i
+        left = [(q, l) for q, l in enumerate(clauses[k]) if (k, q) not in struck]
+        if rule == "U" and len(left) == 1 and left[0][1] not in held and left[0][1] ^ 1 not in held:
+            held, struck = held + [left[0][1]], struck | {k}
+        elif rule == "R" and any(q == p and l ^ 1 in held for q, l in left):
+            struck = struck | {(k, p)}
+        elif rule == "E" and any(l in held for _, l in left):
+            struck = struck | {k}
+        elif rule == "C" and not left:
+            complete = not waiting
+            held, struck = waiting.pop() if waiting else ([], set())
+        else:
+            return 45, i
+    return None if complete else (47, len(steps))
+
+def parity(n):
+    """The parity of n points in two orders, and that they differ: an impossible goal, the last node, whose derivation doubles with n."""
+    records = [(ATOM, i, 0) for i in range(n)]
+    def chain(x, rest):
+        for p in rest:
+            records.append((IFF, 2 * min(x, p), 2 * max(x, p)))
+            x = len(records) - 1
+        return x
+    x, y = chain(0, range(1, n)), chain(n - 1, range(n - 2, -1, -1))
+    return records + [(AND, 2 * x, 2 * y + 1)]
