@@ -1,0 +1,2 @@
+-- Laws of the values and of the text. Assumes nothing.
+pub mod Output

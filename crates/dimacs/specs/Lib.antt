@@ -1,0 +1,2 @@
+-- What the program for DIMACS files prints. Assumes nothing.
+pub mod Output
