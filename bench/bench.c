@@ -4,8 +4,8 @@
 #include "cases.h"
 #include <time.h>
 
-enum { LIB, PLAIN, ROUNDS = 9, ROOM = 33554432 };
-static const double SAMPLE = 0.004, SPENT = 0.5; /* seconds: of a sample at least, of a case's rounds about */
+enum { LIB, PLAIN, ROUNDS = 25, ROOM = 33554432 };
+static const double SAMPLE = 0.004, SPENT = 1.5; /* seconds: of a sample at least, of a case's rounds about */
 
 typedef struct { size_t number, place, value, more; } answer;
 typedef struct { double seconds[2]; } times;

@@ -19,7 +19,7 @@ ghost use Rattle.rules.specs.Steps.{stepAt};
 ghost use Rattle.steps.specs.Opened.{placeOf};
 ghost use Rattle.scope.specs.Table.{listFrom};
 ghost use Rattle.scope.specs.Outcome.{answer, refused, fine, verdictOf};
-ghost use Rattle.checker.specs.Shapes.{pick, shapeAt};
+ghost use Rattle.checker.specs.Shapes.{pick, shapes, shapeAt};
 ghost use Rattle.checker.specs.Work.{areaSize, mostClauses, mostMarks, clauseCount, depth, newest, firstAt, secondAt, markAt, splitCount, splitClauses, splitNewest, trailAt, gOf, Vals, Trail, valueCode, Indexed, Goals, Clause, Put, Appended, Entered, Joined, Shrunk, Struck, Noted, standsIn, firstLeft, secondLeft, oneOf, pickOf, trueIn, Aimed};
 ghost use Rattle.checker.specs.Holds.{Reaches, Unwound, Restores, Held, Holds, Ruled, fresh};
 
@@ -139,12 +139,13 @@ const LITERALS: usize = 1;
 
 const ENTRIES: usize = 2017;
 
-// A number of SHAPES.
-fn shape(i: usize) -> u8
+// A number of SHAPES, which is lent: an index into a constant copies the constant.
+fn shape(rows: &[u8; 70], i: usize) -> u8
+    requires { ⌜ now rows ≡ shapes ⌝ }
     requires { ⌜ i < 70 ⌝ }
     ensures { λ r. ⌜ r ≡ shapeAt i ⌝ }
 {
-    SHAPES[i]
+    rows[i]
 }
 
 // The place of a literal's row.
@@ -187,30 +188,41 @@ fn picked(x: &[u16], n: usize, node: usize, choice: u8) -> u16
 }
 
 // Clause k becomes clause j of a literal of a node, by its row.
-fn put(x: &[u16], n: usize, work: &mut [u16], node: usize, row: usize, j: usize, k: usize)
+fn put(
+    x: &[u16],
+    n: usize,
+    rows: &[u8; 70],
+    work: &mut [u16],
+    node: usize,
+    row: usize,
+    j: usize,
+    k: usize,
+)
     requires { ⌜ Indexed (now x) n ⌝ }
+    requires { ⌜ now rows ≡ shapes ⌝ }
     requires { ⌜ (areaSize ≤ length (now work)) × (node < n) × (row < 66) × (j < 2) × (k < mostClauses) ⌝ }
     requires { ⌜ ((i : ℕ) → i < 5 → 0 < i → 0 < shapeAt (row + i) → 2 < indexNode (now x) node .kind) ⌝ }
     ensures { λ _. ⌜ Put k (pick (indexNode (now (x .entry)) node) (shapeAt (row + (2 * j + 1)))) (pick (indexNode (now (x .entry)) node) (shapeAt (row + (2 * j + 2)))) (now (work .entry)) (now (work .exit)) ⌝ }
 {
-    let a = picked(x, n, node, shape(row + (2 * j + 1)));
-    let b = picked(x, n, node, shape(row + (2 * j + 2)));
+    let a = picked(x, n, node, shape(rows, row + (2 * j + 1)));
+    let b = picked(x, n, node, shape(rows, row + (2 * j + 2)));
     work[FIRST + k] = a;
     work[SECOND + k] = b;
 }
 
 // The clauses of a literal are appended.
-fn append(x: &[u16], n: usize, work: &mut [u16], l: u16)
+fn append(x: &[u16], n: usize, rows: &[u8; 70], work: &mut [u16], l: u16)
     requires { ⌜ Indexed (now x) n ⌝ }
+    requires { ⌜ now rows ≡ shapes ⌝ }
     requires { ⌜ (areaSize ≤ length (now work)) × (l < 2 * n) × (clauseCount (now work) < 4095) ⌝ }
     ensures { λ _. ⌜ Appended (indexNode (now (x .entry))) l (now (work .entry)) (now (work .exit)) ⌝ }
 {
     let row = row_of(x, n, l);
     let node = (l / 2) as usize;
     let k = work[0] as usize;
-    put(x, n, work, node, row, 0, k);
-    put(x, n, work, node, row, 1, k + 1);
-    let more = shape(row) as usize;
+    put(x, n, rows, work, node, row, 0, k);
+    put(x, n, rows, work, node, row, 1, k + 1);
+    let more = shape(rows, row) as usize;
     work[0] = (k + more) as u16;
 }
 
@@ -233,7 +245,7 @@ fn push(x: &[u16], n: usize, work: &mut [u16], l: u16)
     requires { ⌜ Trail n (trailAt (now work)) × Fresh n (gOf (now work)) l ⌝ }
     ensures { λ _. ⌜ Joined (indexNode (now (x .entry))) n l (now (work .entry)) (now (work .exit)) ⌝ }
 {
-    append(x, n, work, l);
+    append(x, n, &SHAPES, work, l);
     enter(n, work, l);
 }
 

@@ -2,7 +2,7 @@
 use mathlib.Core.Path.{_≡_, _∙_, ap, sym, refl}
 use mathlib.Core.List.{List}
 use Prim.Native.Nat.{ℕ, zero, suc, _+_, _*_, _%_, _<_, _≤_}
-use native.Mathlib.Nat.{zero-add, mod-lt, mul-le-mul}
+use native.Mathlib.Nat.{zero-add, add-suc, add-assoc, mod-lt, mul-le-mul}
 use native.Mathlib.Numerals.{add-one}
 use native.Mathlib.Omega.{arith}
 use lib.Dec.{lit<}
@@ -36,10 +36,17 @@ weight-small (suc i) = mod-lt (3 * weight i) (lit< tt)
 pub product-small : (b i : ℕ) → b < 256 → b * weight i ≤ 255 * 65520
 product-small b i h = mul-le-mul {n₂ = 255} {m₂ = 65520} (omega arith) (omega (arith, weight-small i))
 
-pub sum-more : {s w : ℕ} (i : ℕ) (b : List ℕ) → s ≡ weighted b i → w ≡ weight i → s + getD b i 0 * w ≡ weighted b (i + 1)
+-- the sum of the bytes from a place on, and one byte more
+pub sum-more : {w : ℕ} (s from i : ℕ) (b : List ℕ)
+    → weighted b from + s ≡ weighted b (from + i) → w ≡ weight (from + i) → weighted b from + (s + getD b (from + i) 0 * w) ≡ weighted b (from + (i + 1))
 unfolding weighted
-sum-more i b p q = simp (p, q, add-one)
+sum-more s from i b p q = rw (add-one, add-suc, ← add-assoc, q, p)
 
-pub sum-done : {s i : ℕ} (b : List ℕ) → s ≡ weighted b i → i ≡ 510 → s % 65521 ≡ checkOf b
+sum-none : (b : List ℕ) → weighted b 0 ≡ 0
+unfolding weighted
+sum-none b = refl
+
+-- the sums of the two halves of a block
+pub sum-done : (low high : ℕ) (b : List ℕ) → weighted b 0 + low ≡ weighted b 255 → weighted b 255 + high ≡ weighted b 510 → (low + high) % 65521 ≡ checkOf b
 unfolding checkOf
-sum-done b p q = simp (p, q)
+sum-done low high b p q = rw (← q, ← p, sum-none b, zero-add)

@@ -2,7 +2,7 @@
 ghost use mathlib.Core.Path.{_≡_};
 ghost use Prim.Native.Nat.{_+_, _≤_};
 ghost use lib.ListN.{length};
-ghost use Rattle.scope.specs.Block.{wordAt, weight, checkOf};
+ghost use Rattle.scope.specs.Block.{wordAt, weight, weighted, checkOf};
 ghost use Rattle.scope.specs.Table.{listFrom};
 
 // The weights of bytes 0 to 509: 1, and each next one is 3 times the one before, modulo 65,521.
@@ -527,18 +527,28 @@ pub fn word(b: &[u8], at: usize) -> u16
     (b[at] as u16) + 256 * (b[at + 1] as u16)
 }
 
+// The weighed sum of 255 bytes from a position on, which is below 2 ^ 32.
+fn half(b: &[u8], w: &[u16], from: usize) -> u32
+    requires { ⌜ (510 ≤ length (now b)) × (now w ≡ listFrom weight 0 510) × (from ≤ 255) ⌝ }
+    ensures { λ r. ⌜ weighted (now (b .entry)) from + r ≡ weighted (now (b .entry)) (from + 255) ⌝ }
+{
+    let mut sum: u32 = 0;
+    let mut i = 0;
+    while i < 255 {
+        sum += (b[from + i] as u32) * (w[from + i] as u32);
+        i += 1;
+    }
+    sum
+}
+
 // The check by a table of weights, which is read in place: an index into a constant copies the constant.
 fn weighed(b: &[u8], w: &[u16]) -> u16
     requires { ⌜ (510 ≤ length (now b)) × (now w ≡ listFrom weight 0 510) ⌝ }
     ensures { λ r. ⌜ r ≡ checkOf (now (b .entry)) ⌝ }
 {
-    let mut sum: u64 = 0;
-    let mut i = 0;
-    while i < 510 {
-        sum += (b[i] as u64) * (w[i] as u64);
-        i += 1;
-    }
-    (sum % 65521) as u16
+    let low = half(b, w, 0);
+    let high = half(b, w, 255);
+    (((low as u64) + (high as u64)) % 65521) as u16
 }
 
 // The check of a block, which b starts with.

@@ -20,14 +20,16 @@ use Rattle.rules.specs.declared.Step.{Step}
 use Rattle.rules.specs.Steps.{U, R, C}
 use Rattle.rules.specs.Rules.{isFails}
 use Rattle.rules.specs.Derivation.{removals, stepsOf}
-use Rattle.solver.specs.Work.{gOf, Holds}
-use Rattle.solver.specs.Reason.{literals, Reasoned}
-use Rattle.solver.specs.declared.Clause.{Clause}
-use Rattle.deciding.specs.Search.{Turned, Searched}
+use Rattle.clause.specs.declared.Clause.{Clause}
+use Rattle.clause.specs.Stored.{literals}
+use Rattle.state.specs.Work.{gOf}
+use Rattle.state.specs.Holds.{Holds}
+use Rattle.moves.specs.Reason.{Reasoned}
+use Rattle.deciding.specs.Search.{Turned, Ended, Searched}
 use Rattle.deciding.specs.declared.Stop.the-variants.{Closed as Shut, Model as Ends, Fork}
 use Rattle.deciding.specs.declared.Found.the-variants.{Model, Closed as AllClosed}
-use Rattle.deciding.proofs.Searches.{tree-conflict, tree-unit, tree-split, fuel, Run, run-starts, run-conflict, run-done, run-split, run-room, run-unit, shut-open, shut-fork, open-fork, stopped-closed, stopped-model, left-model, left-turned, right-list, right-model, end-more, right-closed}
-use Rattle.counting.specs.Count.{atMost, stepCount, Sized, Advanced, foundBy, Counted}
+use Rattle.deciding.proofs.Searches.{tree-conflict, tree-unit, tree-split, fuel, Run, run-starts, run-conflict, run-done, run-split, run-room, run-unit, shut-open, shut-fork, open-fork, model-closed, stopped-shut, stopped-closed, stopped-model, left-model, left-turned, right-list, right-ended, end-more, right-closed}
+use Rattle.counting.specs.Count.{atMost, stepCount, Sized, Advanced, foundBy, Tallied, Counted}
 use Rattle.counting.specs.declared.Told.{Told}
 use Rattle.counting.specs.declared.Tally.{Tally}
 use Rattle.counting.specs.declared.Tally.the-variants.{Open, Closed}
@@ -150,12 +152,12 @@ module _ {t : ℕ → Node} {n : ℕ} {goals G : List ℕ} {c : Clause} (q : Rea
 -- ---- the units
 
 -- what holds before each turn: the search goes on as from the start, and so does the count
-pub record Counting (t : ℕ → Node) (n : ℕ) (goals w w′ : List ℕ) (cap s count : ℕ) : Type 0 where
-  pub run : Run t n goals w w′
+pub record Counting (t : ℕ → Node) (n : ℕ) (goals w m w′ m′ : List ℕ) (cap s count : ℕ) : Type 0 where
+  pub run : Run t n goals w m w′ m′
   pub low : count ≤ cap
   pub same : atMost cap (count + stepCount t n goals (gOf w′)) ≡ atMost cap (s + stepCount t n goals (gOf w))
 
-pub counting-starts : {t : ℕ → Node} {n : ℕ} {goals w : List ℕ} {cap s : ℕ} → Holds t n goals w → s ≤ cap → Counting t n goals w w cap s s
+pub counting-starts : {t : ℕ → Node} {n : ℕ} {goals w m : List ℕ} {cap s : ℕ} → Holds t n goals w m → s ≤ cap → Counting t n goals w m w m cap s s
 counting-starts h l = record { run = run-starts h; low = l; same = refl }
 
 -- `more` of the steps to come are counted
@@ -164,9 +166,9 @@ count-more cap count more rest all e =
     let z : count + more + rest ≡ count + all = omega arith in
     most-more cap (count + more) rest ∙ ap (atMost cap) z
 
-module _ {t : ℕ → Node} {n : ℕ} {goals w w′ : List ℕ} {cap s count : ℕ} (r : Counting t n goals w w′ cap s count) where
+module _ {t : ℕ → Node} {n : ℕ} {goals w m w′ m′ : List ℕ} {cap s count : ℕ} (r : Counting t n goals w m w′ m′ cap s count) where
   pub counting-conflict : {k size c : ℕ} → move (expand t) goals (gOf w′) ≡ Conflict k → Sized t goals (gOf w′) size → c ≡ atMost cap (count + (size + 1))
-      → Advanced t n goals w w′ cap s (record { stop = Shut; count = c })
+      → Advanced t n goals w w′ m′ cap s (record { stop = Shut; count = c })
   counting-conflict {k} {size} {c} e z q =
       let all : size + 1 ≡ stepCount t n goals (gOf w′) = ap (_+ 1) (z .conflict k e) ∙ sym (steps-conflict t n goals (gOf w′) e) in
       record {
@@ -176,7 +178,7 @@ module _ {t : ℕ → Node} {n : ℕ} {goals w w′ : List ℕ} {cap s count : �
         forks = λ l y. shut-fork y;
       }
 
-  pub counting-done : move (expand t) goals (gOf w′) ≡ Done → Advanced t n goals w w′ cap s (record { stop = Ends; count = count })
+  pub counting-done : move (expand t) goals (gOf w′) ≡ Done → Advanced t n goals w w′ m′ cap s (record { stop = Ends; count = count })
   counting-done e = record {
     settled = run-done (r .run) e;
     low = r .low;
@@ -186,7 +188,7 @@ module _ {t : ℕ → Node} {n : ℕ} {goals w w′ : List ℕ} {cap s count : �
 
   module _ (T : Table n t) (B : Below n goals) where
     pub counting-split : {l c : ℕ} → move (expand t) goals (gOf w′) ≡ Split l → c ≡ atMost cap (count + 1)
-        → Advanced t n goals w w′ cap s (record { stop = Fork l; count = c })
+        → Advanced t n goals w w′ m′ cap s (record { stop = Fork l; count = c })
     counting-split {l} {c} e q =
         let f = split-fresh n t goals T B (gOf w′) (r .run .holds .ready .trail .good) l e in
         let h = room n (gOf w′) l (r .run .holds .ready .trail .good) f in
@@ -196,18 +198,19 @@ module _ {t : ℕ → Node} {n : ℕ} {goals w w′ : List ℕ} {cap s count : �
           settled = run-split (r .run) e;
           low = omega (arith, q, most-low cap (count + 1));
           closes = λ y. shut-fork (sym y);
-          forks = λ m y. let z : m ≡ l = cc in
+          forks = λ k y. let z : k ≡ l = cc in
               rw (z, q)
               (count-more cap count 1 (left + right) (stepCount t n goals (gOf w′)) (steps-split t n goals (gOf w′) h e) ∙ r .same);
         }
 
-    pub counting-unit : {k l size c : ℕ} {w″ : List ℕ} → move (expand t) goals (gOf w′) ≡ Single k l → Sized t goals (gOf w′) size
-        → c ≡ atMost cap (count + size) → Holds t n goals w″ → gOf w″ ≡ l ∷ gOf w′ → length w″ ≡ length w′ → Counting t n goals w w″ cap s c
-    counting-unit {k} {l} {size} {c} e z q h y d =
+    pub counting-unit : {k l size c : ℕ} {w″ m″ : List ℕ} → move (expand t) goals (gOf w′) ≡ Single k l → Sized t goals (gOf w′) size
+        → c ≡ atMost cap (count + size) → Holds t n goals w″ m″ → gOf w″ ≡ l ∷ gOf w′ → length w″ ≡ length w′ → length m″ ≡ length m′
+        → Counting t n goals w m w″ m″ cap s c
+    counting-unit {k} {l} {size} {c} e z q h y d f =
         let all : stepCount t n goals (gOf w′) ≡ size + stepCount t n goals (l ∷ gOf w′) =
         steps-unit t n goals (gOf w′) (run-room (r .run) T B e) e ∙ ap (_+ stepCount t n goals (l ∷ gOf w′)) (sym (z .unit k l e)) in
         record {
-          run = run-unit (r .run) T B e h y d;
+          run = run-unit (r .run) T B e h y d f;
           low = omega (arith, q, most-low cap (count + size));
           same = rw (y, q) (count-more cap count size (stepCount t n goals (l ∷ gOf w′)) (stepCount t n goals (gOf w′)) all ∙ r .same);
         }
@@ -215,68 +218,88 @@ module _ {t : ℕ → Node} {n : ℕ} {goals w w′ : List ℕ} {cap s count : �
 -- ---- the search
 
 -- a model: there are no steps
-counted-open : {t : ℕ → Node} {n : ℕ} {goals w w′ : List ℕ} {cap s : ℕ} → Searched t n goals w w′ Model → Counted t n goals w w′ cap s Open
-counted-open h = record {
-  searched = h;
+tallied-open : {t : ℕ → Node} {n : ℕ} {goals w w′ m′ : List ℕ} {cap s : ℕ} → Ended t n goals w w′ m′ Model → Tallied t n goals w w′ m′ cap s Open
+tallied-open h = record {
+  ended = h;
   counted = λ c q. absurd (let z : _≡_ {A = ℕ} 0 1 = cc in omega arith);
 }
 
 -- every branch closes
-counted-closed : {t : ℕ → Node} {n : ℕ} {goals w w′ : List ℕ} {cap s m : ℕ} → Searched t n goals w w′ AllClosed
-    → m ≡ atMost cap (s + stepCount t n goals (gOf w)) → Counted t n goals w w′ cap s (Closed m)
-counted-closed {m = m} h e = record {
-  searched = h;
-  counted = λ c q. let z : c ≡ m = cc in z ∙ e;
+tallied-closed : {t : ℕ → Node} {n : ℕ} {goals w w′ m′ : List ℕ} {cap s k : ℕ} → Ended t n goals w w′ m′ AllClosed
+    → k ≡ atMost cap (s + stepCount t n goals (gOf w)) → Tallied t n goals w w′ m′ cap s (Closed k)
+tallied-closed {k = k} h e = record {
+  ended = h;
+  counted = λ c q. let z : c ≡ k = cc in z ∙ e;
 }
 
-module _ {t : ℕ → Node} {n : ℕ} {goals w w₁ : List ℕ} {cap s : ℕ} {told : Told} (a : Advanced t n goals w w₁ cap s told) where
+-- the literals held, beside the count
+pub counted-open : {t : ℕ → Node} {n : ℕ} {goals w w′ m′ : List ℕ} {cap s : ℕ} → Tallied t n goals w w′ m′ cap s Open → Counted t n goals w w′ m′ cap s Open
+counted-open h = record { tallied = h; back = λ q. model-closed q }
+
+counted-closed : {t : ℕ → Node} {n : ℕ} {goals w w′ m′ : List ℕ} {cap s k : ℕ} → Searched t n goals w w′ m′ AllClosed
+    → k ≡ atMost cap (s + stepCount t n goals (gOf w)) → Counted t n goals w w′ m′ cap s (Closed k)
+counted-closed h e = record { tallied = tallied-closed (h .ended) e; back = h .back }
+
+searched : {t : ℕ → Node} {n : ℕ} {goals w w′ m′ : List ℕ} {cap s : ℕ} {r : Tally} → Counted t n goals w w′ m′ cap s r → Searched t n goals w w′ m′ (foundBy r)
+searched c = record { ended = c .tallied .ended; back = c .back }
+
+module _ {t : ℕ → Node} {n : ℕ} {goals w w₁ m₁ : List ℕ} {cap s : ℕ} {told : Told} (a : Advanced t n goals w w₁ m₁ cap s told) where
   -- the units end on a conflict
-  pub ended-closed : {w₂ : List ℕ} → told .stop ≡ Shut → Holds t n goals w₂ → gOf w₂ ≡ drop (length (gOf w₁) - length (gOf w)) (gOf w₁)
-      → Counted t n goals w w₂ cap s (Closed (told .count))
+  pub ended-shut : told .stop ≡ Shut → Tallied t n goals w w₁ m₁ cap s (Closed (told .count))
+  ended-shut e = tallied-closed (stopped-shut (a .settled) e (a .settled .holds)) (a .closes e)
+
+  pub ended-closed : {w₂ m₂ : List ℕ} → told .stop ≡ Shut → Holds t n goals w₂ m₂ → gOf w₂ ≡ drop (length (gOf w₁) - length (gOf w)) (gOf w₁)
+      → Counted t n goals w w₂ m₂ cap s (Closed (told .count))
   ended-closed e h q = counted-closed (stopped-closed (a .settled) e h q) (a .closes e)
 
   -- or on a model
-  pub ended-open : told .stop ≡ Ends → Counted t n goals w w₁ cap s Open
-  ended-open e = counted-open (stopped-model (a .settled) e)
+  pub ended-open : told .stop ≡ Ends → Tallied t n goals w w₁ m₁ cap s Open
+  ended-open e = tallied-open (stopped-model (a .settled) e)
 
   -- or on a split: the left branch
-  module _ (T : Table n t) (B : Below n goals) {l : ℕ} (e : told .stop ≡ Fork l) {w₂ w₃ : List ℕ} {left : Tally} (q : gOf w₂ ≡ l ∷ gOf w₁)
-      (b : Counted t n goals w₂ w₃ cap (told .count) left) where
-    pub left-open : left ≡ Open → Counted t n goals w w₃ cap s Open
-    left-open p = counted-open (left-model T B (a .settled) e q (b .searched) (ap foundBy p))
+  module _ (T : Table n t) (B : Below n goals) {l : ℕ} (e : told .stop ≡ Fork l) {w₂ w₃ m₃ : List ℕ} {left : Tally} (q : gOf w₂ ≡ l ∷ gOf w₁)
+      (b : Counted t n goals w₂ w₃ m₃ cap (told .count) left) where
+    pub left-open : left ≡ Open → Tallied t n goals w w₃ m₃ cap s Open
+    left-open p = tallied-open (left-model (a .settled) T B e q (searched b) (ap foundBy p))
 
     module _ {c : ℕ} (p : left ≡ Closed c) where
       left-count : c ≡ atMost cap (told .count + stepCount t n goals (l ∷ gOf w₁))
-      left-count = b .counted c p ∙ ap (λ (G : List ℕ). atMost cap (told .count + stepCount t n goals G)) q
+      left-count = b .tallied .counted c p ∙ ap (λ (G : List ℕ). atMost cap (told .count + stepCount t n goals G)) q
 
       pub left-low : c ≤ cap
       left-low = omega (arith, left-count, most-low cap (told .count + stepCount t n goals (l ∷ gOf w₁)))
 
       pub left-done : Turned n l (gOf w₃)
-      left-done = left-turned T B (a .settled) e q (b .searched) (ap foundBy p)
+      left-done = left-turned (a .settled) T B e q (searched b) (ap foundBy p)
 
       -- the right branch
       module _ (w₄ : List ℕ) (d : gOf w₄ ≡ neg l ∷ drop 1 (gOf w₃)) where
         pub right-held : gOf w₄ ≡ neg l ∷ gOf w₁
-        right-held = right-list T B (a .settled) e q (b .searched) (ap foundBy p) w₄ d
+        right-held = right-list (a .settled) T B e q (searched b) (ap foundBy p) w₄ d
 
-        module _ {w₅ : List ℕ} {right : Tally} (f : Counted t n goals w₄ w₅ cap c right) where
-          pub right-open : right ≡ Open → Counted t n goals w w₅ cap s Open
-          right-open z = counted-open (right-model T B (a .settled) e q (b .searched) (ap foundBy p) w₄ d (f .searched) (ap foundBy z))
+        -- what it comes to is what the whole comes to
+        pub right-tallied : {w₅ m₅ : List ℕ} {right : Tally} → Tallied t n goals w₄ w₅ m₅ cap c right → Tallied t n goals w w₅ m₅ cap s right
+        right-tallied f =
+            let x = stepCount t n goals (l ∷ gOf w₁) in
+            let y = stepCount t n goals (neg l ∷ gOf w₁) in
+            let sum : told .count + x + y ≡ told .count + (x + y) = omega arith in
+            record {
+              ended = right-ended (a .settled) T B e q (searched b) (ap foundBy p) w₄ d (f .ended);
+              counted = λ k z.
+                  f .counted k z ∙ ap (λ (G : List ℕ). atMost cap (c + stepCount t n goals G)) right-held
+                  ∙ ap (λ (i : ℕ). atMost cap (i + y)) left-count ∙ most-more cap (told .count + x) y ∙ ap (atMost cap) sum ∙ a .forks l e;
+            }
 
-          module _ {m : ℕ} (z : right ≡ Closed m) where
-            both-count : m ≡ atMost cap (s + stepCount t n goals (gOf w))
-            both-count =
-                let x = stepCount t n goals (l ∷ gOf w₁) in
-                let y = stepCount t n goals (neg l ∷ gOf w₁) in
-                let sum : told .count + x + y ≡ told .count + (x + y) = omega arith in
-                f .counted m z ∙ ap (λ (G : List ℕ). atMost cap (c + stepCount t n goals G)) right-held
-                ∙ ap (λ (i : ℕ). atMost cap (i + y)) left-count ∙ most-more cap (told .count + x) y ∙ ap (atMost cap) sum ∙ a .forks l e
+        module _ {w₅ m₅ : List ℕ} {right : Tally} (f : Counted t n goals w₄ w₅ m₅ cap c right) where
+          pub right-open : right ≡ Open → Tallied t n goals w w₅ m₅ cap s Open
+          right-open z = rw z at (right-tallied (f .tallied))
 
+          module _ {k : ℕ} (z : right ≡ Closed k) where
             pub right-more : length (gOf w) ≤ length (gOf w₅)
-            right-more = end-more T B (a .settled) e q (b .searched) (ap foundBy p) w₄ d (f .searched) (ap foundBy z)
+            right-more = end-more (a .settled) T B e q (searched b) (ap foundBy p) w₄ d (searched f) (ap foundBy z)
 
-            pub right-done : {w₆ : List ℕ} → Holds t n goals w₆ → gOf w₆ ≡ drop (length (gOf w₅) - length (gOf w)) (gOf w₅)
-                → Counted t n goals w w₆ cap s (Closed m)
+            pub right-done : {w₆ m₆ : List ℕ} → Holds t n goals w₆ m₆ → gOf w₆ ≡ drop (length (gOf w₅) - length (gOf w)) (gOf w₅)
+                → Counted t n goals w w₆ m₆ cap s (Closed k)
             right-done h y =
-                counted-closed (right-closed T B (a .settled) e q (b .searched) (ap foundBy p) w₄ d (f .searched) (ap foundBy z) h y) both-count
+                counted-closed (right-closed (a .settled) T B e q (searched b) (ap foundBy p) w₄ d (searched f) (ap foundBy z) h y)
+                (right-tallied (f .tallied) .counted k z)

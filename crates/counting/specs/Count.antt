@@ -12,8 +12,8 @@ use Rattle.calculus.specs.Order.{clauses, move, tree}
 use Rattle.calculus.specs.declared.Move.the-variants.{Conflict, Unit as Single}
 use Rattle.rules.specs.declared.Step.{Step}
 use Rattle.rules.specs.Derivation.{stepsOf}
-use Rattle.solver.specs.Work.{gOf}
-use Rattle.deciding.specs.Search.{Settled, Searched}
+use Rattle.state.specs.Work.{gOf}
+use Rattle.deciding.specs.Search.{Settled, Ended}
 use Rattle.deciding.specs.declared.Stop.the-variants.{Closed as Shut, Fork}
 use Rattle.deciding.specs.declared.Found.{Found}
 use Rattle.deciding.specs.declared.Found.the-variants.{Model, Closed as AllClosed}
@@ -40,8 +40,8 @@ pub record Sized (t : ℕ → Node) (goals G : List ℕ) (r : ℕ) : Type 0 wher
   pub low : r ≤ 2
 
 -- the units have joined, and their steps are counted, with those of the move that ends them; s were counted before
-pub record Advanced (t : ℕ → Node) (n : ℕ) (goals w w′ : List ℕ) (cap s : ℕ) (r : Told) : Type 0 where
-  pub settled : Settled t n goals w w′ (r .stop)
+pub record Advanced (t : ℕ → Node) (n : ℕ) (goals w w′ m′ : List ℕ) (cap s : ℕ) (r : Told) : Type 0 where
+  pub settled : Settled t n goals w w′ m′ (r .stop)
   pub low : r .count ≤ cap
   pub closes : r .stop ≡ Shut → r .count ≡ atMost cap (s + stepCount t n goals (gOf w))
   pub forks : (l : ℕ) → r .stop ≡ Fork l
@@ -53,8 +53,13 @@ foundBy Open = Model
 foundBy (Closed c) = AllClosed
 
 -- the search is done, s steps being counted before it
-pub record Counted (t : ℕ → Node) (n : ℕ) (goals w w′ : List ℕ) (cap s : ℕ) (r : Tally) : Type 0 where
-  -- open: a model, which is held; closed: 'all branches closed', and the literals held are those of the start
-  pub searched : Searched t n goals w w′ (foundBy r)
+pub record Tallied (t : ℕ → Node) (n : ℕ) (goals w w′ m′ : List ℕ) (cap s : ℕ) (r : Tally) : Type 0 where
+  -- open: a model, which is held; closed: 'all branches closed'
+  pub ended : Ended t n goals w w′ m′ (foundBy r)
   -- 'It answers the step count'
   pub counted : (c : ℕ) → r ≡ Closed c → c ≡ atMost cap (s + stepCount t n goals (gOf w))
+
+-- .. and where all branches closed, the literals held are those of the start
+pub record Counted (t : ℕ → Node) (n : ℕ) (goals w w′ m′ : List ℕ) (cap s : ℕ) (r : Tally) : Type 0 where
+  pub tallied : Tallied t n goals w w′ m′ cap s r
+  pub back : foundBy r ≡ AllClosed → gOf w′ ≡ gOf w

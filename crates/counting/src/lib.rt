@@ -4,9 +4,12 @@ use calculus::Move;
 use deciding::Stop;
 ghost use mathlib.Core.Path.{_≡_};
 ghost use Prim.Native.Nat.{_+_, _≤_};
+ghost use Rattle.calculus.specs.Model.{Goals};
 ghost use Rattle.index.specs.Index.{indexNode};
-ghost use Rattle.solver.specs.Work.{gOf, Indexed, Goals, Holds};
-ghost use Rattle.counting.specs.Count.{atMost, Sized, Advanced, Counted};
+ghost use Rattle.clause.specs.Indexed.{Indexed};
+ghost use Rattle.state.specs.Work.{gOf};
+ghost use Rattle.state.specs.Holds.{Holds};
+ghost use Rattle.counting.specs.Count.{atMost, Sized, Advanced, Tallied, Counted};
 
 // Where the units end, and the count up to there.
 struct Told {
@@ -29,31 +32,39 @@ fn capped(s: usize, more: usize, cap: usize) -> usize
 }
 
 // How many literals the clause of the next conflict or unit has.
-fn clause_size(x: &[u16], n: usize, goals: &[u16], work: &[u16]) -> usize
+fn clause_size(x: &[u16], n: usize, goals: &[u16], work: &[u16], masks: &[u64]) -> usize
     requires { ⌜ Indexed (now x) n ⌝ }
     requires { ⌜ Goals n (now goals) ⌝ }
-    requires { ⌜ Holds (indexNode (now x)) n (now goals) (now work) ⌝ }
+    requires { ⌜ Holds (indexNode (now x)) n (now goals) (now work) (now masks) ⌝ }
     ensures { λ r. ⌜ Sized (indexNode (now (x .entry))) (now (goals .entry)) (gOf (now (work .entry))) r ⌝ }
 {
-    let c = solver::reason(x, n, goals, work);
+    let c = moves::reason(x, n, goals, work, masks);
     if c.len < 2 { c.len as usize } else { 2 }
 }
 
 // The units join, one after another, up to another move. A unit has as many steps as its clause has literals: an R for each but one,
 // and a U. A conflict has one more than its clause's literals.
-fn units(x: &[u16], n: usize, goals: &[u16], work: &mut [u16], cap: usize, s: usize) -> Told
+fn units(
+    x: &[u16],
+    n: usize,
+    goals: &[u16],
+    work: &mut [u16],
+    masks: &mut [u64],
+    cap: usize,
+    s: usize,
+) -> Told
     requires { ⌜ Indexed (now x) n ⌝ }
     requires { ⌜ Goals n (now goals) ⌝ }
-    requires { ⌜ Holds (indexNode (now x)) n (now goals) (now work) ⌝ }
+    requires { ⌜ Holds (indexNode (now x)) n (now goals) (now work) (now masks) ⌝ }
     requires { ⌜ s ≤ cap ⌝ }
-    ensures { λ r. ⌜ Advanced (indexNode (now (x .entry))) n (now (goals .entry)) (now (work .entry)) (now (work .exit)) cap s r ⌝ }
+    ensures { λ r. ⌜ Advanced (indexNode (now (x .entry))) n (now (goals .entry)) (now (work .entry)) (now (work .exit)) (now (masks .exit)) cap s r ⌝ }
 {
     let mut count = s;
     loop {
-        let m = solver::next_move(x, n, goals, work);
+        let m = moves::next_move(x, n, goals, work, masks);
         match m {
             Move::Conflict(_) => {
-                let size = clause_size(x, n, goals, work);
+                let size = clause_size(x, n, goals, work, masks);
                 count = capped(count, size + 1, cap);
                 return Told {
                     stop: Stop::Closed,
@@ -61,9 +72,9 @@ fn units(x: &[u16], n: usize, goals: &[u16], work: &mut [u16], cap: usize, s: us
                 };
             }
             Move::Unit(_, l) => {
-                let size = clause_size(x, n, goals, work);
+                let size = clause_size(x, n, goals, work, masks);
                 count = capped(count, size, cap);
-                solver::assume(x, n, goals, work, l);
+                solver::assume(x, n, goals, work, masks, l);
             }
             Move::Done => {
                 return Told {
@@ -84,37 +95,80 @@ fn units(x: &[u16], n: usize, goals: &[u16], work: &mut [u16], cap: usize, s: us
 
 // The search from the literals held, s steps being counted: a model, which stays, or the count with that of all its steps, and the
 // literals held are those of the start.
-pub fn count(x: &[u16], n: usize, goals: &[u16], work: &mut [u16], cap: usize, s: usize) -> Tally
+fn count(
+    x: &[u16],
+    n: usize,
+    goals: &[u16],
+    work: &mut [u16],
+    masks: &mut [u64],
+    cap: usize,
+    s: usize,
+) -> Tally
     requires { ⌜ Indexed (now x) n ⌝ }
     requires { ⌜ Goals n (now goals) ⌝ }
-    requires { ⌜ Holds (indexNode (now x)) n (now goals) (now work) ⌝ }
+    requires { ⌜ Holds (indexNode (now x)) n (now goals) (now work) (now masks) ⌝ }
     requires { ⌜ s ≤ cap ⌝ }
-    ensures { λ r. ⌜ Counted (indexNode (now (x .entry))) n (now (goals .entry)) (now (work .entry)) (now (work .exit)) cap s r ⌝ }
+    ensures { λ r. ⌜ Counted (indexNode (now (x .entry))) n (now (goals .entry)) (now (work .entry)) (now (work .exit)) (now (masks .exit)) cap s r ⌝ }
 {
-    let held = solver::count(work);
-    let told = units(x, n, goals, work, cap, s);
+    let held = state::count(work);
+    let told = units(x, n, goals, work, masks, cap, s);
     let stop = told.stop;
     match stop {
         Stop::Closed => {
-            deciding::undo_to(x, n, goals, work, held);
+            deciding::undo_to(x, n, goals, work, masks, held);
             Tally::Closed(told.count)
         }
         Stop::Model => Tally::Open,
         Stop::Fork(l) => {
-            solver::assume(x, n, goals, work, l);
-            let left = count(x, n, goals, work, cap, told.count);
+            solver::assume(x, n, goals, work, masks, l);
+            let left = count(x, n, goals, work, masks, cap, told.count);
             match left {
                 Tally::Open => Tally::Open,
                 Tally::Closed(c) => {
-                    deciding::turn(x, n, goals, work, l);
-                    let right = count(x, n, goals, work, cap, c);
+                    deciding::turn(x, n, goals, work, masks, l);
+                    let right = count(x, n, goals, work, masks, cap, c);
                     match right {
                         Tally::Open => Tally::Open,
                         Tally::Closed(d) => {
-                            deciding::undo_to(x, n, goals, work, held);
+                            deciding::undo_to(x, n, goals, work, masks, held);
                             Tally::Closed(d)
                         }
                     }
+                }
+            }
+        }
+    }
+}
+
+// The search where no split is open: a model, which stays, or the count, and nothing is taken back.
+pub fn count_last(
+    x: &[u16],
+    n: usize,
+    goals: &[u16],
+    work: &mut [u16],
+    masks: &mut [u64],
+    cap: usize,
+    s: usize,
+) -> Tally
+    requires { ⌜ Indexed (now x) n ⌝ }
+    requires { ⌜ Goals n (now goals) ⌝ }
+    requires { ⌜ Holds (indexNode (now x)) n (now goals) (now work) (now masks) ⌝ }
+    requires { ⌜ s ≤ cap ⌝ }
+    ensures { λ r. ⌜ Tallied (indexNode (now (x .entry))) n (now (goals .entry)) (now (work .entry)) (now (work .exit)) (now (masks .exit)) cap s r ⌝ }
+{
+    let told = units(x, n, goals, work, masks, cap, s);
+    let stop = told.stop;
+    match stop {
+        Stop::Closed => Tally::Closed(told.count),
+        Stop::Model => Tally::Open,
+        Stop::Fork(l) => {
+            solver::assume(x, n, goals, work, masks, l);
+            let left = count(x, n, goals, work, masks, cap, told.count);
+            match left {
+                Tally::Open => Tally::Open,
+                Tally::Closed(c) => {
+                    deciding::turn(x, n, goals, work, masks, l);
+                    count_last(x, n, goals, work, masks, cap, c)
                 }
             }
         }

@@ -2,21 +2,21 @@
 -- calculus' theorems speak of settings. And nodes that agree below n give one search. Assumes nothing.
 use mathlib.Core.Path.{_≡_, refl, sym, ap, _∙_}
 use mathlib.Core.List.{List, [], _∷_, _++_}
-use mathlib.Core.Bool.{Bool, true, false, false≢true}
+use mathlib.Core.Bool.{Bool, true, false, cond, false≢true}
 use Prim.Native.Nat.{ℕ, zero, suc, _+_, _*_, _/_, _<_, _≤_}
 use native.Mathlib.Omega.{arith}
 use native.Mathlib.Decide.{decLt}
 use lib.Dec.{eqb}
 use lib.ListN.{length, List·getD-append}
-use borrow.Author.Tests.{eq-eqb, eqb-true}
+use borrow.Author.Tests.{eq-eqb, eqb-true, le-ltb}
 use Rattle.scope.specs.declared.Node.{Node}
 use Rattle.scope.specs.Outcome.{answer}
-use Rattle.scope.specs.Table.{nodeBytes, formOk, sameNode, decode}
+use Rattle.scope.specs.Table.{nodeBytes, formOk, orderOk, sameNode, decode}
 use Rattle.scope.specs.Truth.{litTruth, truth}
 use Rattle.scope.proofs.Tests.{and-right}
 use Rattle.codec.specs.Valid.{Bytes, Valid}
 use Rattle.codec.proofs.Records.{reads, small}
-use Rattle.codec.proofs.Tables.{read-valid}
+use Rattle.codec.proofs.Tables.{read-valid, valid-ordered}
 use Rattle.truth.specs.Evaluated.{Low}
 use Rattle.truth.proofs.Low.{readable-low}
 use Rattle.truth.proofs.Truths.{lit-even, true-true, atom-point, node-joins}
@@ -30,6 +30,7 @@ use Rattle.calculus.proofs.Search.{Grown, closes, joins, ends, parts, grown-who
 use Rattle.calculus.proofs.Sound.{sound}
 use Rattle.calculus.proofs.Complete.{complete}
 use Rattle.calculus.proofs.Setting.{setting-atom, setting-length}
+use Rattle.clause.specs.Indexed.{Apart}
 
 -- ---- a readable table's nodes
 
@@ -43,6 +44,15 @@ atom-b x one six e k =
 same-atom : (x y : Node) → x .kind ≡ 2 → y .kind ≡ 2 → x .a ≡ y .a → x .b ≡ 0 → y .b ≡ 0 → sameNode x y ≡ true
 same-atom x y k l a b c =
     simp (eq-eqb (x .kind) (y .kind) (k ∙ sym l), eq-eqb (x .a) (y .a) a, eq-eqb (x .b) (y .b) (b ∙ sym c))
+
+-- an operation whose operands are of one node is refused
+order-same : (x : Node) → 2 < x .kind → x .a / 2 ≡ x .b / 2 → orderOk x ≡ false
+unfolding orderOk
+order-same x k q = simp (le-ltb (x .kind) 3 (omega arith), eq-eqb (x .a / 2) (x .b / 2) q, le-ltb (x .a / 2) (x .b / 2) (omega arith)) (go (eqb (x .kind) 5))
+  where
+    go : (b : Bool) → cond b false false ≡ false
+    go true = refl
+    go false = refl
 
 module _ (t : List ℕ) (rs : List Node) (all : Bytes t) (e : decode t ≡ answer rs) where
   valid : Valid rs
@@ -72,6 +82,9 @@ module _ (t : List ℕ) (rs : List Node) (all : Bytes t) (e : decode t ≡ answe
       go i j h b k l a (yes p) q = absurd (once i j p b k l a)
       go i j h b k l a (no p) (yes q) = absurd (once j i q h l k (sym a))
       go i j h b k l a (no p) (no q) = omega arith
+
+  pub apart-of : Apart (length rs) (nodesOf rs)
+  apart-of i h k q = false≢true (sym (order-same (nodesOf rs i) k q) ∙ valid-ordered rs valid i h)
 
 -- ---- the truths under a setting
 
@@ -131,6 +144,9 @@ module _ (n : ℕ) (t u : ℕ → Node) (same : (i : ℕ) → i < n → t i ≡ 
     right = λ i h. rw (same i h) (T .right i h);
     atoms = λ i j h b. rw (same i h, same j b) (T .atoms i j h b);
   }
+
+  pub apart-same : Apart n u → Apart n t
+  apart-same A i h = rw (same i h) (A i h)
 
   module _ (goals : List ℕ) where
     pub clauses-same : (G : List ℕ) → Good n G → clauses (expand t) goals G ≡ clauses (expand u) goals G

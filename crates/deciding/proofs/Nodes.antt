@@ -17,13 +17,14 @@ use Rattle.repeats.specs.Chains.{placeOf}
 use Rattle.table.proofs.Rows.{counted, record-within}
 use Rattle.calculus.specs.Expansion.{expand}
 use Rattle.calculus.specs.Order.{tree, answerOf}
-use Rattle.calculus.specs.Model.{Table}
+use Rattle.calculus.specs.Model.{Table, Goals}
 use Rattle.calculus.specs.Decide.{nodesOf, searchOf}
 use Rattle.index.specs.Index.{indexNode, Built}
-use Rattle.solver.specs.Work.{gOf, Indexed, Goals}
-use Rattle.deciding.specs.Search.{result, foundOf, Searched}
+use Rattle.clause.specs.Indexed.{Apart, Indexed}
+use Rattle.state.specs.Work.{gOf}
+use Rattle.deciding.specs.Search.{result, foundOf, Ended}
 use Rattle.deciding.specs.declared.Found.{Found}
-use Rattle.deciding.proofs.Bridge.{table-of, table-same, search-same}
+use Rattle.deciding.proofs.Bridge.{table-of, apart-of, table-same, apart-same, search-same}
 
 -- the first nodes of a table
 abbrev pub nodesIn : List ℕ → ℕ → List Node
@@ -76,11 +77,15 @@ module _ (t : List ℕ) (nodes : ℕ) (readable : tableTest t ≡ fine) (whole :
       index-table =
           table-same nodes (indexNode x) (nodesOf (nodesIn t nodes)) node-in (rw (size-in t nodes) at (table-of t (nodesIn t nodes) all read))
 
+      index-apart : Apart nodes (indexNode x)
+      index-apart =
+          apart-same nodes (indexNode x) (nodesOf (nodesIn t nodes)) node-in (rw (size-in t nodes) at (apart-of t (nodesIn t nodes) all read))
+
       pub indexed : length x ≡ 16128 → Indexed x nodes
-      indexed size = record { size = size; few = few; table = index-table; links = b .links }
+      indexed size = record { size = size; few = few; table = index-table; apart = index-apart; links = b .links; fill = b .fill }
 
       -- a search over the index, from no literals, ends on what the search over the nodes does
-      pub search-in : (goal : ℕ) {w w′ : List ℕ} {r : Found} → goal < 2 * nodes → gOf w ≡ [] → Searched (indexNode x) nodes (goal ∷ []) w w′ r
+      pub search-in : (goal : ℕ) {w w′ m′ : List ℕ} {r : Found} → goal < 2 * nodes → gOf w ≡ [] → Ended (indexNode x) nodes (goal ∷ []) w w′ m′ r
           → foundOf r (gOf w′) ≡ answerOf (searchOf (nodesIn t nodes) (goal ∷ []))
       search-in goal h z f =
           let n0 : nodes - 0 ≡ nodes = omega arith in

@@ -13,8 +13,9 @@ use Rattle.calculus.specs.declared.Move.the-variants.{Conflict, Unit as Single,
 use Rattle.calculus.proofs.Literals.{neg-fresh}
 use Rattle.calculus.proofs.Count.{room}
 use Rattle.calculus.proofs.Fresh.{unit-fresh, split-fresh}
-use Rattle.solver.specs.Work.{gOf, Holds}
-use Rattle.deciding.specs.Search.{result, Extends, foundOf, Settled, Turned, Searched}
+use Rattle.state.specs.Work.{gOf}
+use Rattle.state.specs.Holds.{Holds}
+use Rattle.deciding.specs.Search.{result, Extends, foundOf, Settled, Turned, Ended, Searched}
 use Rattle.deciding.specs.declared.Stop.{Stop}
 use Rattle.deciding.specs.declared.Stop.the-variants.{Closed as Shut, Model as Open, Fork}
 use Rattle.deciding.specs.declared.Found.{Found}
@@ -95,23 +96,24 @@ shut-fork e = absurd (let z : _≡_ {A = ℕ} 0 1 = cc in omega arith)
 pub open-fork : {P : Type 0} {l : ℕ} → _≡_ {A = Stop} Open (Fork l) → P
 open-fork e = absurd (let z : _≡_ {A = ℕ} 0 1 = cc in omega arith)
 
-model-closed : {P : Type 0} → _≡_ {A = Found} Model Closed → P
+pub model-closed : {P : Type 0} → _≡_ {A = Found} Model Closed → P
 model-closed e = absurd (let z : _≡_ {A = ℕ} 0 1 = cc in omega arith)
 
 -- ---- the units
 
 -- what holds before each turn
-pub record Run (t : ℕ → Node) (n : ℕ) (goals w w′ : List ℕ) : Type 0 where
-  pub holds : Holds t n goals w′
+pub record Run (t : ℕ → Node) (n : ℕ) (goals w m w′ m′ : List ℕ) : Type 0 where
+  pub holds : Holds t n goals w′ m′
   pub grows : Extends (gOf w) (gOf w′)
   pub same : result t n goals (gOf w′) ≡ result t n goals (gOf w)
   pub size : length w′ ≡ length w
+  pub sets : length m′ ≡ length m
 
-pub run-starts : {t : ℕ → Node} {n : ℕ} {goals w : List ℕ} → Holds t n goals w → Run t n goals w w
-run-starts {w = w} h = record { holds = h; grows = extends-self (gOf w); same = refl; size = refl }
+pub run-starts : {t : ℕ → Node} {n : ℕ} {goals w m : List ℕ} → Holds t n goals w m → Run t n goals w m w m
+run-starts {w = w} h = record { holds = h; grows = extends-self (gOf w); same = refl; size = refl; sets = refl }
 
-module _ {t : ℕ → Node} {n : ℕ} {goals w w′ : List ℕ} (r : Run t n goals w w′) where
-  pub run-conflict : {k : ℕ} → move (expand t) goals (gOf w′) ≡ Conflict k → Settled t n goals w w′ Shut
+module _ {t : ℕ → Node} {n : ℕ} {goals w m w′ m′ : List ℕ} (r : Run t n goals w m w′ m′) where
+  pub run-conflict : {k : ℕ} → move (expand t) goals (gOf w′) ≡ Conflict k → Settled t n goals w w′ m′ Shut
   run-conflict e = record {
     holds = r .holds;
     grows = r .grows;
@@ -121,7 +123,7 @@ module _ {t : ℕ → Node} {n : ℕ} {goals w w′ : List ℕ} (r : Run t n goa
     forks = λ l q. shut-fork q;
   }
 
-  pub run-done : move (expand t) goals (gOf w′) ≡ Done → Settled t n goals w w′ Open
+  pub run-done : move (expand t) goals (gOf w′) ≡ Done → Settled t n goals w w′ m′ Open
   run-done e = record {
     holds = r .holds;
     grows = r .grows;
@@ -131,14 +133,14 @@ module _ {t : ℕ → Node} {n : ℕ} {goals w w′ : List ℕ} (r : Run t n goa
     forks = λ l q. open-fork q;
   }
 
-  pub run-split : {l : ℕ} → move (expand t) goals (gOf w′) ≡ Split l → Settled t n goals w w′ (Fork l)
+  pub run-split : {l : ℕ} → move (expand t) goals (gOf w′) ≡ Split l → Settled t n goals w w′ m′ (Fork l)
   run-split {l} e = record {
     holds = r .holds;
     grows = r .grows;
     same = r .same;
     closes = λ q. shut-fork (sym q);
     ends = λ q. open-fork (sym q);
-    forks = λ m q. let z : l ≡ m = cc in e ∙ ap Split z;
+    forks = λ k q. let z : l ≡ k = cc in e ∙ ap Split z;
   }
 
   module _ (T : Table n t) (B : Below n goals) {k l : ℕ} (e : move (expand t) goals (gOf w′) ≡ Single k l) where
@@ -148,12 +150,13 @@ module _ {t : ℕ → Node} {n : ℕ} {goals w w′ : List ℕ} (r : Run t n goa
     pub run-room : length (gOf w′) < n
     run-room = room n (gOf w′) l (r .holds .ready .trail .good) run-fresh
 
-    pub run-unit : {w″ : List ℕ} → Holds t n goals w″ → gOf w″ ≡ l ∷ gOf w′ → length w″ ≡ length w′ → Run t n goals w w″
-    run-unit h q z = record {
+    pub run-unit : {w″ m″ : List ℕ} → Holds t n goals w″ m″ → gOf w″ ≡ l ∷ gOf w′ → length w″ ≡ length w′ → length m″ ≡ length m′ → Run t n goals w m w″ m″
+    run-unit h q z y = record {
       holds = h;
       grows = rw q (extends-more (r .grows) l);
       same = rw q (sym (result-unit t goals (gOf w′) n run-room e) ∙ r .same);
       size = z ∙ r .size;
+      sets = y ∙ r .sets;
     }
 
 -- ---- the turn to the right
@@ -175,25 +178,33 @@ turn-fresh n l m G F h p q = rw (p, q) (neg-fresh n (drop 1 G) l (turned-fresh n
 pub turn-list : (l m : ℕ) (G F H : List ℕ) → F ≡ drop 1 G → m ≡ neg l → H ≡ m ∷ F → H ≡ neg l ∷ drop 1 G
 turn-list l m G F H p q r = cc
 
+-- back to one literal fewer is the newest taken away
+pub newest-gone : (n l h : ℕ) (G F : List ℕ) → Turned n l G → h ≡ length G → F ≡ drop (length G - (h - 1)) G → F ≡ drop 1 G
+newest-gone n l h G F t e p =
+    let z : length G - (h - 1) ≡ 1 = omega (arith, turned-some n l G t, e) in
+    p ∙ ap (λ (k : ℕ). drop k G) z
+
 -- ---- the search
 
-module _ {t : ℕ → Node} {n : ℕ} {goals w w₁ : List ℕ} where
-  pub stopped-closed : {w₂ : List ℕ} {r : Stop} → Settled t n goals w w₁ r → r ≡ Shut → Holds t n goals w₂
-      → gOf w₂ ≡ drop (length (gOf w₁) - length (gOf w)) (gOf w₁) → Searched t n goals w w₂ Closed
-  stopped-closed s e h q = record {
-    holds = h;
-    answered = sym (s .closes e) ∙ s .same;
-    back = λ _. q ∙ s .grows .first;
-  }
+-- a model is held, and nothing is to be taken back
+pub found-model : {t : ℕ → Node} {n : ℕ} {goals w w′ m′ : List ℕ} → Ended t n goals w w′ m′ Model → Searched t n goals w w′ m′ Model
+found-model a = record { ended = a; back = λ q. model-closed q }
 
-  pub stopped-model : {r : Stop} → Settled t n goals w w₁ r → r ≡ Open → Searched t n goals w w₁ Model
-  stopped-model s e = record {
-    holds = s .holds;
-    answered = sym (s .ends e) ∙ s .same;
-    back = λ q. model-closed q;
-  }
+module _ {t : ℕ → Node} {n : ℕ} {goals w w₁ m₁ : List ℕ} {r : Stop} (s : Settled t n goals w w₁ m₁ r) where
+  -- the units end on a conflict, whatever is taken back then
+  pub stopped-shut : r ≡ Shut → {w₂ m₂ : List ℕ} → Holds t n goals w₂ m₂ → Ended t n goals w w₂ m₂ Closed
+  stopped-shut e h = record { holds = h; answered = sym (s .closes e) ∙ s .same }
 
-  module _ {r : Stop} (T : Table n t) (B : Below n goals) (s : Settled t n goals w w₁ r) {l : ℕ} (e : r ≡ Fork l) where
+  pub stopped-closed : r ≡ Shut → {w₂ m₂ : List ℕ} → Holds t n goals w₂ m₂
+      → gOf w₂ ≡ drop (length (gOf w₁) - length (gOf w)) (gOf w₁) → Searched t n goals w w₂ m₂ Closed
+  stopped-closed e h q = record { ended = stopped-shut e h; back = λ _. q ∙ s .grows .first }
+
+  -- or on a model
+  pub stopped-model : r ≡ Open → Ended t n goals w w₁ m₁ Model
+  stopped-model e = record { holds = s .holds; answered = sym (s .ends e) ∙ s .same }
+
+  -- or on a split
+  module _ (T : Table n t) (B : Below n goals) {l : ℕ} (e : r ≡ Fork l) where
     pub fork-fresh : Fresh n (gOf w₁) l
     fork-fresh = split-fresh n t goals T B (gOf w₁) (s .holds .ready .trail .good) l (s .forks l e)
 
@@ -208,15 +219,14 @@ module _ {t : ℕ → Node} {n : ℕ} {goals w w₁ : List ℕ} where
     fork-result = sym (result-split t goals (gOf w₁) n fork-room (s .forks l e)) ∙ s .same
 
     -- the left branch
-    module _ {w₂ w₃ : List ℕ} {left : Found} (q : gOf w₂ ≡ l ∷ gOf w₁) (a : Searched t n goals w₂ w₃ left) where
-      pub left-model : left ≡ Model → Searched t n goals w w₃ Model
+    module _ {w₂ w₃ m₃ : List ℕ} {left : Found} (q : gOf w₂ ≡ l ∷ gOf w₁) (a : Searched t n goals w₂ w₃ m₃ left) where
+      left-answered : foundOf left (gOf w₃) ≡ result t n goals (l ∷ gOf w₁)
+      left-answered = a .ended .answered ∙ ap (result t n goals) q
+
+      pub left-model : left ≡ Model → Ended t n goals w w₃ m₃ Model
       left-model p =
-          let x : possible (gOf w₃) ≡ result t n goals (l ∷ gOf w₁) = ap (λ (f : Found). foundOf f (gOf w₃)) (sym p) ∙ a .answered ∙ ap (result t n goals) q in
-          record {
-            holds = a .holds;
-            answered = rw (← x) at fork-result;
-            back = λ z. model-closed z;
-          }
+          let x : possible (gOf w₃) ≡ result t n goals (l ∷ gOf w₁) = ap (λ (f : Found). foundOf f (gOf w₃)) (sym p) ∙ left-answered in
+          record { holds = a .ended .holds; answered = rw (← x) at fork-result }
 
       module _ (p : left ≡ Closed) where
         left-list : gOf w₃ ≡ l ∷ gOf w₁
@@ -227,7 +237,7 @@ module _ {t : ℕ → Node} {n : ℕ} {goals w w₁ : List ℕ} where
 
         left-result : result t n goals (neg l ∷ gOf w₁) ≡ result t n goals (gOf w)
         left-result =
-            let x : impossible ≡ result t n goals (l ∷ gOf w₁) = ap (λ (f : Found). foundOf f (gOf w₃)) (sym p) ∙ a .answered ∙ ap (result t n goals) q in
+            let x : impossible ≡ result t n goals (l ∷ gOf w₁) = ap (λ (f : Found). foundOf f (gOf w₃)) (sym p) ∙ left-answered in
             rw (← x) at fork-result
 
         -- the right branch
@@ -235,16 +245,13 @@ module _ {t : ℕ → Node} {n : ℕ} {goals w w₁ : List ℕ} where
           pub right-list : gOf w₄ ≡ neg l ∷ gOf w₁
           right-list = d ∙ ap (λ (F : List ℕ). neg l ∷ drop 1 F) left-list
 
-          module _ {w₅ : List ℕ} {right : Found} (b : Searched t n goals w₄ w₅ right) where
-            right-result : foundOf right (gOf w₅) ≡ result t n goals (gOf w)
-            right-result = b .answered ∙ ap (result t n goals) right-list ∙ left-result
+          -- what it ends on is what the whole ends on
+          pub right-ended : {w₅ m₅ : List ℕ} {right : Found} → Ended t n goals w₄ w₅ m₅ right → Ended t n goals w w₅ m₅ right
+          right-ended b = record { holds = b .holds; answered = b .answered ∙ ap (result t n goals) right-list ∙ left-result }
 
-            pub right-model : right ≡ Model → Searched t n goals w w₅ Model
-            right-model z = record {
-              holds = b .holds;
-              answered = ap (λ (f : Found). foundOf f (gOf w₅)) (sym z) ∙ right-result;
-              back = λ y. model-closed y;
-            }
+          module _ {w₅ m₅ : List ℕ} {right : Found} (b : Searched t n goals w₄ w₅ m₅ right) where
+            pub right-model : right ≡ Model → Ended t n goals w w₅ m₅ Model
+            right-model z = rw z at (right-ended (b .ended))
 
             module _ (z : right ≡ Closed) where
               end-list : gOf w₅ ≡ neg l ∷ gOf w₁
@@ -253,9 +260,11 @@ module _ {t : ℕ → Node} {n : ℕ} {goals w w₁ : List ℕ} where
               pub end-more : length (gOf w) ≤ length (gOf w₅)
               end-more = omega (arith, s .grows .more, ap length end-list)
 
-              pub right-closed : {w₆ : List ℕ} → Holds t n goals w₆ → gOf w₆ ≡ drop (length (gOf w₅) - length (gOf w)) (gOf w₅) → Searched t n goals w w₆ Closed
-              right-closed h y = record {
-                holds = h;
-                answered = ap (λ (f : Found). foundOf f (gOf w₅)) (sym z) ∙ right-result;
-                back = λ _. y ∙ (rw (← end-list) at (extends-more (s .grows) (neg l))) .first;
-              }
+              pub right-closed : {w₆ m₆ : List ℕ} → Holds t n goals w₆ m₆ → gOf w₆ ≡ drop (length (gOf w₅) - length (gOf w)) (gOf w₅)
+                  → Searched t n goals w w₆ m₆ Closed
+              right-closed h y =
+                  let c : Ended t n goals w w₅ m₅ Closed = rw z at (right-ended (b .ended)) in
+                  record {
+                    ended = record { holds = h; answered = c .answered };
+                    back = λ _. y ∙ (rw (← end-list) at (extends-more (s .grows) (neg l))) .first;
+                  }

@@ -1,4 +1,5 @@
--- What the search's functions leave of the work area: the literals held, and what the search from them ends on. Assumes nothing.
+-- What the search's functions leave of the work area and its sets: the literals held, and what the search from them ends on.
+-- Assumes nothing.
 use mathlib.Core.Path.{_≡_}
 use mathlib.Core.List.{List, [], _∷_}
 use Prim.Native.Nat.{ℕ, _-_, _≤_}
@@ -8,7 +9,8 @@ use Rattle.calculus.specs.Expansion.{expand}
 use Rattle.calculus.specs.Order.{move, tree, Answer, possible, impossible, answerOf}
 use Rattle.calculus.specs.Model.{Fresh}
 use Rattle.calculus.specs.declared.Move.the-variants.{Split}
-use Rattle.solver.specs.Work.{gOf, Holds}
+use Rattle.state.specs.Work.{gOf}
+use Rattle.state.specs.Holds.{Holds}
 use Rattle.deciding.specs.declared.Stop.{Stop}
 use Rattle.deciding.specs.declared.Stop.the-variants.{Closed as Shut, Model as Open, Fork}
 use Rattle.deciding.specs.declared.Found.{Found}
@@ -29,8 +31,8 @@ foundOf Model G = possible G
 foundOf Closed G = impossible
 
 -- the units have joined: the search from here ends on what the search from the start does, and the next move is no unit
-pub record Settled (t : ℕ → Node) (n : ℕ) (goals w w′ : List ℕ) (r : Stop) : Type 0 where
-  pub holds : Holds t n goals w′
+pub record Settled (t : ℕ → Node) (n : ℕ) (goals w w′ m′ : List ℕ) (r : Stop) : Type 0 where
+  pub holds : Holds t n goals w′ m′
   pub grows : Extends (gOf w) (gOf w′)
   pub same : result t n goals (gOf w′) ≡ result t n goals (gOf w)
   pub closes : r ≡ Shut → result t n goals (gOf w′) ≡ impossible
@@ -42,8 +44,12 @@ abbrev pub Turned : ℕ → ℕ → List ℕ → Type 0
 Turned n l [] = ⊥
 Turned n l (m ∷ G) = (m ≡ l) × Fresh n G l
 
--- the search is done: its answer, with the final literals where there is a model; where all branches closed, those of the start
-pub record Searched (t : ℕ → Node) (n : ℕ) (goals w w′ : List ℕ) (r : Found) : Type 0 where
-  pub holds : Holds t n goals w′
+-- the search is done: its answer, with the final literals where there is a model
+pub record Ended (t : ℕ → Node) (n : ℕ) (goals w w′ m′ : List ℕ) (r : Found) : Type 0 where
+  pub holds : Holds t n goals w′ m′
   pub answered : foundOf r (gOf w′) ≡ result t n goals (gOf w)
+
+-- .. and where all branches closed, the literals held are those of the start
+pub record Searched (t : ℕ → Node) (n : ℕ) (goals w w′ m′ : List ℕ) (r : Found) : Type 0 where
+  pub ended : Ended t n goals w w′ m′ r
   pub back : r ≡ Closed → gOf w′ ≡ gOf w

@@ -26,10 +26,10 @@ use Rattle.rules.specs.Derivation.{stepsOf}
 use Rattle.rules.specs.Derive.{derivationOf, isImpossible, Derived as Given, derive}
 use Rattle.steps.proofs.Encode.{length-encode-steps}
 use Rattle.index.specs.Index.{indexNode, Built}
-use Rattle.solver.specs.Work.{gOf}
+use Rattle.state.specs.Work.{gOf}
 use Rattle.deciding.specs.Search.{result, foundOf}
 use Rattle.deciding.proofs.Nodes.{nodesIn, size-in, nodes-read, read, node-in, index-table, search-in}
-use Rattle.counting.specs.Count.{atMost, stepsFrom, foundBy, Counted}
+use Rattle.counting.specs.Count.{atMost, stepsFrom, foundBy, Tallied}
 use Rattle.counting.specs.declared.Tally.{Tally}
 use Rattle.counting.specs.declared.Tally.the-variants.{Open, Closed as Shut}
 use Rattle.counting.proofs.Counts.{most-under, most-over}
@@ -158,21 +158,21 @@ module _ (t : List ℕ) (nodes goal : ℕ) (w d : List ℕ) (p : Prepared t node
         rows-derive t goal w d nodes (read t nodes (p .readable) (p .all))
         ∙ ap (_>> searched t goal w d rs₀) (sym (row-fine nodes goal (length w) (p .inside) (p .area)))
 
-    module _ (x : List ℕ) (size : length x ≡ 16128) (b : Built t nodes x) (w₁ : List ℕ) (z : gOf w₁ ≡ []) where
-      -- the steps over the index are those over the nodes
-      steps-in : stepsFrom (indexNode x) nodes (goal ∷ []) (gOf w₁) ≡ derivationOf rs₀ (goal ∷ [])
-      steps-in =
+    module _ (x : List ℕ) (size : length x ≡ 16128) (b : Built t nodes x) where
+      -- from no literals, the steps over the index are those over the nodes
+      steps-in : (G : List ℕ) → G ≡ [] → stepsFrom (indexNode x) nodes (goal ∷ []) G ≡ derivationOf rs₀ (goal ∷ [])
+      steps-in G z =
           let n0 : nodes - 0 ≡ nodes = omega arith in
           ap (stepsFrom (indexNode x) nodes (goal ∷ [])) z
           ∙ ap (λ (k : ℕ). stepsOf (expand (indexNode x)) (goal ∷ []) [] (tree (expand (indexNode x)) (goal ∷ []) k [])) n0
           ∙ derivation-same nodes (indexNode x) (nodesOf rs₀) (node-in t nodes (p .readable) (p .all) all x b) (goal ∷ []) (index-table t nodes (p .readable) (p .all) all x b) (p .inside, tt)
           ∙ ap (λ (k : ℕ). stepsOf (expand (nodesOf rs₀)) (goal ∷ []) [] (tree (expand (nodesOf rs₀)) (goal ∷ []) k [])) (sym (size-in t nodes))
 
-      module _ {w₂ : List ℕ} {most : ℕ} {r : Tally} (m : most ≡ 126 * min (length d / 512) 65536)
-          (c : Counted (indexNode x) nodes (goal ∷ []) w₁ w₂ (most + 1) 0 r) where
+      module _ (w₁ : List ℕ) (z : gOf w₁ ≡ []) {w₂ m₂ : List ℕ} {most : ℕ} {r : Tally} (m : most ≡ 126 * min (length d / 512) 65536)
+          (c : Tallied (indexNode x) nodes (goal ∷ []) w₁ w₂ m₂ (most + 1) 0 r) where
         -- what the count found is what the search over the nodes ends on
         found : foundOf (foundBy r) (gOf w₂) ≡ answerOf (searchOf rs₀ (goal ∷ []))
-        found = search-in t nodes (p .readable) (p .all) all x b goal (p .inside) z (c .searched)
+        found = search-in t nodes (p .readable) (p .all) all x b goal (p .inside) z (c .ended)
 
         pub ends-open : r ≡ Open → Derives t goal w d w₂ d (Refused (record { number = 30; place = 0 }))
         ends-open e =
@@ -184,40 +184,34 @@ module _ (t : List ℕ) (nodes goal : ℕ) (w d : List ℕ) (p : Prepared t node
           none = rw e at found
 
           number : k ≡ atMost (most + 1) (0 + length (derivationOf rs₀ (goal ∷ [])))
-          number = c .counted k e ∙ ap (λ (ss : List Step). atMost (most + 1) (0 + length ss)) steps-in
+          number = c .counted k e ∙ ap (λ (ss : List Step). atMost (most + 1) (0 + length ss)) (steps-in (gOf w₁) z)
 
           pub ends-over : most < k → Derives t goal w d w₂ d (Refused (record { number = 31; place = 0 }))
           ends-over h =
               later t goal w d all (record { number = 31; place = 0 }) (omega arith)
               (derived ∙ rw (← none) (row-over (derivationOf rs₀ (goal ∷ [])) d (answer (given t goal w d rs₀)) (omega (arith, count-over most _ k number h))))
 
-          module _ (h : k ≤ most) where
+          -- the steps fit, and the search starts again
+          module _ (h : k ≤ most) (w₃ : List ℕ) (y : gOf w₃ ≡ []) where
             exact : k ≡ length (derivationOf rs₀ (goal ∷ []))
             exact = count-fits most _ k number h
 
-            -- the literals held are again those of the start
-            kept : gOf w₂ ≡ gOf w₁
-            kept = c .searched .back (ap foundBy e)
-
-            steps-same : stepsFrom (indexNode x) nodes (goal ∷ []) (gOf w₂) ≡ derivationOf rs₀ (goal ∷ [])
-            steps-same = ap (stepsFrom (indexNode x) nodes (goal ∷ [])) kept ∙ steps-in
-
-            pub fits : Fits (indexNode x) nodes (goal ∷ []) (gOf w₂) d
+            pub fits : Fits (indexNode x) nodes (goal ∷ []) (gOf w₃) d
             fits =
-                let v : impossible ≡ result (indexNode x) nodes (goal ∷ []) (gOf w₁) = rw e at (c .searched .answered) in
+                let v : impossible ≡ result (indexNode x) nodes (goal ∷ []) (gOf w₁) = rw e at (c .ended .answered) in
                 record {
-                  closes = ap (result (indexNode x) nodes (goal ∷ [])) kept ∙ sym v;
-                  lent = omega (arith, ap length steps-same, exact, h, m);
-                  most = omega (arith, ap length steps-same, exact, h, m);
+                  closes = ap (result (indexNode x) nodes (goal ∷ [])) (y ∙ sym z) ∙ sym v;
+                  lent = omega (arith, ap length (steps-in (gOf w₃) y), exact, h, m);
+                  most = omega (arith, ap length (steps-in (gOf w₃) y), exact, h, m);
                 }
 
             answers : derive t goal w d ≡ answer (given t goal w d rs₀)
             answers =
                 derived ∙ rw (← none) (row-fits (derivationOf rs₀ (goal ∷ [])) d (answer (given t goal w d rs₀)) (omega (arith, exact, h, m)))
 
-            pub ends-steps : {w₃ d′ : List ℕ} → d′ ≡ bytesWritten (stepsFrom (indexNode x) nodes (goal ∷ []) (gOf w₂)) d → Derives t goal w d w₃ d′ (Steps k)
+            pub ends-steps : {w₄ d′ : List ℕ} → d′ ≡ bytesWritten (stepsFrom (indexNode x) nodes (goal ∷ []) (gOf w₃)) d → Derives t goal w d w₄ d′ (Steps k)
             ends-steps q =
                 derives t goal w d (Steps k) all
                 (rw answers (ap answer exact))
-                (rw answers (q ∙ ap (λ (ss : List Step). bytesWritten ss d) steps-same))
-                (λ f y. steps-refused y)
+                (rw answers (q ∙ ap (λ (ss : List Step). bytesWritten ss d) (steps-in (gOf w₃) y)))
+                (λ f v. steps-refused v)

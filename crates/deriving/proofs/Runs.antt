@@ -16,7 +16,8 @@ use Rattle.rules.specs.declared.Step.{Step}
 use Rattle.rules.specs.Steps.{U, C, S}
 use Rattle.rules.specs.Derivation.{removed}
 use Rattle.calculus.proofs.Sound.{or-closed}
-use Rattle.solver.specs.Work.{gOf, Holds}
+use Rattle.state.specs.Work.{gOf}
+use Rattle.state.specs.Holds.{Holds}
 use Rattle.gather.specs.declared.Writer.{Writer}
 use Rattle.gather.specs.Kept.{gathered, Space, Pushed}
 use Rattle.gather.proofs.Pushes.{space-less, space-left, pushed-none, pushed-on}
@@ -45,16 +46,18 @@ space-first ss ts e s = space-less (omega (arith, length-append ss ts, ap length
 -- ---- a phase
 
 -- what holds before each turn
-pub record Run (t : ℕ → Node) (n : ℕ) (goals w w′ out out′ : List ℕ) (g g′ : Writer) : Type 0 where
-  pub holds : Holds t n goals w′
+pub record Run (t : ℕ → Node) (n : ℕ) (goals w m w′ m′ out out′ : List ℕ) (g g′ : Writer) : Type 0 where
+  pub holds : Holds t n goals w′ m′
   pub grows : Extends (gOf w) (gOf w′)
   pub steps : List Step
   pub pushed : Pushed steps out g out′ g′
   pub whole : steps ++ stepsFrom t n goals (gOf w′) ≡ stepsFrom t n goals (gOf w)
   pub due : Due t n goals (gOf w′) out′ g′
   pub size : length w′ ≡ length w
+  pub sets : length m′ ≡ length m
 
-pub run-starts : {t : ℕ → Node} {n : ℕ} {goals w out : List ℕ} {g : Writer} → Holds t n goals w → Due t n goals (gOf w) out g → Run t n goals w w out out g g
+pub run-starts : {t : ℕ → Node} {n : ℕ} {goals w m out : List ℕ} {g : Writer} → Holds t n goals w m → Due t n goals (gOf w) out g
+    → Run t n goals w m w m out out g g
 run-starts {w = w} {out} {g} h d = record {
   holds = h;
   grows = extends-self (gOf w);
@@ -63,9 +66,10 @@ run-starts {w = w} {out} {g} h d = record {
   whole = refl;
   due = d;
   size = refl;
+  sets = refl;
 }
 
-module _ {t : ℕ → Node} {n : ℕ} {goals w w′ out out′ : List ℕ} {g g′ : Writer} (r : Run t n goals w w′ out out′ g g′) where
+module _ {t : ℕ → Node} {n : ℕ} {goals w m w′ m′ out out′ : List ℕ} {g g′ : Writer} (r : Run t n goals w m w′ m′ out out′ g g′) where
   -- some of the steps that are due are pushed
   more-whole : (ss ts : List Step) → stepsFrom t n goals (gOf w′) ≡ ss ++ ts → (r .steps ++ ss) ++ ts ≡ stepsFrom t n goals (gOf w)
   more-whole ss ts e = append-assoc (r .steps) ss ts ∙ ap (r .steps ++_) (sym e) ∙ r .whole
@@ -83,7 +87,7 @@ module _ {t : ℕ → Node} {n : ℕ} {goals w w′ out out′ : List ℕ} {g g�
     conflict-space = space-less (omega (arith, ap length conflict-steps, length-append (removed (expand t) goals (gOf w′) k) (C k ∷ []))) (r .due .space)
 
     pub run-conflict : {out₂ : List ℕ} {g₂ : Writer} → Pushed (removed (expand t) goals (gOf w′) k ++ C k ∷ []) out′ g′ out₂ g₂
-        → Stepped t n goals w w′ out out₂ g g₂ Closed
+        → Stepped t n goals w w′ m′ out out₂ g g₂ Closed
     run-conflict p = record {
       holds = r .holds;
       grows = r .grows;
@@ -117,9 +121,9 @@ module _ {t : ℕ → Node} {n : ℕ} {goals w w′ out out′ : List ℕ} {g g�
           space-less (omega (arith, length-append (removed (expand t) goals (gOf w′) k) (U k ∷ [])))
           (space-first (removed (expand t) goals (gOf w′) k ++ U k ∷ []) (stepsFrom t n goals (l ∷ gOf w′)) unit-steps (r .due .space))
 
-      pub run-unit : {w″ out₂ : List ℕ} {g₂ : Writer} → Pushed (removed (expand t) goals (gOf w′) k ++ U k ∷ []) out′ g′ out₂ g₂
-          → Holds t n goals w″ → gOf w″ ≡ l ∷ gOf w′ → length w″ ≡ length w′ → Run t n goals w w″ out out₂ g g₂
-      run-unit p h q z = record {
+      pub run-unit : {w″ m″ out₂ : List ℕ} {g₂ : Writer} → Pushed (removed (expand t) goals (gOf w′) k ++ U k ∷ []) out′ g′ out₂ g₂
+          → Holds t n goals w″ m″ → gOf w″ ≡ l ∷ gOf w′ → length w″ ≡ length w′ → length m″ ≡ length m′ → Run t n goals w m w″ m″ out out₂ g g₂
+      run-unit p h q z y = record {
         holds = h;
         grows = rw q (extends-more (r .grows) l);
         steps = r .steps ++ (removed (expand t) goals (gOf w′) k ++ U k ∷ []);
@@ -130,6 +134,7 @@ module _ {t : ℕ → Node} {n : ℕ} {goals w w′ out out′ : List ℕ} {g g�
           space = more-space (removed (expand t) goals (gOf w′) k ++ U k ∷ []) (stepsFrom t n goals (l ∷ gOf w′)) unit-steps p;
         });
         size = z ∙ r .size;
+        sets = y ∙ r .sets;
       }
 
     -- a split
@@ -145,7 +150,7 @@ module _ {t : ℕ → Node} {n : ℕ} {goals w w′ out out′ : List ℕ} {g g�
       pub split-space : Space 1 out′ g′
       split-space = space-first (S l ∷ []) (left t n goals (gOf w′) (Fork l)) split-steps (r .due .space)
 
-      pub run-split : {out₂ : List ℕ} {g₂ : Writer} → Pushed (S l ∷ []) out′ g′ out₂ g₂ → Stepped t n goals w w′ out out₂ g g₂ (Fork l)
+      pub run-split : {out₂ : List ℕ} {g₂ : Writer} → Pushed (S l ∷ []) out′ g′ out₂ g₂ → Stepped t n goals w w′ m′ out out₂ g g₂ (Fork l)
       run-split p = record {
         holds = r .holds;
         grows = r .grows;
@@ -153,17 +158,21 @@ module _ {t : ℕ → Node} {n : ℕ} {goals w w′ out out′ : List ℕ} {g g�
         pushed = pushed-on (r .pushed) p;
         whole = more-whole (S l ∷ []) (left t n goals (gOf w′) (Fork l)) split-steps;
         closes = r .due .closes;
-        forks = λ m q. let z : l ≡ m = cc in e ∙ ap Split z;
+        forks = λ k q. let z : l ≡ k = cc in e ∙ ap Split z;
       }
 
 -- ---- the recursion
 
-module _ {t : ℕ → Node} {n : ℕ} {goals w w₁ out out₁ : List ℕ} {g g₁ : Writer} {turn : Turn} (s : Stepped t n goals w w₁ out out₁ g g₁ turn) where
-  pub noted-closed : turn ≡ Closed → {w₂ : List ℕ} → Holds t n goals w₂ → gOf w₂ ≡ drop (length (gOf w₁) - length (gOf w)) (gOf w₁)
-      → Noted t n goals w w₂ out out₁ g g₁
-  noted-closed e h q =
+module _ {t : ℕ → Node} {n : ℕ} {goals w w₁ m₁ out out₁ : List ℕ} {g g₁ : Writer} {turn : Turn} (s : Stepped t n goals w w₁ m₁ out out₁ g g₁ turn) where
+  -- a phase that ends on a conflict has pushed all steps
+  pub pushed-closed : turn ≡ Closed → Pushed (stepsFrom t n goals (gOf w)) out g out₁ g₁
+  pushed-closed e =
       let z : s .steps ≡ stepsFrom t n goals (gOf w) = sym (append-nil (s .steps)) ∙ rw e at (s .whole) in
-      record { holds = h; back = q ∙ s .grows .first; pushed = rw (← z) (s .pushed) }
+      rw (← z) (s .pushed)
+
+  pub noted-closed : turn ≡ Closed → {w₂ m₂ : List ℕ} → Holds t n goals w₂ m₂ → gOf w₂ ≡ drop (length (gOf w₁) - length (gOf w)) (gOf w₁)
+      → Noted t n goals w w₂ m₂ out out₁ g g₁
+  noted-closed e h q = record { holds = h; back = q ∙ s .grows .first; pushed = pushed-closed e }
 
   module _ (T : Table n t) (B : Below n goals) {l : ℕ} (e : turn ≡ Fork l) where
     fork-split : move (expand t) goals (gOf w₁) ≡ Split l
@@ -200,7 +209,7 @@ module _ {t : ℕ → Node} {n : ℕ} {goals w w₁ out out₁ : List ℕ} {g g�
             })
 
         -- the left branch
-        module _ {w₃ out₂ : List ℕ} {g₂ : Writer} (a : Noted t n goals w₂ w₃ out₁ out₂ g₁ g₂) where
+        module _ {w₃ m₃ out₂ : List ℕ} {g₂ : Writer} (a : Noted t n goals w₂ w₃ m₃ out₁ out₂ g₁ g₂) where
           left-list : gOf w₃ ≡ l ∷ gOf w₁
           left-list = a .back ∙ q
 
@@ -222,22 +231,25 @@ module _ {t : ℕ → Node} {n : ℕ} {goals w w₁ out out₁ : List ℕ} {g g�
                   space = space-rest (stepsFrom t n goals (l ∷ gOf w₁)) (stepsFrom t n goals (neg l ∷ gOf w₁)) refl fork-space left-pushed;
                 })
 
-            module _ {w₅ out₃ : List ℕ} {g₃ : Writer} (b : Noted t n goals w₄ w₅ out₂ out₃ g₂ g₃) where
+            -- the steps of a phase, of the left branch and of the right are all
+            pub pushed-fork : {out₃ : List ℕ} {g₃ : Writer} → Pushed (stepsFrom t n goals (gOf w₄)) out₂ g₂ out₃ g₃
+                → Pushed (stepsFrom t n goals (gOf w)) out g out₃ g₃
+            pushed-fork b = rw (← fork-whole) (pushed-on (s .pushed) (pushed-on left-pushed (rw right-list at b)))
+
+            module _ {w₅ m₅ out₃ : List ℕ} {g₃ : Writer} (b : Noted t n goals w₄ w₅ m₅ out₂ out₃ g₂ g₃) where
               end-list : gOf w₅ ≡ neg l ∷ gOf w₁
               end-list = b .back ∙ right-list
 
               pub end-more : length (gOf w) ≤ length (gOf w₅)
               end-more = omega (arith, s .grows .more, ap length end-list)
 
-              pub noted-fork : {w₆ : List ℕ} → Holds t n goals w₆ → gOf w₆ ≡ drop (length (gOf w₅) - length (gOf w)) (gOf w₅)
-                  → Noted t n goals w w₆ out out₃ g g₃
+              pub noted-fork : {w₆ m₆ : List ℕ} → Holds t n goals w₆ m₆ → gOf w₆ ≡ drop (length (gOf w₅) - length (gOf w)) (gOf w₅)
+                  → Noted t n goals w w₆ m₆ out out₃ g g₃
               noted-fork h y =
                   record {
                     holds = h;
                     back = y ∙ (rw (← end-list) at (extends-more (s .grows) (neg l))) .first;
-                    pushed =
-                        rw (← fork-whole)
-                        (pushed-on (s .pushed) (pushed-on left-pushed (rw right-list at (b .pushed))));
+                    pushed = pushed-fork (b .pushed);
                   }
 
 -- ---- the whole

@@ -15,9 +15,12 @@ use Rattle.calculus.specs.declared.Move.the-variants.{Conflict, Unit as Single,
 use Rattle.rules.specs.Steps.{U, R, C, S}
 use Rattle.rules.specs.Rules.{isFails}
 use Rattle.rules.specs.Derivation.{removals, removed, stepsOf}
-use Rattle.solver.specs.Work.{valueCode}
-use Rattle.solver.specs.Reason.{literals, Reasoned}
-use Rattle.solver.specs.declared.Clause.{Clause}
+use Rattle.clause.specs.declared.Clause.{Clause}
+use Rattle.clause.specs.Stored.{literals}
+use Rattle.clause.specs.Classes.{wideValue}
+use Rattle.clause.proofs.Rows.{wide-low}
+use Rattle.state.specs.Work.{valueCode}
+use Rattle.moves.specs.Reason.{Reasoned}
 use Rattle.deciding.proofs.Searches.{tree-conflict, tree-unit, tree-split, fuel}
 use Rattle.counting.specs.Count.{stepsFrom}
 use Rattle.deriving.specs.Trace.{removal, OnClause}
@@ -48,12 +51,15 @@ false-value holds = refl
 false-value fails = refl
 false-value undecided = refl
 
-module _ (G : List ℕ) (k p l : ℕ) {v : ℕ} (e : v ≡ valueCode (valueOf G l)) where
+module _ (G : List ℕ) (k p l : ℕ) (b : l < 4032) {v : ℕ} (e : v ≡ wideValue G l) where
+  value-is : v ≡ valueCode (valueOf G l)
+  value-is = e ∙ wide-low G l b
+
   pub removal-some : v ≡ 2 → removal G k p l ≡ R p k ∷ []
-  removal-some h = rw (false-value (valueOf G l) ∙ eq-eqb (valueCode (valueOf G l)) 2 (sym e ∙ h))
+  removal-some h = rw (false-value (valueOf G l) ∙ eq-eqb (valueCode (valueOf G l)) 2 (sym value-is ∙ h))
 
   pub removal-none : (v ≡ 2 → ⊥) → removal G k p l ≡ []
-  removal-none h = rw (false-value (valueOf G l) ∙ ne-eqb (valueCode (valueOf G l)) 2 (λ q. h (e ∙ q)))
+  removal-none h = rw (false-value (valueOf G l) ∙ ne-eqb (valueCode (valueOf G l)) 2 (λ q. h (value-is ∙ q)))
 
 module _ (G : List ℕ) (k : ℕ) where
   -- the literal in front, and the others

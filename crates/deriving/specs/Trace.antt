@@ -12,7 +12,8 @@ use Rattle.calculus.specs.declared.Move.the-variants.{Conflict, Unit as Single,
 use Rattle.rules.specs.declared.Step.{Step}
 use Rattle.rules.specs.Steps.{R, encodeSteps}
 use Rattle.rules.specs.Rules.{isFails}
-use Rattle.solver.specs.Work.{gOf, Holds}
+use Rattle.state.specs.Work.{gOf}
+use Rattle.state.specs.Holds.{Holds}
 use Rattle.gather.specs.declared.Writer.{Writer}
 use Rattle.gather.specs.Kept.{gathered, Space, Pushed}
 use Rattle.deciding.specs.Search.{result, Extends}
@@ -44,8 +45,8 @@ left t n goals G Closed = []
 left t n goals G (Fork l) = stepsFrom t n goals (l ∷ G) ++ stepsFrom t n goals (neg l ∷ G)
 
 -- a phase is done: the units have joined, up to a conflict or a split, and the steps so far were pushed
-pub record Stepped (t : ℕ → Node) (n : ℕ) (goals w w′ out out′ : List ℕ) (g g′ : Writer) (turn : Turn) : Type 0 where
-  pub holds : Holds t n goals w′
+pub record Stepped (t : ℕ → Node) (n : ℕ) (goals w w′ m′ out out′ : List ℕ) (g g′ : Writer) (turn : Turn) : Type 0 where
+  pub holds : Holds t n goals w′ m′
   pub grows : Extends (gOf w) (gOf w′)
   pub steps : List Step
   pub pushed : Pushed steps out g out′ g′
@@ -54,8 +55,8 @@ pub record Stepped (t : ℕ → Node) (n : ℕ) (goals w w′ out out′ : List 
   pub forks : (l : ℕ) → turn ≡ Fork l → move (expand t) goals (gOf w′) ≡ Split l
 
 -- a search is done: its steps were pushed, and the literals held are those of the start
-pub record Noted (t : ℕ → Node) (n : ℕ) (goals w w′ out out′ : List ℕ) (g g′ : Writer) : Type 0 where
-  pub holds : Holds t n goals w′
+pub record Noted (t : ℕ → Node) (n : ℕ) (goals w w′ m′ out out′ : List ℕ) (g g′ : Writer) : Type 0 where
+  pub holds : Holds t n goals w′ m′
   pub back : gOf w′ ≡ gOf w
   pub pushed : Pushed (stepsFrom t n goals (gOf w)) out g out′ g′
 

@@ -3,12 +3,12 @@
 // recursion carries two counts, a call for each branch of a split; the block that gathers is an array of derive's own, which is lent,
 // and within a phase, the moves up to a conflict or a split, it is a struct, taken and returned by value.
 use calculus::Move;
+use clause::Clause;
 use counting::Tally;
 use gather::Writer;
 use rules::Step;
 use scope::Refusal;
 use scope::Verdict;
-use solver::Clause;
 use table::Counted;
 ghost use mathlib.Core.Path.{_≡_};
 ghost use mathlib.Core.List.{[], _∷_, _++_};
@@ -16,12 +16,14 @@ ghost use Prim.Native.Nat.{_+_, _*_, _/_, _<_, _≤_, min};
 ghost use lib.ListN.{length};
 ghost use Rattle.scope.specs.Outcome.{verdictOf};
 ghost use Rattle.calculus.specs.Expansion.{expand};
-ghost use Rattle.calculus.specs.Model.{Below};
+ghost use Rattle.calculus.specs.Model.{Below, Goals};
 ghost use Rattle.rules.specs.Steps.{step};
 ghost use Rattle.rules.specs.Derivation.{removals, removed};
 ghost use Rattle.index.specs.Index.{mostNodes, indexNode};
-ghost use Rattle.solver.specs.Work.{gOf, Indexed, Goals, Ready, Holds};
-ghost use Rattle.solver.specs.Reason.{literals};
+ghost use Rattle.clause.specs.Indexed.{Indexed};
+ghost use Rattle.clause.specs.Stored.{literals};
+ghost use Rattle.state.specs.Work.{gOf, Ready};
+ghost use Rattle.state.specs.Holds.{Holds};
 ghost use Rattle.gather.specs.Kept.{Space, Pushed};
 ghost use Rattle.counting.specs.Count.{stepsFrom};
 ghost use Rattle.deriving.specs.Trace.{removal, OnClause, lent, Due, Stepped, Noted, Fits, written};
@@ -64,7 +66,7 @@ fn remove(n: usize, work: &[u16], out: &mut [u8], w: Writer, k: u16, p: u8, l: u
     requires { ⌜ Space (length (removal (gOf (now work)) k p l)) (now out) w ⌝ }
     ensures { λ r. ⌜ Pushed (removal (gOf (now (work .entry))) k p l) (now (out .entry)) w (now (out .exit)) r ⌝ }
 {
-    let v = solver::value(work, n, l);
+    let v = state::value(work, n, l);
     if v == 2 {
         return gather::push(
             out,
@@ -105,6 +107,7 @@ fn on_clause(
     n: usize,
     goals: &[u16],
     work: &[u16],
+    masks: &[u64],
     out: &mut [u8],
     w: Writer,
     rule: u8,
@@ -112,12 +115,12 @@ fn on_clause(
 ) -> Writer
     requires { ⌜ Indexed (now x) n ⌝ }
     requires { ⌜ Goals n (now goals) ⌝ }
-    requires { ⌜ Holds (indexNode (now x)) n (now goals) (now work) ⌝ }
+    requires { ⌜ Holds (indexNode (now x)) n (now goals) (now work) (now masks) ⌝ }
     requires { ⌜ OnClause (indexNode (now x)) (now goals) (gOf (now work)) k ⌝ }
     requires { ⌜ Space (length (removed (expand (indexNode (now x))) (now goals) (gOf (now work)) k) + 1) (now out) w ⌝ }
     ensures { λ r. ⌜ Pushed (removed (expand (indexNode (now (x .entry)))) (now (goals .entry)) (gOf (now (work .entry))) k ++ step rule 0 k ∷ []) (now (out .entry)) w (now (out .exit)) r ⌝ }
 {
-    let c = solver::reason(x, n, goals, work);
+    let c = moves::reason(x, n, goals, work, masks);
     let v = removals(n, work, out, w, k, c);
     gather::push(
         out,
@@ -131,27 +134,35 @@ fn on_clause(
 }
 
 // The moves up to a conflict or a split, with their steps.
-fn phase(x: &[u16], n: usize, goals: &[u16], work: &mut [u16], out: &mut [u8], w: Writer) -> Told
+fn phase(
+    x: &[u16],
+    n: usize,
+    goals: &[u16],
+    work: &mut [u16],
+    masks: &mut [u64],
+    out: &mut [u8],
+    w: Writer,
+) -> Told
     requires { ⌜ Indexed (now x) n ⌝ }
     requires { ⌜ Goals n (now goals) ⌝ }
-    requires { ⌜ Holds (indexNode (now x)) n (now goals) (now work) ⌝ }
+    requires { ⌜ Holds (indexNode (now x)) n (now goals) (now work) (now masks) ⌝ }
     requires { ⌜ Due (indexNode (now x)) n (now goals) (gOf (now work)) (now out) w ⌝ }
-    ensures { λ r. ⌜ Stepped (indexNode (now (x .entry))) n (now (goals .entry)) (now (work .entry)) (now (work .exit)) (now (out .entry)) (now (out .exit)) w (r .w) (r .turn) ⌝ }
+    ensures { λ r. ⌜ Stepped (indexNode (now (x .entry))) n (now (goals .entry)) (now (work .entry)) (now (work .exit)) (now (masks .exit)) (now (out .entry)) (now (out .exit)) w (r .w) (r .turn) ⌝ }
 {
     let mut v = w;
     loop {
-        let m = solver::next_move(x, n, goals, work);
+        let m = moves::next_move(x, n, goals, work, masks);
         match m {
             Move::Conflict(k) => {
-                v = on_clause(x, n, goals, work, out, v, 67, k);
+                v = on_clause(x, n, goals, work, masks, out, v, 67, k);
                 return Told {
                     turn: Turn::Closed,
                     w: v,
                 };
             }
             Move::Unit(k, l) => {
-                v = on_clause(x, n, goals, work, out, v, 85, k);
-                solver::assume(x, n, goals, work, l);
+                v = on_clause(x, n, goals, work, masks, out, v, 85, k);
+                solver::assume(x, n, goals, work, masks, l);
             }
             Move::Done => {
                 return Told {
@@ -184,15 +195,16 @@ fn settle(
     n: usize,
     goals: &[u16],
     work: &mut [u16],
+    masks: &mut [u64],
     out: &mut [u8],
     block: &mut [u8; 512],
     at: At,
 ) -> Ahead
     requires { ⌜ Indexed (now x) n ⌝ }
     requires { ⌜ Goals n (now goals) ⌝ }
-    requires { ⌜ Holds (indexNode (now x)) n (now goals) (now work) ⌝ }
+    requires { ⌜ Holds (indexNode (now x)) n (now goals) (now work) (now masks) ⌝ }
     requires { ⌜ Due (indexNode (now x)) n (now goals) (gOf (now work)) (now out) (lent (now block) at) ⌝ }
-    ensures { λ r. ⌜ Stepped (indexNode (now (x .entry))) n (now (goals .entry)) (now (work .entry)) (now (work .exit)) (now (out .entry)) (now (out .exit)) (lent (now (block .entry)) at) (lent (now (block .exit)) (r .at)) (r .turn) ⌝ }
+    ensures { λ r. ⌜ Stepped (indexNode (now (x .entry))) n (now (goals .entry)) (now (work .entry)) (now (work .exit)) (now (masks .exit)) (now (out .entry)) (now (out .exit)) (lent (now (block .entry)) at) (lent (now (block .exit)) (r .at)) (r .turn) ⌝ }
 {
     let held = *block;
     let w = Writer {
@@ -200,7 +212,7 @@ fn settle(
         count: at.count,
         blocks: at.blocks,
     };
-    let told = phase(x, n, goals, work, out, w);
+    let told = phase(x, n, goals, work, masks, out, w);
     let v = told.w;
     let turn = told.turn;
     let after = v.block;
@@ -220,50 +232,83 @@ fn note(
     n: usize,
     goals: &[u16],
     work: &mut [u16],
+    masks: &mut [u64],
     out: &mut [u8],
     block: &mut [u8; 512],
     at: At,
 ) -> At
     requires { ⌜ Indexed (now x) n ⌝ }
     requires { ⌜ Goals n (now goals) ⌝ }
-    requires { ⌜ Holds (indexNode (now x)) n (now goals) (now work) ⌝ }
+    requires { ⌜ Holds (indexNode (now x)) n (now goals) (now work) (now masks) ⌝ }
     requires { ⌜ Due (indexNode (now x)) n (now goals) (gOf (now work)) (now out) (lent (now block) at) ⌝ }
-    ensures { λ r. ⌜ Noted (indexNode (now (x .entry))) n (now (goals .entry)) (now (work .entry)) (now (work .exit)) (now (out .entry)) (now (out .exit)) (lent (now (block .entry)) at) (lent (now (block .exit)) r) ⌝ }
+    ensures { λ r. ⌜ Noted (indexNode (now (x .entry))) n (now (goals .entry)) (now (work .entry)) (now (work .exit)) (now (masks .exit)) (now (out .entry)) (now (out .exit)) (lent (now (block .entry)) at) (lent (now (block .exit)) r) ⌝ }
 {
-    let held = solver::count(work);
-    let a = settle(x, n, goals, work, out, block, at);
+    let held = state::count(work);
+    let a = settle(x, n, goals, work, masks, out, block, at);
     let turn = a.turn;
     let p = a.at;
     match turn {
         Turn::Closed => {
-            deciding::undo_to(x, n, goals, work, held);
+            deciding::undo_to(x, n, goals, work, masks, held);
             p
         }
         Turn::Fork(l) => {
-            solver::assume(x, n, goals, work, l);
-            let b = note(x, n, goals, work, out, block, p);
-            deciding::turn(x, n, goals, work, l);
-            let c = note(x, n, goals, work, out, block, b);
-            deciding::undo_to(x, n, goals, work, held);
+            solver::assume(x, n, goals, work, masks, l);
+            let b = note(x, n, goals, work, masks, out, block, p);
+            deciding::turn(x, n, goals, work, masks, l);
+            let c = note(x, n, goals, work, masks, out, block, b);
+            deciding::undo_to(x, n, goals, work, masks, held);
             c
         }
     }
 }
 
-// The steps of a search that closes, in blocks at the start of d.
-fn write(x: &[u16], n: usize, goals: &[u16], work: &mut [u16], d: &mut [u8])
+// The same where no split is open: nothing is taken back.
+fn note_last(
+    x: &[u16],
+    n: usize,
+    goals: &[u16],
+    work: &mut [u16],
+    masks: &mut [u64],
+    out: &mut [u8],
+    block: &mut [u8; 512],
+    at: At,
+) -> At
     requires { ⌜ Indexed (now x) n ⌝ }
     requires { ⌜ Goals n (now goals) ⌝ }
-    requires { ⌜ Holds (indexNode (now x)) n (now goals) (now work) ⌝ }
+    requires { ⌜ Holds (indexNode (now x)) n (now goals) (now work) (now masks) ⌝ }
+    requires { ⌜ Due (indexNode (now x)) n (now goals) (gOf (now work)) (now out) (lent (now block) at) ⌝ }
+    ensures { λ r. ⌜ Pushed (stepsFrom (indexNode (now (x .entry))) n (now (goals .entry)) (gOf (now (work .entry)))) (now (out .entry)) (lent (now (block .entry)) at) (now (out .exit)) (lent (now (block .exit)) r) ⌝ }
+{
+    let a = settle(x, n, goals, work, masks, out, block, at);
+    let turn = a.turn;
+    let p = a.at;
+    match turn {
+        Turn::Closed => p,
+        Turn::Fork(l) => {
+            solver::assume(x, n, goals, work, masks, l);
+            let b = note(x, n, goals, work, masks, out, block, p);
+            deciding::turn(x, n, goals, work, masks, l);
+            note_last(x, n, goals, work, masks, out, block, b)
+        }
+    }
+}
+
+// The steps of a search that closes, in blocks at the start of d.
+fn write(x: &[u16], n: usize, goals: &[u16], work: &mut [u16], masks: &mut [u64], d: &mut [u8])
+    requires { ⌜ Indexed (now x) n ⌝ }
+    requires { ⌜ Goals n (now goals) ⌝ }
+    requires { ⌜ Holds (indexNode (now x)) n (now goals) (now work) (now masks) ⌝ }
     requires { ⌜ Fits (indexNode (now x)) n (now goals) (gOf (now work)) (now d) ⌝ }
     ensures { λ _. ⌜ now (d .exit) ≡ written (stepsFrom (indexNode (now (x .entry))) n (now (goals .entry)) (gOf (now (work .entry)))) (now (d .entry)) ⌝ }
 {
     let mut block = [0u8; 512];
-    let p = note(
+    let p = note_last(
         x,
         n,
         goals,
         work,
+        masks,
         d,
         &mut block,
         At {
@@ -306,7 +351,7 @@ fn rows(nodes: usize, goal: usize, area: usize) -> Verdict
     Verdict::Fine
 }
 
-// The derivation of a goal, where no row before the search refuses: counted first, then written.
+// The derivation of a goal, where no row before the search refuses: counted first, then, from the start again, written.
 fn run(t: &[u8], nodes: usize, goal: usize, work: &mut [u16], d: &mut [u8]) -> Derived
     requires { ⌜ Prepared (now t) nodes goal (now work) ⌝ }
     ensures { λ r. ⌜ Derives (now (t .entry)) goal (now (work .entry)) (now (d .entry)) (now (work .exit)) (now (d .exit)) r ⌝ }
@@ -314,9 +359,10 @@ fn run(t: &[u8], nodes: usize, goal: usize, work: &mut [u16], d: &mut [u8]) -> D
     let mut x = [0u16; 16128];
     index::build(t, nodes, &mut x);
     let goals = [goal as u16; 1];
-    solver::start(&x, nodes, &goals, work);
+    let mut masks = [0u64; 392];
+    solver::start(&x, nodes, &goals, work, &mut masks);
     let most = room(d.len());
-    let tally = counting::count(&x, nodes, &goals, work, most + 1, 0);
+    let tally = counting::count_last(&x, nodes, &goals, work, &mut masks, most + 1, 0);
     match tally {
         Tally::Open => Derived::Refused(Refusal {
             number: 30,
@@ -329,7 +375,8 @@ fn run(t: &[u8], nodes: usize, goal: usize, work: &mut [u16], d: &mut [u8]) -> D
                     place: 0,
                 });
             }
-            write(&x, nodes, &goals, work, d);
+            solver::start(&x, nodes, &goals, work, &mut masks);
+            write(&x, nodes, &goals, work, &mut masks, d);
             Derived::Steps(steps)
         }
     }

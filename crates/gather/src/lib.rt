@@ -44,22 +44,21 @@ fn flush(out: &mut [u8], block: &[u8], count: usize, index: usize)
 }
 
 // One step more: a block that it fills is written.
-pub fn push(out: &mut [u8], w: Writer, s: Step) -> Writer
+pub fn push(out: &mut [u8], mut w: Writer, s: Step) -> Writer
     requires { ⌜ Space 1 (now out) w ⌝ }
     ensures { λ r. ⌜ Pushed (s ∷ []) (now (out .entry)) w (now (out .exit)) r ⌝ }
 {
     let count = w.count;
     let blocks = w.blocks;
-    let mut v = w;
-    put(&mut v.block, count, s);
+    put(&mut w.block, count, s);
     if count < 125 {
-        v.count = count + 1;
-        return v;
+        w.count = count + 1;
+        return w;
     }
-    flush(out, &v.block, 126, blocks);
-    v.count = 0;
-    v.blocks = blocks + 1;
-    v
+    flush(out, &w.block, 126, blocks);
+    w.count = 0;
+    w.blocks = blocks + 1;
+    w
 }
 
 // The steps that still gather are written, if there are any.

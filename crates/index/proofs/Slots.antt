@@ -1,39 +1,48 @@
 -- Laws of the links of each node to the operand slots that name it, slot by slot. Assumes nothing.
 use mathlib.Core.Path.{_≡_, refl, sym, ap, _∙_}
+use mathlib.Core.Bool.{cond}
 use mathlib.Core.List.{List}
 use Prim.Native.Nat.{ℕ, _+_, _-_, _*_, _/_, _%_, _<_, _≤_}
 use native.Mathlib.Omega.{arith}
 use native.Mathlib.Decide.{ℕ-discrete}
+use lib.Dec.{eqb, ltb}
 use lib.ListN.{length, getD, set, length-set}
 use lib.Seq.{getD-set-same, getD-set-other}
-use borrow.Author.Tests.{eq-eqb, ne-eqb, lt-ltb, le-ltb}
+use borrow.Author.Tests.{lt-ltb, le-ltb}
 use Rattle.scope.specs.declared.Node.{Node}
 use Rattle.index.specs.Index.{indexSize, mostNodes, indexNode, none, opNode, headOf, nextOf, Linked, Entered, Loaded, Built}
 use Rattle.index.proofs.Nodes.{node-same}
 
 -- ---- the node of a slot
 
-module _ (t : ℕ → Node) (s : ℕ) where
-  pub op-none : t (s / 3) .kind < 3 → none ≡ opNode t s
+module _ (t : ℕ → Node) (p : ℕ) where
+  -- slot s is slot i of node p
+  op-at : (s i : ℕ) → s / 3 ≡ p → s % 3 ≡ i
+      → opNode t s ≡ cond (ltb (t p .kind) 3) none (cond (eqb i 0) (t p .a / 2) (cond (eqb i 1) (t p .b / 2) none))
   unfolding opNode
-  op-none h = simp (lt-ltb _ _ h)
+  op-at s i e f = rw (e, f)
 
-  pub op-first : 3 ≤ t (s / 3) .kind → s % 3 ≡ 0 → t (s / 3) .a / 2 ≡ opNode t s
-  unfolding opNode
-  op-first h e = simp (le-ltb _ _ h, eq-eqb _ _ e)
+  op-leaf : (s : ℕ) → s / 3 ≡ p → t p .kind < 3 → opNode t s ≡ none
+  op-leaf s e h = op-at s (s % 3) e refl ∙ simp (lt-ltb _ _ h)
 
-  pub op-second : 3 ≤ t (s / 3) .kind → (s % 3 ≡ 0 → ⊥) → s % 3 ≡ 1 → t (s / 3) .b / 2 ≡ opNode t s
-  unfolding opNode
-  op-second h n e = simp (le-ltb _ _ h, ne-eqb (s % 3) 0 n, eq-eqb _ _ e)
+  pub op-first : 3 ≤ t p .kind → opNode t (3 * p) ≡ t p .a / 2
+  op-first h = op-at (3 * p) 0 (omega arith) (omega arith) ∙ simp (le-ltb _ _ h)
 
-  pub op-third : 3 ≤ t (s / 3) .kind → (s % 3 ≡ 0 → ⊥) → (s % 3 ≡ 1 → ⊥) → none ≡ opNode t s
-  unfolding opNode
-  op-third h n e = simp (le-ltb _ _ h, ne-eqb (s % 3) 0 n, ne-eqb (s % 3) 1 e)
+  pub op-second : 3 ≤ t p .kind → opNode t (3 * p + 1) ≡ t p .b / 2
+  op-second h = op-at (3 * p + 1) 1 (omega arith) (omega arith) ∙ simp (le-ltb _ _ h)
+
+  op-third : 3 ≤ t p .kind → opNode t (3 * p + 2) ≡ none
+  op-third h = op-at (3 * p + 2) 2 (omega arith) (omega arith) ∙ simp (le-ltb _ _ h)
 
 -- it hangs on the slot's own node alone
 op-same : (t t′ : ℕ → Node) (s : ℕ) → t′ (s / 3) ≡ t (s / 3) → opNode t′ s ≡ opNode t s
 unfolding opNode
 op-same t t′ s e = simp e
+
+-- so a slot names what it named where the nodes are as they were
+op-kept : (n : ℕ) (x x′ : List ℕ) → n ≤ mostNodes → ((i : ℕ) → i < 8064 → getD x′ i 0 ≡ getD x i 0)
+    → (s : ℕ) → s < 3 * n → opNode (indexNode x′) s ≡ opNode (indexNode x) s
+op-kept n x x′ few e s h = op-same (indexNode x) (indexNode x′) s (node-same x x′ mostNodes (s / 3) e (omega arith))
 
 -- ---- links
 
@@ -113,7 +122,7 @@ module _ (n s : ℕ) (x : List ℕ) (few : n ≤ mostNodes) (h : s < 3 * n) (z :
   entered x′ z′ e l = record {
     size = z′;
     nodes = e;
-    linked = linked-same (indexNode x) (indexNode x′) n (s + 1) x′ (λ y i. op-same (indexNode x) (indexNode x′) y (node-same x x′ mostNodes (y / 3) e (omega arith))) l;
+    linked = linked-same (indexNode x) (indexNode x′) n (s + 1) x′ (λ y i. op-kept n x x′ few e y (omega arith)) l;
   }
 
   -- a slot that names no node ends at once
@@ -162,16 +171,56 @@ module _ (n s : ℕ) (x : List ℕ) (few : n ≤ mostNodes) (h : s < 3 * n) (z :
           ∙ getD-set-same x (10080 + s) (headOf x m) 0 (omega arith)
 
 -- nothing is stored yet
-pub entered-start : (n : ℕ) (x : List ℕ) → length x ≡ indexSize → Linked (indexNode x) n 0 x → Entered n 0 x x
-entered-start n x z l = record { size = z; nodes = λ i h. refl; linked = l }
+pub entered-start : (n b : ℕ) (x : List ℕ) → length x ≡ indexSize → Linked (indexNode x) n b x → Entered n b x x
+entered-start n b x z l = record { size = z; nodes = λ i h. refl; linked = l }
 
 pub entered-more : (n a b : ℕ) (x x′ x″ : List ℕ) → Entered n a x x′ → Entered n b x′ x″ → Entered n b x x″
 entered-more n a b x x′ x″ e f = record { size = f .size; nodes = λ i h. f .nodes i h ∙ e .nodes i h; linked = f .linked }
+
+-- ---- the three slots of node p
+
+module _ (n p : ℕ) (x : List ℕ) (few : n ≤ mostNodes) (h : p < n) where
+  -- slot s, the next one, names no node
+  ends : (s b : ℕ) (x′ : List ℕ) → s < 3 * n → s + 1 ≡ b → n ≤ opNode (indexNode x) s → Entered n s x x′ → Entered n b x (set x′ (10080 + s) 0)
+  ends s b x′ i q o e =
+      entered-more n s b x x′ (set x′ (10080 + s) 0) e
+      (rw q at (entered-none n s x′ few i (e .size) (e .linked) (rw (op-kept n x x′ few (e .nodes) s i) o)))
+
+  -- a node with no operands
+  pub entered-leaf : length x ≡ indexSize → Linked (indexNode x) n (3 * p) x → getD x (4 * p) 0 < 3
+      → Entered n (3 * (p + 1)) x (set (set (set x (10080 + 3 * p) 0) (10080 + (3 * p + 1)) 0) (10080 + (3 * p + 2)) 0)
+  unfolding indexNode
+  entered-leaf z L k =
+      ends (3 * p + 2) (3 * (p + 1)) _ (omega arith) (omega arith) (low (3 * p + 2) (omega arith))
+      (ends (3 * p + 1) (3 * p + 2) _ (omega arith) (omega arith) (low (3 * p + 1) (omega arith))
+      (ends (3 * p) (3 * p + 1) x (omega arith) refl (low (3 * p) (omega arith)) (entered-start n (3 * p) x z L)))
+    where
+      low : (s : ℕ) → s / 3 ≡ p → n ≤ opNode (indexNode x) s
+      low s e = omega (arith, op-leaf (indexNode x) p s e k)
+
+  -- a node with operands: what its first two slots name, and the third, which ends
+  module _ (k : 3 ≤ getD x (4 * p) 0) where
+    pub names-first : getD x (4 * p + 1) 0 / 2 ≡ opNode (indexNode x) (3 * p)
+    unfolding indexNode
+    names-first = sym (op-first (indexNode x) p k)
+
+    pub names-second : (x′ : List ℕ) → Entered n (3 * p + 1) x x′ → getD x (4 * p + 2) 0 / 2 ≡ opNode (indexNode x′) (3 * p + 1)
+    unfolding indexNode
+    names-second x′ e = sym (op-kept n x x′ few (e .nodes) (3 * p + 1) (omega arith) ∙ op-second (indexNode x) p k)
+
+    pub entered-three : (x′ x″ : List ℕ) → Entered n (3 * p + 1) x x′ → Entered n (3 * p + 1 + 1) x′ x″
+        → Entered n (3 * (p + 1)) x (set x″ (10080 + (3 * p + 2)) 0)
+    unfolding indexNode
+    entered-three x′ x″ e f =
+        let two : 3 * p + 1 + 1 ≡ 3 * p + 2 = omega arith in
+        ends (3 * p + 2) (3 * (p + 1)) x″ (omega arith) (omega arith) (omega (arith, op-third (indexNode x) p k))
+        (entered-more n (3 * p + 1) (3 * p + 2) x x′ x″ e (rw two at f))
 
 -- ---- the whole index
 
 pub built : (t : List ℕ) (n : ℕ) (x x′ : List ℕ) → n ≤ mostNodes → Loaded t n x → Entered n (3 * n) x x′ → Built t n x′
 built t n x x′ few l e = record {
   nodes = λ m h. node-same x x′ mostNodes m (e .nodes) (omega arith) ∙ l .nodes m h;
+  fill = λ m h. e .nodes (4 * m + 3) (omega arith) ∙ l .fill m h;
   links = e .linked;
 }

@@ -19,6 +19,17 @@ mostNodes = 2016
 unfoldable pub indexNode : List ℕ → ℕ → Node
 indexNode x m = record { kind = getD x (4 * m) 0; a = getD x (4 * m + 1) 0; b = getD x (4 * m + 2) 0 }
 
+-- two literals of no node, which stand for 'always true' and 'always false'
+abbrev pub always : ℕ
+always = 4032
+
+abbrev pub never : ℕ
+never = 4033
+
+-- the fourth number of each of the first n nodes is the literal that is always true
+abbrev pub Fills : List ℕ → ℕ → Type 0
+Fills x n = (m : ℕ) → m < n → getD x (4 * m + 3) 0 ≡ always
+
 -- no node
 abbrev pub none : ℕ
 none = 9999
@@ -63,9 +74,11 @@ pub record Entered (n b : ℕ) (x x′ : List ℕ) : Type 0 where
 pub record Loaded (t : List ℕ) (b : ℕ) (x : List ℕ) : Type 0 where
   pub size : length x ≡ indexSize
   pub nodes : (m : ℕ) → m < b → indexNode x m ≡ nodeAt t m
+  pub fill : Fills x b
   pub heads : (m : ℕ) → m < b → headOf x m ≡ 0
 
 -- the index of the n nodes of the table t
 pub record Built (t : List ℕ) (n : ℕ) (x : List ℕ) : Type 0 where
   pub nodes : (m : ℕ) → m < n → indexNode x m ≡ nodeAt t m
+  pub fill : Fills x n
   pub links : Links x n

@@ -6,40 +6,21 @@ ghost use lib.ListN.{length};
 ghost use Rattle.repeats.specs.Chains.{placeOf};
 ghost use Rattle.index.specs.Index.{indexSize, mostNodes, indexNode, opNode, Linked, Entered, Loaded, Built};
 
-// The layout: node m has its kind at 4 m, then a, b and 0; from HEADS on each node's link to its last slot; from NEXT on each
+// The layout: node m has its kind at 4 m, then a, b and ALWAYS; from HEADS on each node's link to its last slot; from NEXT on each
 // slot's link to the slot before it that names the same node. Slot 3 p + i is operand i of node p; a link is a slot + 1, and 0 ends.
 const HEADS: usize = 8064;
 
 const NEXT: usize = 10080;
 
-// No node.
-const NONE: u16 = 9999;
+// The fourth number of each node, a literal of no node: it stands for 'always true', and 4033, its negation, for 'always false'.
+const ALWAYS: u16 = 4032;
 
-// The node that slot s names.
-fn operand(x: &[u16], s: usize) -> u16
-    requires { ⌜ (length (now x) ≡ indexSize) × (s < 3 * mostNodes) ⌝ }
-    ensures { λ r. ⌜ r ≡ opNode (indexNode (now (x .entry))) s ⌝ }
-{
-    let at = 4 * (s / 3);
-    if x[at] < 3 {
-        return NONE;
-    }
-    if s % 3 == 0 {
-        return x[at + 1] / 2;
-    }
-    if s % 3 == 1 {
-        return x[at + 2] / 2;
-    }
-    NONE
-}
-
-// Slot s is linked: it becomes the last slot of its node, if it names one.
-fn enter(x: &mut [u16], n: usize, s: usize)
-    requires { ⌜ (length (now x) ≡ indexSize) × (n ≤ mostNodes) × (s < 3 * n) ⌝ }
+// Slot s, which names m, is linked: it becomes the last slot of node m, or ends where the table has no such node.
+fn enter(x: &mut [u16], n: usize, s: usize, m: usize)
+    requires { ⌜ (length (now x) ≡ indexSize) × (n ≤ mostNodes) × (s < 3 * n) × (m ≡ opNode (indexNode (now x)) s) ⌝ }
     requires { ⌜ Linked (indexNode (now x)) n s (now x) ⌝ }
     ensures { λ _. ⌜ Entered n (s + 1) (now (x .entry)) (now (x .exit)) ⌝ }
 {
-    let m = operand(x, s) as usize;
     if n <= m {
         x[NEXT + s] = 0;
         return;
@@ -48,16 +29,36 @@ fn enter(x: &mut [u16], n: usize, s: usize)
     x[HEADS + m] = (s + 1) as u16;
 }
 
-// All slots are linked.
+// The three slots of node p are linked. The third names no node, and neither do those of TRUE and of an ATOM.
+fn enter_node(x: &mut [u16], n: usize, p: usize)
+    requires { ⌜ (length (now x) ≡ indexSize) × (n ≤ mostNodes) × (p < n) ⌝ }
+    requires { ⌜ Linked (indexNode (now x)) n (3 * p) (now x) ⌝ }
+    ensures { λ _. ⌜ Entered n (3 * (p + 1)) (now (x .entry)) (now (x .exit)) ⌝ }
+{
+    let s = 3 * p;
+    if x[4 * p] < 3 {
+        x[NEXT + s] = 0;
+        x[NEXT + (s + 1)] = 0;
+        x[NEXT + (s + 2)] = 0;
+        return;
+    }
+    let a = x[4 * p + 1] / 2;
+    let b = x[4 * p + 2] / 2;
+    enter(x, n, s, a as usize);
+    enter(x, n, s + 1, b as usize);
+    x[NEXT + (s + 2)] = 0;
+}
+
+// All slots are linked, node by node.
 fn link(x: &mut [u16], n: usize)
     requires { ⌜ (length (now x) ≡ indexSize) × (n ≤ mostNodes) ⌝ }
     requires { ⌜ Linked (indexNode (now x)) n 0 (now x) ⌝ }
     ensures { λ _. ⌜ Entered n (3 * n) (now (x .entry)) (now (x .exit)) ⌝ }
 {
-    let mut s = 0;
-    while s < 3 * n {
-        enter(x, n, s);
-        s += 1;
+    let mut p = 0;
+    while p < n {
+        enter_node(x, n, p);
+        p += 1;
     }
 }
 
@@ -73,7 +74,7 @@ fn load_node(t: &[u8], x: &mut [u16], m: usize)
     x[4 * m] = node.kind as u16;
     x[4 * m + 1] = node.a;
     x[4 * m + 2] = node.b;
-    x[4 * m + 3] = 0;
+    x[4 * m + 3] = ALWAYS;
     x[HEADS + m] = 0;
 }
 

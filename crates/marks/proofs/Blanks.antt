@@ -1,95 +1,93 @@
--- A work area with no code but 0. Assumes nothing.
-use mathlib.Core.Path.{_≡_, refl, sym, ap, _∙_}
-use mathlib.Core.Bool.{true, false}
+-- A work area with every place of class 0. Assumes nothing.
+use mathlib.Core.Path.{_≡_, sym, _∙_}
+use mathlib.Core.Bool.{cond}
 use mathlib.Core.List.{List}
-use Prim.Native.Nat.{ℕ, _+_, _*_, _%_, _<_, _≤_}
+use Prim.Native.Nat.{ℕ, _+_, _-_, _/_, _%_, _^_, _<_, _≤_}
 use native.Mathlib.Omega.{arith}
-use native.Mathlib.Decide.{ℕ-discrete}
-use lib.ListN.{length, getD, set, length-set, replicate, length-replicate}
+use native.Mathlib.Decide.{ℕ-discrete, decLt}
+use lib.Dec.{eqb}
+use lib.ListN.{length, getD, set}
 use lib.Seq.{getD-set-same, getD-set-other}
-use borrow.Author.Tests.{eq-eqb, ne-eqb}
-use Rattle.scope.proofs.Lists.{zeros-at}
-use Rattle.scope.specs.Count.{tally}
-use Rattle.marks.specs.Marks.{area, places, countAt, totalAt, beyondAt, isIn, inBlock, Blank}
-use Rattle.scope.proofs.Tally.{tally-none, tally-all}
+use borrow.Author.Tests.{eq-eqb, ne-eqb, lt-ltb, le-ltb}
+use Rattle.marks.specs.Marks.{area, places, words, blanked, wordAt, sumAt, bit, bitAt, inClass, someIn, blankWord, Blank}
+use Rattle.marks.proofs.Bits.{bit-none, bit-past, bit-all}
+use Rattle.marks.proofs.Sets.{test-eq, test-ne, some-block, some-past}
 
--- all is 0 but the counts of class 0 in the first b blocks
-pub record Counted (w : List ℕ) (b : ℕ) : Type 0 where
-  pub size : area ≤ length w
-  pub low : b ≤ 96
-  pub full : (j : ℕ) → j < b → getD w (places + j) 0 ≡ 64
-  pub rest : (i : ℕ) → (places ≤ i → i < places + b → ⊥) → getD w i 0 ≡ 0
+-- ---- the words
 
-pub counted-none : (v w : List ℕ) → area ≤ length v → w ≡ replicate (length v) 0 → Counted w 0
-counted-none v w z e = record {
-  size = omega (arith, ap length e ∙ length-replicate (length v) 0);
-  low = omega arith;
-  full = λ j h. absurd (omega (arith, h));
-  rest = λ i h. rw e (zeros-at (length v) i);
-}
+pub blank-full : (i : ℕ) → i < 384 → i % 4 ≡ 0 → blankWord i ≡ 2 ^ 64 - 1
+unfolding blankWord
+blank-full i h e = rw (lt-ltb i 384 h, eq-eqb (i % 4) 0 e)
 
-pub counted-more : (w : List ℕ) (b : ℕ) → b < 96 → Counted w b → Counted (set w (places + b) 64) (b + 1)
-counted-more w b h c = record {
-  size = omega (arith, length-set w (places + b) 64, c .size);
-  low = omega arith;
-  full = λ j i. go j i (ℕ-discrete j b);
-  rest = λ i n. getD-set-other w (places + b) i 64 0 (λ e. n (omega (arith, e)) (omega (arith, e))) ∙ c .rest i (λ k l. n k (omega (arith, l)));
-}
+pub blank-none : (i : ℕ) → i < 384 → (i % 4 ≡ 0 → ⊥) → blankWord i ≡ 0
+unfolding blankWord
+blank-none i h n = rw (lt-ltb i 384 h, ne-eqb (i % 4) 0 n)
+
+pub blank-low : (i : ℕ) → i ≡ 384 → blankWord i ≡ 2 ^ 64 - 1
+unfolding blankWord
+blank-low i e = rw e
+
+pub blank-high : (i : ℕ) → i ≡ 388 → blankWord i ≡ 2 ^ 32 - 1
+unfolding blankWord
+blank-high i e = rw e
+
+pub blank-past : (i : ℕ) → 384 ≤ i → (i ≡ 384 → ⊥) → (i ≡ 388 → ⊥) → blankWord i ≡ 0
+unfolding blankWord
+blank-past i h n k = rw (le-ltb i 384 h, ne-eqb i 384 n, ne-eqb i 388 k)
+
+-- ---- a loop that stores f at each index
+
+pub more : (l : List ℕ) (f : ℕ → ℕ) (i : ℕ) → i < length l → ((j : ℕ) → j < i → getD l j 0 ≡ f j) → (j : ℕ) → j < i + 1 → getD (set l i (f i)) j 0 ≡ f j
+more l f i h e j k = go (ℕ-discrete j i)
   where
-    go : (j : ℕ) → j < b + 1 → Dec (j ≡ b) → getD (set w (places + b) 64) (places + j) 0 ≡ 64
-    go j i (yes e) = rw e (getD-set-same w (places + b) 64 0 (omega (arith, c .size, h)))
-    go j i (no e) = getD-set-other w (places + b) (places + j) 64 0 (λ q. e (omega (arith, q))) ∙ c .full j (omega (arith, i, e))
+    go : Dec (j ≡ i) → getD (set l i (f i)) j 0 ≡ f j
+    go (yes q) = rw q (getD-set-same l i (f i) 0 h)
+    go (no q) = getD-set-other l i j (f i) 0 q ∙ e j (omega arith)
 
--- the codes of a list are all 0: so many are of class 0, and none of another
-module _ (w : List ℕ) (clear : (i : ℕ) → i < places → getD w i 0 ≡ 0) where
-  all-zero : (d i : ℕ) → d ≡ 0 → i < places → isIn w d i ≡ true
-  unfolding isIn
-  all-zero d i e h = eq-eqb (getD w i 0 % 4) d (omega (arith, clear i h))
+-- ---- the sets
 
-  none-else : (d i : ℕ) → (d ≡ 0 → ⊥) → i < places → isIn w d i ≡ false
-  unfolding isIn
-  none-else d i n h = ne-eqb (getD w i 0 % 4) d (λ q. n (omega (arith, clear i h, q)))
+module _ (m : List ℕ) (z : length m ≡ words) (fill : (i : ℕ) → i < words → getD m i 0 ≡ blankWord i) where
+  word-full : (c b : ℕ) → b < 96 → c ≡ 0 → getD m (wordAt c b) 0 ≡ 2 ^ 64 - 1
+  word-full c b h e = fill (wordAt c b) (omega arith) ∙ blank-full (wordAt c b) (omega arith) (omega arith)
 
-  block-zero : (d b : ℕ) → b < 96 → d ≡ 0 → tally (inBlock w d b) 64 ≡ 64
-  unfolding inBlock
-  block-zero d b h e = tally-all (inBlock w d b) 64 (λ j l. all-zero d (64 * b + j) e (omega arith))
+  word-none : (c b : ℕ) → c < 4 → b < 96 → (c ≡ 0 → ⊥) → getD m (wordAt c b) 0 ≡ 0
+  word-none c b hc h n = fill (wordAt c b) (omega arith) ∙ blank-none (wordAt c b) (omega arith) (λ e. n (omega (arith, e)))
 
-  block-else : (d b : ℕ) → b < 96 → (d ≡ 0 → ⊥) → tally (inBlock w d b) 64 ≡ 0
-  unfolding inBlock
-  block-else d b h n = tally-none (inBlock w d b) 64 (λ j l. none-else d (64 * b + j) n (omega arith))
+  some-full : (c b : ℕ) → b < 96 → c ≡ 0 → someIn m c b ≡ 1
+  some-full c b h e = some-block m c b h ∙ rw (word-full c b h e)
 
-  total-zero : (d : ℕ) → d ≡ 0 → tally (isIn w d) places ≡ places
-  total-zero d e = tally-all (isIn w d) places (λ j l. all-zero d j e l)
+  some-none : (c b : ℕ) → c < 4 → (c ≡ 0 → ⊥) → Dec (b < 96) → someIn m c b ≡ 0
+  some-none c b hc n (yes h) = some-block m c b h ∙ rw (word-none c b hc h n)
+  some-none c b hc n (no h) = some-past m c b (omega arith)
 
-  total-else : (d : ℕ) → (d ≡ 0 → ⊥) → tally (isIn w d) places ≡ 0
-  total-else d n = tally-none (isIn w d) places (λ j l. none-else d j n l)
+  sum-blank : (c b : ℕ) → c < 4 → b < 128 → Dec (c ≡ 0) → Dec (b < 64) → Dec (b < 96) → bitAt m (sumAt c b) (b % 64) ≡ someIn m c b
+  sum-blank c b hc hb (yes e) (yes l) _ =
+      let q : getD m (sumAt c b) 0 ≡ 2 ^ 64 - 1 = fill (sumAt c b) (omega arith) ∙ blank-low (sumAt c b) (omega arith) in
+      rw q (bit-all 64 (b % 64) (omega arith)) ∙ sym (some-full c b (omega arith) e)
+  sum-blank c b hc hb (yes e) (no l) n =
+      let q : getD m (sumAt c b) 0 ≡ 2 ^ 32 - 1 = fill (sumAt c b) (omega arith) ∙ blank-high (sumAt c b) (omega arith) in
+      rw q (high n)
+    where
+      high : Dec (b < 96) → bit (2 ^ 32 - 1) (b % 64) ≡ someIn m c b
+      high (yes h) = bit-all 32 (b % 64) (omega arith) ∙ sym (some-full c b h e)
+      high (no h) = bit-past (2 ^ 32 - 1) 32 (b % 64) (omega arith) (omega arith) ∙ sym (some-past m c b (omega arith))
+  sum-blank c b hc hb (no e) _ n =
+      let q : getD m (sumAt c b) 0 ≡ 0 = fill (sumAt c b) (omega arith) ∙ blank-past (sumAt c b) (omega arith) (λ y. e (omega (arith, y))) (λ y. e (omega (arith, y))) in
+      rw q (bit-none (b % 64)) ∙ sym (some-none c b hc e n)
 
--- with all blocks counted, and the total
-pub blanked : (w : List ℕ) (b : ℕ) → (b < 96 → ⊥) → Counted w b → Blank (set w (totalAt 0) places)
-blanked w b h c = record {
-  marks = record {
-    size = omega (arith, length-set w (totalAt 0) places, c .size);
-    blocks = λ d k i j. block d k i j (ℕ-discrete d 0);
-    totals = λ d i. total d i (ℕ-discrete d 0);
-  };
-  codes = code;
-  beyond = λ i. away (beyondAt i) (λ e. omega (arith, e)) ∙ c .rest (beyondAt i) (λ k l. omega (arith, l, c .low));
-}
-  where
-    away : (i : ℕ) → (i ≡ totalAt 0 → ⊥) → getD (set w (totalAt 0) places) i 0 ≡ getD w i 0
-    away i e = getD-set-other w (totalAt 0) i places 0 e
+  class-blank : (c k : ℕ) → c < 4 → k < places → Dec (c ≡ 0) → inClass m c k ≡ cond (eqb 0 c) 1 0
+  unfolding inClass
+  class-blank c k hc hk (yes e) = rw (word-full c (k / 64) (omega arith) e) (bit-all 64 (k % 64) (omega arith) ∙ sym (test-eq 0 c 1 0 (sym e)))
+  class-blank c k hc hk (no e) = rw (word-none c (k / 64) hc (omega arith) e) (bit-none (k % 64) ∙ sym (test-ne 0 c 1 0 (λ q. e (sym q))))
 
-    code : (i : ℕ) → i < places → getD (set w (totalAt 0) places) i 0 ≡ 0
-    code i k = away i (λ e. omega (arith, e, k)) ∙ c .rest i (λ a l. omega (arith, a, k))
-
-    block : (d k : ℕ) → d < 4 → k < 96 → Dec (d ≡ 0) → getD (set w (totalAt 0) places) (countAt d k) 0 ≡ tally (inBlock (set w (totalAt 0) places) d k) 64
-    block d k i j (yes e) =
-        let q : countAt d k ≡ places + k = omega (arith, e) in
-        rw q (away (places + k) (λ y. omega (arith, y, j)) ∙ c .full k (omega (arith, j, h))) ∙ sym (block-zero (set w (totalAt 0) places) code d k j e)
-    block d k i j (no e) =
-        away (countAt d k) (λ y. omega (arith, y, i, j)) ∙ c .rest (countAt d k) (λ a l. omega (arith, l, c .low, e)) ∙ sym (block-else (set w (totalAt 0) places) code d k j e)
-
-    total : (d : ℕ) → d < 4 → Dec (d ≡ 0) → getD (set w (totalAt 0) places) (totalAt d) 0 ≡ tally (isIn (set w (totalAt 0) places) d) places
-    total d i (yes e) = rw e (getD-set-same w (totalAt 0) places 0 (omega (arith, c .size)) ∙ sym (total-zero (set w (totalAt 0) places) code 0 refl))
-    total d i (no e) =
-        away (totalAt d) (λ y. e (omega (arith, y))) ∙ c .rest (totalAt d) (λ a l. omega (arith, l, c .low)) ∙ sym (total-else (set w (totalAt 0) places) code d e)
+  pub blank-marks : (w w′ : List ℕ) → area ≤ length w → length w′ ≡ length w → ((i : ℕ) → i < blanked → getD w′ i 0 ≡ 0) → Blank w w′ m
+  blank-marks w w′ h s zero = record {
+    marks = record {
+      size = omega arith;
+      summed = record { size = z; sums = λ c b hc hb. sum-blank c b hc hb (ℕ-discrete c 0) (decLt b 64) (decLt b 96) };
+      low = λ k hk. omega (arith, zero k (omega arith));
+      bits = λ c k hc hk. rw (zero k (omega arith)) (class-blank c k hc hk (ℕ-discrete c 0));
+    };
+    size = s;
+    zero = zero;
+  }

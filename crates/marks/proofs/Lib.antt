@@ -1,4 +1,6 @@
--- Laws of the counts, for the proofs of the functions. Assumes nothing.
+-- Laws of the sets, for the proofs of the functions. Assumes nothing.
+pub mod Bits
+pub mod Sets
 pub mod Puts
-pub mod Steps
+pub mod Firsts
 pub mod Blanks

@@ -1,13 +1,12 @@
--- The codes of the work area, and how many of each class there are, by blocks of 64 and in all. Assumes nothing.
+-- The classes of the work area's places, and the set of each class's places as bits of words, in two levels. Assumes nothing.
 use mathlib.Core.Path.{_≡_}
-use mathlib.Core.Bool.{Bool}
+use mathlib.Core.Bool.{cond}
 use mathlib.Core.List.{List}
-use Prim.Native.Nat.{ℕ, _+_, _-_, _*_, _%_, _<_, _≤_}
-use lib.Dec.{eqb}
+use Prim.Native.Nat.{ℕ, _+_, _-_, _*_, _/_, _%_, _^_, _<_, _≤_}
+use lib.Dec.{eqb, ltb}
 use lib.ListN.{getD, length}
-use Rattle.scope.specs.Count.{tally}
 
--- ---- the layout: 6144 codes, in 96 blocks of 64; the counts; all else
+-- ---- the layout: 6144 places in 96 blocks of 64; 4 words for each block, one for each class; the sums stand in two blocks more
 
 -- what the work area has at least
 abbrev pub area : ℕ
@@ -16,65 +15,94 @@ area = 32768
 abbrev pub places : ℕ
 places = 6144
 
--- where the codes of class c in block b are counted, and those of class c in all
-abbrev pub countAt : ℕ → ℕ → ℕ
-countAt c b = 6144 + 96 * c + b
+-- how many words the sets take
+abbrev pub words : ℕ
+words = 392
 
-abbrev pub totalAt : ℕ → ℕ
-totalAt c = 6528 + c
+-- how many numbers of the work area `blank` makes 0
+abbrev pub blanked : ℕ
+blanked = 10566
 
--- what stands behind the counts
-abbrev pub beyondAt : ℕ → ℕ
-beyondAt i = 6532 + i
+-- where the word of class c for block b stands, and the sum that tells whether it is 0
+abbrev pub wordAt : ℕ → ℕ → ℕ
+wordAt c b = 4 * b + c
 
--- ---- counting
+abbrev pub sumAt : ℕ → ℕ → ℕ
+sumAt c b = 384 + 4 * (b / 64) + c
 
--- the code at k is of class c
-unfoldable pub isIn : List ℕ → ℕ → ℕ → Bool
-isIn w c k = eqb (getD w k 0 % 4) c
+-- ---- the sets
 
--- the code at j in block b is
-unfoldable pub inBlock : List ℕ → ℕ → ℕ → ℕ → Bool
-inBlock w c b j = isIn w c (64 * b + j)
+-- bit j of a word
+unfoldable pub bit : ℕ → ℕ → ℕ
+bit x j = x / 2 ^ j % 2
 
--- the counts are right
-pub record Marks (w : List ℕ) : Type 0 where
+-- bit j of word i
+abbrev pub bitAt : List ℕ → ℕ → ℕ → ℕ
+bitAt m i j = bit (getD m i 0) j
+
+-- 1 where place k is in the set of class c, else 0
+unfoldable pub inClass : List ℕ → ℕ → ℕ → ℕ
+inClass m c k = bitAt m (wordAt c (k / 64)) (k % 64)
+
+-- 1 where b is a block and its word of class c is not 0, else 0
+unfoldable pub someIn : List ℕ → ℕ → ℕ → ℕ
+someIn m c b = cond (ltb b 96) (cond (eqb (getD m (wordAt c b) 0) 0) 0 1) 0
+
+-- the sums tell which words are not 0
+pub record Summed (m : List ℕ) : Type 0 where
+  pub size : length m ≡ words
+  pub sums : (c b : ℕ) → c < 4 → b < 128 → bitAt m (sumAt c b) (b % 64) ≡ someIn m c b
+
+-- each place is of a class, and in the set of that class alone
+pub record Marks (w m : List ℕ) : Type 0 where
   pub size : area ≤ length w
-  pub blocks : (c b : ℕ) → c < 4 → b < 96 → getD w (countAt c b) 0 ≡ tally (inBlock w c b) 64
-  pub totals : (c : ℕ) → c < 4 → getD w (totalAt c) 0 ≡ tally (isIn w c) places
+  pub summed : Summed m
+  pub low : (k : ℕ) → k < places → getD w k 0 < 4
+  pub bits : (c k : ℕ) → c < 4 → k < places → inClass m c k ≡ cond (eqb (getD w k 0) c) 1 0
 
 -- ---- what each call does
 
--- one may move from the count at a place to that at another
-pub record Countable (w : List ℕ) (from to : ℕ) : Type 0 where
-  pub from-in : from < length w
-  pub to-in : to < length w
-  pub apart : from ≡ to → ⊥
-  pub some : 0 < getD w from 0
-  pub few : getD w to 0 ≤ places
+-- whether place k is in the set of class c becomes v, and no set is changed else
+pub record Changed (m : List ℕ) (c k v : ℕ) (m′ : List ℕ) : Type 0 where
+  pub summed : Summed m′
+  pub here : inClass m′ c k ≡ v
+  pub other : (d j : ℕ) → d < 4 → j < places → (d ≡ c → j ≡ k → ⊥) → inClass m′ d j ≡ inClass m d j
 
--- one fewer is counted at a place, one more at another, and nothing else is changed
-pub record Recounted (w : List ℕ) (from to : ℕ) (w′ : List ℕ) : Type 0 where
+-- r is the first place of block b in the set of class c
+pub record Within (m : List ℕ) (c b r : ℕ) : Type 0 where
+  pub block : r / 64 ≡ b
+  pub here : inClass m c r ≡ 1
+  pub before : (j : ℕ) → j / 64 ≡ b → j < r → inClass m c j ≡ 0
+
+-- place k is of class v, and no other place is changed
+pub record Putted (w : List ℕ) (k v : ℕ) (w′ m′ : List ℕ) : Type 0 where
+  pub marks : Marks w′ m′
   pub size : length w′ ≡ length w
-  pub less : getD w′ from 0 ≡ getD w from 0 - 1
-  pub more : getD w′ to 0 ≡ getD w to 0 + 1
-  pub other : (i : ℕ) → (i ≡ from → ⊥) → (i ≡ to → ⊥) → getD w′ i 0 ≡ getD w i 0
-
--- v stands at k, and nothing else is changed but counts
-pub record Putted (w : List ℕ) (k v : ℕ) (w′ : List ℕ) : Type 0 where
-  pub marks : Marks w′
   pub here : getD w′ k 0 ≡ v
-  pub other : (i : ℕ) → i < places → (i ≡ k → ⊥) → getD w′ i 0 ≡ getD w i 0
-  pub beyond : (i : ℕ) → getD w′ (beyondAt i) 0 ≡ getD w (beyondAt i) 0
+  pub other : (i : ℕ) → (i ≡ k → ⊥) → getD w′ i 0 ≡ getD w i 0
 
--- r is the first place whose code is of class c, or the end of the codes
+-- r is the first place of class c, or the end of the places
 pub record First (w : List ℕ) (c r : ℕ) : Type 0 where
-  pub before : (j : ℕ) → j < r → getD w j 0 % 4 ≡ c → ⊥
+  pub before : (j : ℕ) → j < r → getD w j 0 ≡ c → ⊥
   pub low : r ≤ places
-  pub found : r < places → getD w r 0 % 4 ≡ c
+  pub found : r < places → getD w r 0 ≡ c
 
--- every code is 0, and so is all beyond the counts
-pub record Blank (w : List ℕ) : Type 0 where
-  pub marks : Marks w
-  pub codes : (i : ℕ) → i < places → getD w i 0 ≡ 0
-  pub beyond : (i : ℕ) → getD w (beyondAt i) 0 ≡ 0
+-- r is the first place in the set of class c, or the end of the places
+pub record FirstBit (m : List ℕ) (c r : ℕ) : Type 0 where
+  pub before : (j : ℕ) → j < r → inClass m c j ≡ 0
+  pub low : r ≤ places
+  pub found : r < places → inClass m c r ≡ 1
+
+-- every place is of class 0, and the numbers up to `blanked` are 0
+pub record Blank (w w′ m′ : List ℕ) : Type 0 where
+  pub marks : Marks w′ m′
+  pub size : length w′ ≡ length w
+  pub zero : (i : ℕ) → i < blanked → getD w′ i 0 ≡ 0
+
+-- ---- the words of a blank work area
+
+-- what stands at word i where every place is of class 0
+unfoldable pub blankWord : ℕ → ℕ
+blankWord i =
+    cond (ltb i 384) (cond (eqb (i % 4) 0) (2 ^ 64 - 1) 0)
+    (cond (eqb i 384) (2 ^ 64 - 1) (cond (eqb i 388) (2 ^ 32 - 1) 0))

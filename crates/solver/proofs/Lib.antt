@@ -1,11 +1,11 @@
--- Laws of the work area, for the proofs of the functions. Assumes nothing.
-pub mod Codes
-pub mod Rows
-pub mod Places
+-- Laws of the solver's state changes. Assumes nothing.
 pub mod Areas
-pub mod Pushes
-pub mod Pops
-pub mod Moves
-pub mod Reasons
-pub mod Turns
+pub mod Opens
+pub mod Narrows
+pub mod Walks
+pub mod Restores
+pub mod Aims
+pub mod Settles
 pub mod Starts
+pub mod Assumes
+pub mod Undoes

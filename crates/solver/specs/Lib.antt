@@ -1,4 +1,2 @@
--- What the solver's work area holds, and what each of its functions leaves. Assumes nothing.
-pub mod Templates
-pub mod Work
-pub mod Reason
+-- What each of the solver's functions leaves. Assumes nothing.
+pub mod Changes

@@ -27,8 +27,11 @@ put-requires c κs =
     let s = c .before .before .before .before .before in (
       s .pre .0,
       (
-        (s .pre .1 .0, omega (arith, s .pre .1 .1), omega (arith, c .before .before .row-of .ensures .0, c .before .before .row-of .ensures .1), omega arith, omega (arith, s .pre .1 .2)),
-        λ i a b p. has-operands (indexNode (s .args .x .now) (s .args .l / 2) .kind) (s .args .l % 2) (c .before .before .row-of .result) i (c .before .before .row-of .ensures .0) (omega arith) a b p,
+        s .pre .1 .0,
+        (
+          (s .pre .1 .1 .0, omega (arith, s .pre .1 .1 .1), omega (arith, c .before .before .row-of .ensures .0, c .before .before .row-of .ensures .1), omega arith, omega (arith, s .pre .1 .1 .2)),
+          λ i a b p. has-operands (indexNode (s .args .x .now) (s .args .l / 2) .kind) (s .args .l % 2) (c .before .before .row-of .result) i (c .before .before .row-of .ensures .0) (omega arith) a b p,
+        ),
       ),
     )
 
@@ -40,8 +43,11 @@ put-requires-2 c κs =
     let s = c .before .before .before .before .before .before .before .before .before in (
       s .pre .0,
       (
-        (omega (arith, s .pre .1 .0, c .before .before .before .put .ensures .size), omega (arith, s .pre .1 .1), omega (arith, c .before .before .before .before .before .before .row-of .ensures .0, c .before .before .before .before .before .before .row-of .ensures .1), omega arith, omega (arith, s .pre .1 .2)),
-        λ i a b p. has-operands (indexNode (s .args .x .now) (s .args .l / 2) .kind) (s .args .l % 2) (c .before .before .before .before .before .before .row-of .result) i (c .before .before .before .before .before .before .row-of .ensures .0) (omega arith) a b p,
+        s .pre .1 .0,
+        (
+          (omega (arith, s .pre .1 .1 .0, c .before .before .before .put .ensures .size), omega (arith, s .pre .1 .1 .1), omega (arith, c .before .before .before .before .before .before .row-of .ensures .0, c .before .before .before .before .before .before .row-of .ensures .1), omega arith, omega (arith, s .pre .1 .1 .2)),
+          λ i a b p. has-operands (indexNode (s .args .x .now) (s .args .l / 2) .kind) (s .args .l % 2) (c .before .before .before .before .before .before .row-of .result) i (c .before .before .before .before .before .before .row-of .ensures .0) (omega arith) a b p,
+        ),
       ),
     )
 
@@ -54,15 +60,15 @@ cast-more c = search needs
 add-work : tie.Need-add-work
 add-work c =
     let s = c .before .before .before .before .before .before .before .before .before .before .before .before .before in
-    omega (arith, c .shape .ensures, s .pre .1 .2, count-most (indexNode (s .args .x .now)) (s .args .l) (c .before .before .before .before .before .before .before .before .before .before .row-of .result) (s .pre .0 .table .kinds (s .args .l / 2) (omega (arith, s .pre .1 .1)) .1) (c .before .before .before .before .before .before .before .before .before .before .row-of .ensures .0))
+    omega (arith, c .shape .ensures, s .pre .1 .1 .2, count-most (indexNode (s .args .x .now)) (s .args .l) (c .before .before .before .before .before .before .before .before .before .before .row-of .result) (s .pre .0 .table .kinds (s .args .l / 2) (omega (arith, s .pre .1 .1 .1)) .1) (c .before .before .before .before .before .before .before .before .before .before .row-of .ensures .0))
 
 cast-work : tie.Need-cast-work
 cast-work c =
     let s = c .before .before .before .before .before .before .before .before .before .before .before .before .before in
-    omega (arith, c .shape .ensures, s .pre .1 .2, count-most (indexNode (s .args .x .now)) (s .args .l) (c .before .before .before .before .before .before .before .before .before .before .row-of .result) (s .pre .0 .table .kinds (s .args .l / 2) (omega (arith, s .pre .1 .1)) .1) (c .before .before .before .before .before .before .before .before .before .before .row-of .ensures .0))
+    omega (arith, c .shape .ensures, s .pre .1 .1 .2, count-most (indexNode (s .args .x .now)) (s .args .l) (c .before .before .before .before .before .before .before .before .before .before .row-of .result) (s .pre .0 .table .kinds (s .args .l / 2) (omega (arith, s .pre .1 .1 .1)) .1) (c .before .before .before .before .before .before .before .before .before .before .row-of .ensures .0))
 
 slice-write-work : tie.Need-slice-write-work
-slice-write-work c = omega (arith, c .before .before .before .before .before .before .before .before .before .before .before .before .before .pre .1 .0, c .before .before .before .before .before .before .before .put .ensures .size, c .before .before .before .put2 .ensures .size)
+slice-write-work c = omega (arith, c .before .before .before .before .before .before .before .before .before .before .before .before .before .pre .1 .1 .0, c .before .before .before .before .before .before .before .put .ensures .size, c .before .before .before .put2 .ensures .size)
 
 same-length : tie.Need-same-length
 same-length c = simp length-set (c .before .before .before .put2 .ensures .size ∙ c .before .before .before .before .before .before .before .put .ensures .size)
@@ -70,7 +76,7 @@ same-length c = simp length-set (c .before .before .before .put2 .ensures .size 
 returns : tie.Need-returns
 returns c =
     let s = c .before .before .before .before .before .before .before .before .before .before .before .before .before in
-    appended-is (c .shape .result) (s .pre .1 .0) (s .pre .0 .table .kinds (s .args .l / 2) (omega (arith, s .pre .1 .1)) .1) (c .before .before .before .before .before .before .before .before .before .before .row-of .ensures .0) (s .pre .1 .2)
+    appended-is (c .shape .result) (s .pre .1 .1 .0) (s .pre .0 .table .kinds (s .args .l / 2) (omega (arith, s .pre .1 .1 .1)) .1) (c .before .before .before .before .before .before .before .before .before .before .row-of .ensures .0) (s .pre .1 .1 .2)
     (c .before .before .before .before .before .before .before .put .ensures) (c .before .before .before .put2 .ensures) (c .shape .ensures)
 
 pub append-spec : {M : Type 1} → statement M

@@ -25,7 +25,7 @@ shape-requires c κs = search needs
 picked-requires : tie.Need-picked-requires
 picked-requires c κs =
     let s = c .before .before .before in
-    (s .pre .0, (s .pre .1 .0 .1, λ h. s .pre .1 .1 (2 * s .args .j + 1) (omega (arith, s .pre .1 .0 .3)) (omega arith) (omega (arith, h, c .shape .ensures))))
+    (s .pre .0, (s .pre .1 .1 .0 .1, λ h. s .pre .1 .1 .1 (2 * s .args .j + 1) (omega (arith, s .pre .1 .1 .0 .3)) (omega arith) (omega (arith, h, c .shape .ensures))))
 
 mul-shape-2 : tie.Need-mul-shape-2
 mul-shape-2 c = search needs
@@ -42,7 +42,7 @@ shape-requires-2 c κs = search needs
 picked-requires-2 : tie.Need-picked-requires-2
 picked-requires-2 c κs =
     let s = c .before .before .before .before .before in
-    (s .pre .0, (s .pre .1 .0 .1, λ h. s .pre .1 .1 (2 * s .args .j + 2) (omega (arith, s .pre .1 .0 .3)) (omega arith) (omega (arith, h, c .shape2 .ensures))))
+    (s .pre .0, (s .pre .1 .1 .0 .1, λ h. s .pre .1 .1 .1 (2 * s .args .j + 2) (omega (arith, s .pre .1 .1 .0 .3)) (omega arith) (omega (arith, h, c .shape2 .ensures))))
 
 add-work : tie.Need-add-work
 add-work c = search needs
@@ -69,7 +69,7 @@ returns : tie.Need-returns
 returns c =
     let s = c .before .before .before .before .before .before in
     let node = indexNode (s .args .x .now) (s .args .node) in
-    put-is (s .args .work .now) (s .args .k) (c .before .before .picked .result) (c .picked2 .result) (s .pre .1 .0 .0) (s .pre .1 .0 .4)
+    put-is (s .args .work .now) (s .args .k) (c .before .before .picked .result) (c .picked2 .result) (s .pre .1 .1 .0 .0) (s .pre .1 .1 .0 .4)
     (c .before .before .picked .ensures ∙ ap (pick node) (c .before .before .before .shape .ensures)) (c .picked2 .ensures ∙ ap (pick node) (c .before .shape2 .ensures))
 
 pub put-spec : {M : Type 1} → statement M

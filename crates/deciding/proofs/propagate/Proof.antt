@@ -4,7 +4,7 @@ use mathlib.Core.Path.{sym, ap, _∙_}
 use Prim.Native.Nat.{_-_}
 use lib.ListN.{length}
 use Rattle.index.specs.Index.{indexNode}
-use Rattle.solver.specs.Work.{gOf}
+use Rattle.state.specs.Work.{gOf}
 use Rattle.deciding.proofs.Searches.{Run, run-starts, run-conflict, run-done, run-split, run-fresh, run-room, run-unit}
 use native.Mathlib.Omega.{arith}
 use borrow.Author.Needs.{needs}
@@ -12,68 +12,77 @@ use Rattle.deciding.proofs.propagate.Statement.{statement}
 use Rattle.deciding.proofs.propagate.Tie as tie
 
 abbrev Inv-loop : tie.InvT-loop
-Inv-loop x n goals work₀ work = Run (indexNode x) n goals work₀ work
+Inv-loop x n goals work₀ masks₀ work masks = Run (indexNode x) n goals work₀ masks₀ work masks
 
 abbrev μ-loop : tie.MeasureT-loop
-μ-loop x n goals work₀ work = n - length (gOf work)
+μ-loop x n goals work₀ masks₀ work masks = n - length (gOf work)
 
 loop-holds : tie.Need-loop-holds Inv-loop μ-loop
-loop-holds c = run-starts (c .before .before .before .pre .1 .1)
+loop-holds c = run-starts (c .before .before .before .before .pre .1 .1)
 
 next-move-requires : tie.Need-next-move-requires Inv-loop μ-loop
-next-move-requires c κs = (c .before .before .before .before .before .pre .0, (c .before .before .before .before .before .pre .1 .0, c .before .loop .inv .holds))
+next-move-requires c κs = (c .before .before .before .before .before .before .before .pre .0, (c .before .before .before .before .before .before .before .pre .1 .0, c .before .before .loop .inv .holds))
 
 enum-told : tie.Need-enum-told Inv-loop μ-loop
 enum-told c = search needs
 
 same-length : tie.Need-same-length Inv-loop μ-loop
-same-length c = c .before .before .before .before .loop .inv .size
+same-length c = c .before .before .before .before .before .loop .inv .size
+
+same-length-2 : tie.Need-same-length-2 Inv-loop μ-loop
+same-length-2 c = c .before .before .before .before .before .loop .inv .sets
 
 returns : tie.Need-returns Inv-loop μ-loop
-returns c = run-conflict (c .before .before .before .before .loop .inv) (sym (c .before .before .next-move .ensures) ∙ c .enum-told .given .1)
+returns c = run-conflict (c .before .before .before .before .before .loop .inv) (sym (c .before .before .next-move .ensures) ∙ c .enum-told .given .1)
 
 enum-known-m : tie.Need-enum-known-m Inv-loop μ-loop
 enum-known-m c = search needs
 
 assume-requires : tie.Need-assume-requires Inv-loop μ-loop
 assume-requires c κs =
-    let s = c .before .before .before .before .before .before .before .before .before .before in
-    let e = sym (c .before .before .before .before .next-move .ensures) ∙ c .before .before .m .given .1 in
-    let r = c .before .before .before .before .before .before .loop .inv in
+    let s = c .before .before .before .before .before .before .before .before .before .before .before .before .before in
+    let e = sym (c .before .before .before .before .before .next-move .ensures) ∙ c .before .before .before .m .given .1 in
+    let r = c .before .before .before .before .before .before .before .before .loop .inv in
     (s .pre .0, (s .pre .1 .0, (r .holds, run-fresh r (s .pre .0 .table) (s .pre .1 .0 .below) e)))
 
 loop-less : tie.Need-loop-less Inv-loop μ-loop
 loop-less c =
-    let s = c .before .before .before .before .before .before .before .before .before .before .before .before .before in
-    let e = sym (c .before .before .before .before .before .before .before .next-move .ensures) ∙ c .before .before .before .before .before .m .given .1 in
-    let r = c .before .before .before .before .before .before .before .before .before .loop .inv in
-    omega (arith, run-room r (s .pre .0 .table) (s .pre .1 .0 .below) e, ap length (c .before .before .assume .ensures .1))
+    let s = c .before .before .before .before .before .before .before .before .before .before .before .before .before .before .before .before .before .before in
+    let e = sym (c .before .before .before .before .before .before .before .before .before .before .next-move .ensures) ∙ c .before .before .before .before .before .before .before .before .m .given .1 in
+    let r = c .before .before .before .before .before .before .before .before .before .before .before .before .before .loop .inv in
+    omega (arith, run-room r (s .pre .0 .table) (s .pre .1 .0 .below) e, ap length (c .before .before .before .before .assume .ensures .1))
 
 loop-again : tie.Need-loop-again Inv-loop μ-loop
 loop-again c =
-    let s = c .before .before .before .before .before .before .before .before .before .before .before .before .before in
-    let e = sym (c .before .before .before .before .before .before .before .next-move .ensures) ∙ c .before .before .before .before .before .m .given .1 in
-    let r = c .before .before .before .before .before .before .before .before .before .loop .inv in
-    let a = c .before .before .assume in
-    run-unit r (s .pre .0 .table) (s .pre .1 .0 .below) e (a .ensures .0) (a .ensures .1) (a .kept .1 .1 .1 .0)
+    let s = c .before .before .before .before .before .before .before .before .before .before .before .before .before .before .before .before .before .before in
+    let e = sym (c .before .before .before .before .before .before .before .before .before .before .next-move .ensures) ∙ c .before .before .before .before .before .before .before .before .m .given .1 in
+    let r = c .before .before .before .before .before .before .before .before .before .before .before .before .before .loop .inv in
+    let a = c .before .before .before .before .assume in
+    run-unit r (s .pre .0 .table) (s .pre .1 .0 .below) e (a .ensures .0) (a .ensures .1) (a .kept .1 .1 .1 .0) (a .kept .1 .1 .1 .1 .0)
 
 enum-told-2 : tie.Need-enum-told-2 Inv-loop μ-loop
 enum-told-2 c = search needs
 
-same-length-2 : tie.Need-same-length-2 Inv-loop μ-loop
-same-length-2 c = c .before .before .before .before .loop .inv .size
+same-length-3 : tie.Need-same-length-3 Inv-loop μ-loop
+same-length-3 c = c .before .before .before .before .before .loop .inv .size
+
+same-length-4 : tie.Need-same-length-4 Inv-loop μ-loop
+same-length-4 c = c .before .before .before .before .before .loop .inv .sets
 
 returns-2 : tie.Need-returns-2 Inv-loop μ-loop
-returns-2 c = run-done (c .before .before .before .before .loop .inv) (sym (c .before .before .next-move .ensures) ∙ c .enum-told2 .given .1)
+returns-2 c = run-done (c .before .before .before .before .before .loop .inv) (sym (c .before .before .next-move .ensures) ∙ c .enum-told2 .given .1)
 
 enum-known-m-2 : tie.Need-enum-known-m-2 Inv-loop μ-loop
 enum-known-m-2 c = search needs
 
-same-length-3 : tie.Need-same-length-3 Inv-loop μ-loop
-same-length-3 c = c .before .before .before .before .before .loop .inv .size
+same-length-5 : tie.Need-same-length-5 Inv-loop μ-loop
+same-length-5 c = c .before .before .before .before .before .before .loop .inv .size
+
+same-length-6 : tie.Need-same-length-6 Inv-loop μ-loop
+same-length-6 c = c .before .before .before .before .before .before .loop .inv .sets
 
 returns-3 : tie.Need-returns-3 Inv-loop μ-loop
-returns-3 c = run-split (c .before .before .before .before .before .loop .inv) (sym (c .before .before .before .next-move .ensures) ∙ c .before .m2 .given .1)
+returns-3 c = run-split (c .before .before .before .before .before .before .loop .inv) (sym (c .before .before .before .next-move .ensures) ∙ c .before .m2 .given .1)
 
 pub propagate-spec : {M : Type 1} → statement M
 propagate-spec =
@@ -85,14 +94,17 @@ propagate-spec =
     next-move-requires
     enum-told
     same-length
+    same-length-2
     returns
     enum-known-m
     assume-requires
     loop-less
     loop-again
     enum-told-2
-    same-length-2
+    same-length-3
+    same-length-4
     returns-2
     enum-known-m-2
-    same-length-3
+    same-length-5
+    same-length-6
     returns-3)

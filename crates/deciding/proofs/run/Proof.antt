@@ -5,7 +5,7 @@ use native.Mathlib.Omega.{arith}
 use lib.ListN.{length}
 use borrow.Author.Needs.{needs}
 use Rattle.codec.specs.Valid.{Bytes}
-use Rattle.solver.specs.Work.{Indexed}
+use Rattle.clause.specs.Indexed.{Indexed}
 use Rattle.deciding.proofs.Nodes.{goals-of, few, buildable, indexed}
 use Rattle.deciding.proofs.Answers.{pointed, ends-closed, ends-model}
 use Rattle.deciding.proofs.run.Statement.{statement}
@@ -32,8 +32,8 @@ build-requires c κs =
     let s = c .before .before .before .before in
     (buildable (s .args .t .now) (s .args .nodes) (s .pre .readable) (s .pre .all) (bytes (c .before .before .before)), search needs)
 
-cast-t12 : tie.Need-cast-t12
-cast-t12 c =
+cast-t13 : tie.Need-cast-t13
+cast-t13 c =
     let s = c .before .before .before .before .before .before in
     omega (arith, few (s .args .t .now) (s .args .nodes) (s .pre .readable) (s .pre .all) (bytes (c .before .before .before .before .before)), s .pre .inside)
 
@@ -43,21 +43,27 @@ slice-aggregate-start c = search needs
 slice-aggregate-start-2 : tie.Need-slice-aggregate-start-2
 slice-aggregate-start-2 c = search needs
 
+slice-aggregate-start-3 : tie.Need-slice-aggregate-start-3
+slice-aggregate-start-3 c = search needs
+
 start-requires : tie.Need-start-requires
 start-requires c κs =
-    let s = c .before .before .before .before .before .before .before .before .before in
-    (index (c .before .before .before .before), (goals-of (s .args .nodes) (s .args .goal) (s .pre .inside), s .pre .area))
+    let s = c .before .before .before .before .before .before .before .before .before .before in
+    (index (c .before .before .before .before .before), (goals-of (s .args .nodes) (s .args .goal) (s .pre .inside), (s .pre .area, search needs)))
 
-slice-aggregate-search : tie.Need-slice-aggregate-search
-slice-aggregate-search c = search needs
+slice-aggregate-search-last : tie.Need-slice-aggregate-search-last
+slice-aggregate-search-last c = search needs
 
-slice-aggregate-search-2 : tie.Need-slice-aggregate-search-2
-slice-aggregate-search-2 c = search needs
+slice-aggregate-search-last-2 : tie.Need-slice-aggregate-search-last-2
+slice-aggregate-search-last-2 c = search needs
 
-search-requires : tie.Need-search-requires
-search-requires c κs =
-    let s = c .before .before .before .before .before .before .before .before .before .before .before .before .before .before .before in
-    (index (c .before .before .before .before .before .before .before .before .before .before), (goals-of (s .args .nodes) (s .args .goal) (s .pre .inside), c .before .before .before .before .before .start .ensures .0))
+slice-aggregate-search-last-3 : tie.Need-slice-aggregate-search-last-3
+slice-aggregate-search-last-3 c = search needs
+
+search-last-requires : tie.Need-search-last-requires
+search-last-requires c κs =
+    let s = c .before .before .before .before .before .before .before .before .before .before .before .before .before .before .before .before .before .before in
+    (index (c .before .before .before .before .before .before .before .before .before .before .before .before .before), (goals-of (s .args .nodes) (s .args .goal) (s .pre .inside), c .before .before .before .before .before .before .before .start .ensures .0))
 
 enum-told : tie.Need-enum-told
 enum-told c = search needs
@@ -70,19 +76,19 @@ slice-aggregate-set-points c = search needs
 
 set-points-requires : tie.Need-set-points-requires
 set-points-requires c κs =
-    let s = c .before .before .before .before .before .before .before .before .before .before .before .before .before .before .before .before .before .before .before .before .before .before .before in
-    let x = c .before .before .before .before .before .before .before .before .before .before .before .before .before .before .before .before .before .before in
-    pointed (s .args .t .now) (s .args .nodes) (s .args .goal) (s .args .settings .now) (s .args .work .now) (bytes (c .before .before .before .before .before .before .before .before .before .before .before .before .before .before .before .before .before .before .before .before .before .before)) (s .pre) (x .build .last .1 .1 .0) (size x) (x .build .ensures) (c .before .before .before .before .before .before .before .search .ensures .holds .ready)
+    let s = c .before .before .before .before .before .before .before .before .before .before .before .before .before .before .before .before .before .before .before .before .before .before .before .before .before .before .before in
+    let x = c .before .before .before .before .before .before .before .before .before .before .before .before .before .before .before .before .before .before .before .before .before .before in
+    pointed (s .args .t .now) (s .args .nodes) (s .args .goal) (s .args .settings .now) (s .args .work .now) (bytes (c .before .before .before .before .before .before .before .before .before .before .before .before .before .before .before .before .before .before .before .before .before .before .before .before .before .before)) (s .pre) (x .build .last .1 .1 .0) (size x) (x .build .ensures) (c .before .before .before .before .before .before .before .before .search-last .ensures .holds .ready)
 
 same-length : tie.Need-same-length
 same-length c = search needs
 
 returns : tie.Need-returns
 returns c =
-    let s = c .before .before .before .before .before .before .before .before .before .before .before .before .before .before .before .before .before .before .before .before in
-    let x = c .before .before .before .before .before .before .before .before .before .before .before .before .before .before .before in
-    ends-closed (s .args .t .now) (s .args .nodes) (s .args .goal) (s .args .settings .now) (s .args .work .now) (bytes (c .before .before .before .before .before .before .before .before .before .before .before .before .before .before .before .before .before .before .before)) (s .pre) (x .build .last .1 .1 .0) (size x) (x .build .ensures)
-    (c .before .before .before .before .before .before .before .before .before .before .start .ensures .1) (c .before .before .before .before .search .ensures) (c .enum-told .given .1)
+    let s = c .before .before .before .before .before .before .before .before .before .before .before .before .before .before .before .before .before .before .before .before .before .before .before .before in
+    let x = c .before .before .before .before .before .before .before .before .before .before .before .before .before .before .before .before .before .before .before in
+    ends-closed (s .args .t .now) (s .args .nodes) (s .args .goal) (s .args .settings .now) (s .args .work .now) (bytes (c .before .before .before .before .before .before .before .before .before .before .before .before .before .before .before .before .before .before .before .before .before .before .before)) (s .pre) (x .build .last .1 .1 .0) (size x) (x .build .ensures)
+    (c .before .before .before .before .before .before .before .before .before .before .before .before .before .start .ensures .1) (c .before .before .before .before .before .search-last .ensures) (c .enum-told .given .1)
 
 same-length-2 : tie.Need-same-length-2
 same-length-2 c = search needs
@@ -92,10 +98,10 @@ same-length-3 c = search needs
 
 returns-2 : tie.Need-returns-2
 returns-2 c =
-    let s = c .before .before .before .before .before .before .before .before .before .before .before .before .before .before .before .before .before .before .before .before .before .before .before .before .before .before in
-    let x = c .before .before .before .before .before .before .before .before .before .before .before .before .before .before .before .before .before .before .before .before .before in
-    ends-model (s .args .t .now) (s .args .nodes) (s .args .goal) (s .args .settings .now) (s .args .work .now) (bytes (c .before .before .before .before .before .before .before .before .before .before .before .before .before .before .before .before .before .before .before .before .before .before .before .before .before)) (s .pre) (x .build .last .1 .1 .0) (size x) (x .build .ensures)
-    (c .before .before .before .before .before .before .before .before .before .before .before .before .before .before .before .before .start .ensures .1) (c .before .before .before .before .before .before .before .before .before .before .search .ensures) (c .before .before .before .before .before .before .enum-told2 .given .1) (c .before .before .set-points .ensures)
+    let s = c .before .before .before .before .before .before .before .before .before .before .before .before .before .before .before .before .before .before .before .before .before .before .before .before .before .before .before .before .before .before in
+    let x = c .before .before .before .before .before .before .before .before .before .before .before .before .before .before .before .before .before .before .before .before .before .before .before .before .before in
+    ends-model (s .args .t .now) (s .args .nodes) (s .args .goal) (s .args .settings .now) (s .args .work .now) (bytes (c .before .before .before .before .before .before .before .before .before .before .before .before .before .before .before .before .before .before .before .before .before .before .before .before .before .before .before .before .before)) (s .pre) (x .build .last .1 .1 .0) (size x) (x .build .ensures)
+    (c .before .before .before .before .before .before .before .before .before .before .before .before .before .before .before .before .before .before .before .start .ensures .1) (c .before .before .before .before .before .before .before .before .before .before .before .search-last .ensures) (c .before .before .before .before .before .before .enum-told2 .given .1) (c .before .before .set-points .ensures)
 
 pub run-spec : {M : Type 1} → statement M
 run-spec =
@@ -103,13 +109,15 @@ run-spec =
     (tie.spec
     slice-aggregate-build
     build-requires
-    cast-t12
+    cast-t13
     slice-aggregate-start
     slice-aggregate-start-2
+    slice-aggregate-start-3
     start-requires
-    slice-aggregate-search
-    slice-aggregate-search-2
-    search-requires
+    slice-aggregate-search-last
+    slice-aggregate-search-last-2
+    slice-aggregate-search-last-3
+    search-last-requires
     enum-told
     enum-told-2
     slice-aggregate-set-points

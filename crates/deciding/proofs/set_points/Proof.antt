@@ -6,7 +6,7 @@ use native.Mathlib.Omega.{arith}
 use Rattle.scope.specs.Table.{listFrom}
 use Rattle.calculus.specs.Order.{settingOf}
 use Rattle.index.specs.Index.{indexNode}
-use Rattle.solver.specs.Work.{gOf}
+use Rattle.state.specs.Work.{gOf}
 use Rattle.deciding.proofs.Settings.{Filled, filled-none, filled-more, filled-all}
 use Rattle.deciding.proofs.set_points.Statement.{statement}
 use Rattle.deciding.proofs.set_points.Tie as tie

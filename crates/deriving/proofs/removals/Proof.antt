@@ -1,7 +1,7 @@
 -- `deriving::removals` meets its contract: a clause has no literal, one or two. Assumes nothing.
 use mathlib.Core.Path.{sym}
 use Rattle.rules.specs.Derivation.{removals}
-use Rattle.solver.specs.Work.{gOf}
+use Rattle.state.specs.Work.{gOf}
 use Rattle.gather.proofs.Pushes.{pushed-none, pushed-on}
 use Rattle.deriving.specs.Trace.{removal}
 use Rattle.deriving.proofs.Steps.{others, removals-none, others-one, below-some, removals-some, removals-one, removals-two}

@@ -8,14 +8,14 @@ use Rattle.gather.proofs.push.Tie as tie
 put-requires : tie.Need-put-requires
 put-requires c κs = search needs
 
-add-v : tie.Need-add-v
-add-v c = search needs
+add-w : tie.Need-add-w
+add-w c = search needs
 
 returns : tie.Need-returns
 returns c =
     let s = c .before .before .before .before in
     let a = s .args in
-    push-more (a .out .now) (a .w) (a .s) (s .pre) (c .before .put .last .0) (c .before .put .ensures) (omega (arith, c .if1 .taken))
+    push-more (a .out .now) (a .t2) (a .s) (s .pre) (c .before .put .last .0) (c .before .put .ensures) (omega (arith, c .if1 .taken))
 
 flush-requires : tie.Need-flush-requires
 flush-requires c κs =
@@ -23,8 +23,8 @@ flush-requires c κs =
     let p = place-for (s .pre) (omega arith) in
     (search needs, omega arith, p .0, p .1)
 
-add-v-2 : tie.Need-add-v-2
-add-v-2 c = search needs
+add-w-2 : tie.Need-add-w-2
+add-w-2 c = search needs
 
 same-length : tie.Need-same-length
 same-length c = search needs
@@ -35,8 +35,8 @@ returns-2 c =
     let a = s .args in
     let p = c .before .before .before .before .before .before .before .before .put in
     let f = c .before .before .flush in
-    push-full (a .out .now) (a .w) (a .s) (s .pre) (p .last .0) (f .last .0) (p .ensures) (omega (arith, c .before .before .before .before .before .before .before .if1 .left)) (f .ensures) (f .kept .0)
+    push-full (a .out .now) (a .t2) (a .s) (s .pre) (p .last .0) (f .last .0) (p .ensures) (omega (arith, c .before .before .before .before .before .before .before .if1 .left)) (f .ensures) (f .kept .0)
 
 pub push-spec : {M : Type 1} → statement M
 push-spec =
-    tie.close (tie.spec put-requires add-v returns flush-requires add-v-2 same-length returns-2)
+    tie.close (tie.spec put-requires add-w returns flush-requires add-w-2 same-length returns-2)

@@ -7,12 +7,6 @@ use borrow.Author.Needs.{needs}
 use Rattle.index.proofs.enter.Statement.{statement}
 use Rattle.index.proofs.enter.Tie as tie
 
-operand-requires : tie.Need-operand-requires
-operand-requires c κs = search needs
-
-cast-m : tie.Need-cast-m
-cast-m c = search needs
-
 add-x : tie.Need-add-x
 add-x c = search needs
 
@@ -27,8 +21,8 @@ same-length c = search needs
 
 returns : tie.Need-returns
 returns c =
-    let start = c .before .before .before .before in
-    entered-none (start .args .n) (start .args .s) (start .args .x .now) (start .pre .0 .1) (start .pre .0 .2) (start .pre .0 .0) (start .pre .1) (omega (arith, c .if1 .taken, c .before .operand .ensures))
+    let start = c .before in
+    entered-none (start .args .n) (start .args .s) (start .args .x .now) (start .pre .0 .1) (start .pre .0 .2) (start .pre .0 .0) (start .pre .1) (omega (arith, c .if1 .taken, start .pre .0 .3))
 
 add-x-2 : tie.Need-add-x-2
 add-x-2 c = search needs
@@ -61,22 +55,20 @@ mul-x-4 : tie.Need-mul-x-4
 mul-x-4 c = search needs
 
 slice-write-x-3 : tie.Need-slice-write-x-3
-slice-write-x-3 c = simp length-set (omega (arith, c .before .before .before .before .before .pre .0, c .before .if1 .left))
+slice-write-x-3 c = simp length-set (omega (arith, c .before .before .pre .0, c .before .if1 .left))
 
 same-length-2 : tie.Need-same-length-2
 same-length-2 c = search needs
 
 returns-2 : tie.Need-returns-2
 returns-2 c =
-    let start = c .before .before .before .before .before in
-    entered-node (start .args .n) (start .args .s) (start .args .x .now) (start .pre .0 .1) (start .pre .0 .2) (start .pre .0 .0) (start .pre .1) (c .before .before .operand .result) (c .before .before .operand .ensures) (omega (arith, c .before .if1 .left))
+    let start = c .before .before in
+    entered-node (start .args .n) (start .args .s) (start .args .x .now) (start .pre .0 .1) (start .pre .0 .2) (start .pre .0 .0) (start .pre .1) (start .args .m) (start .pre .0 .3) (omega (arith, c .before .if1 .left))
 
 pub enter-spec : {M : Type 1} → statement M
 enter-spec =
     tie.close
     (tie.spec
-    operand-requires
-    cast-m
     add-x
     mul-x
     slice-write-x

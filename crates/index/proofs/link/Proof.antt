@@ -1,4 +1,4 @@
--- `index::link` meets its contract. The loop's invariant: the slots passed are linked, and the nodes are as they were.
+-- `index::link` meets its contract. The loop's invariant: the slots of the nodes passed are linked, and the nodes are as they were.
 -- Assumes nothing.
 use Prim.Native.Nat.{_+_, _-_, _*_, _≤_}
 use mathlib.Core.Path.{_≡_, _∙_, sym}
@@ -10,35 +10,37 @@ use Rattle.index.proofs.link.Statement.{statement}
 use Rattle.index.proofs.link.Tie as tie
 
 abbrev Inv-loop : tie.InvT-loop
-Inv-loop x₀ n s₀ x s = (s ≤ 3 * n) × Entered n s x₀ x
+Inv-loop x₀ n p₀ x p = (p ≤ n) × Entered n (3 * p) x₀ x
 
 abbrev μ-loop : tie.MeasureT-loop
-μ-loop x₀ n s₀ x s = 3 * n - s
+μ-loop x₀ n p₀ x p = n - p
 
 loop-holds : tie.Need-loop-holds Inv-loop μ-loop
-loop-holds c = (omega arith, entered-start (c .before .args .n) (c .before .args .x .now) (c .before .pre .0 .0) (c .before .pre .1))
+loop-holds c = (omega arith, entered-start (c .before .args .n) 0 (c .before .args .x .now) (c .before .pre .0 .0) (c .before .pre .1))
 
-mul-loop : tie.Need-mul-loop Inv-loop μ-loop
-mul-loop c = search needs
+enter-node-requires : tie.Need-enter-node-requires Inv-loop μ-loop
+enter-node-requires c κs =
+    let i = c .before .before .loop .inv .1 in
+    ((i .size, c .before .before .before .before .pre .0 .1, c .before .loop-test .taken), i .linked)
 
-enter-requires : tie.Need-enter-requires Inv-loop μ-loop
-enter-requires c κs = ((c .before .before .loop .inv .1 .size, c .before .before .before .before .pre .0 .1, c .before .loop-test .taken), c .before .before .loop .inv .1 .linked)
-
-add-s : tie.Need-add-s Inv-loop μ-loop
-add-s c = search needs
+add-p : tie.Need-add-p Inv-loop μ-loop
+add-p c = search needs
 
 loop-less : tie.Need-loop-less Inv-loop μ-loop
 loop-less c = search needs
 
 loop-again : tie.Need-loop-again Inv-loop μ-loop
-loop-again c = (omega (arith, c .before .before .before .before .loop-test .taken), entered-more (c .before .before .before .before .before .before .before .args .n) (c .before .before .before .before .before .loop .s) (c .before .before .before .before .before .loop .s + 1) (c .before .before .before .before .before .before .before .args .x .now) (c .before .before .before .before .before .loop .x) _ (c .before .before .before .before .before .loop .inv .1) (c .before .before .enter .ensures))
+loop-again c =
+    let l = c .before .before .before .before .before .loop in
+    let start = c .before .before .before .before .before .before .before in
+    (omega (arith, c .before .before .before .before .loop-test .taken), entered-more (start .args .n) (3 * l .p) (3 * (l .p + 1)) (start .args .x .now) (l .x) _ (l .inv .1) (c .before .before .enter-node .ensures))
 
 same-length : tie.Need-same-length Inv-loop μ-loop
 same-length c = c .before .loop .inv .1 .size ∙ sym (c .before .before .before .pre .0 .0)
 
 returns : tie.Need-returns Inv-loop μ-loop
 returns c =
-    let e : c .before .loop .s ≡ 3 * c .before .before .before .args .n = omega (arith, c .before .loop .inv .0, c .loop-test .left) in
+    let e : c .before .loop .p ≡ c .before .before .before .args .n = omega (arith, c .before .loop .inv .0, c .loop-test .left) in
     rw e at (c .before .loop .inv .1)
 
 pub link-spec : {M : Type 1} → statement M
@@ -48,9 +50,8 @@ link-spec =
     Inv-loop
     μ-loop
     loop-holds
-    mul-loop
-    enter-requires
-    add-s
+    enter-node-requires
+    add-p
     loop-less
     loop-again
     same-length

@@ -1,8 +1,7 @@
--- `marks::put` meets its contract: the class is as it was, or one moves from the count of the old class to that of the new.
--- Assumes nothing.
-use mathlib.Core.Path.{_∙_}
-use lib.ListN.{length-set}
-use Rattle.marks.proofs.Puts.{kept, countable-block, countable-total, moved}
+-- `marks::put` meets its contract: the class is as it was, or the place leaves one set and joins another. Assumes nothing.
+use Rattle.marks.proofs.Sets.{bit-of}
+use Rattle.marks.proofs.Puts.{class-in, still-out, put-new}
+use native.Mathlib.Omega.{arith}
 use borrow.Author.Needs.{needs}
 use Rattle.marks.proofs.put.Statement.{statement}
 use Rattle.marks.proofs.put.Tie as tie
@@ -14,10 +13,10 @@ slice-read-old : tie.Need-slice-read-old
 slice-read-old c = search needs
 
 cast-old : tie.Need-cast-old
-cast-old c = search needs
+cast-old c = omega (arith, c .slice-known3 .given (c .before .before .before .args .k))
 
-cast-new : tie.Need-cast-new
-cast-new c = search needs
+returns : tie.Need-returns
+returns c = search needs
 
 mul-w : tie.Need-mul-w
 mul-w c = search needs
@@ -25,59 +24,29 @@ mul-w c = search needs
 slice-write-w : tie.Need-slice-write-w
 slice-write-w c = search needs
 
+shl-bit : tie.Need-shl-bit
+shl-bit c = search needs
+
+leave-requires : tie.Need-leave-requires
+leave-requires c κs =
+    let start = c .before .before .before .before .before in
+    (start .pre .0 .summed, ((start .pre .0 .low (start .args .k) (start .pre .1 .0), start .pre .1 .0, class-in (start .args .w .now) (start .args .m .now) (start .args .k) (start .args .v) (start .pre .0) (start .pre .1 .0)), bit-of (start .args .k)))
+
+join-requires : tie.Need-join-requires
+join-requires c κs =
+    let start = c .before .before .before .before .before .before .before .before .before in
+    (c .before .before .before .leave .ensures .summed, ((start .pre .1 .1, start .pre .1 .0, still-out (start .args .w .now) (start .args .m .now) (start .args .k) (start .args .v) (start .pre .0) (start .pre .1 .0) _ (start .pre .1 .1) (c .before .before .before .before .before .if1 .left) (c .before .before .before .leave .ensures)), bit-of (start .args .k)))
+
 same-length : tie.Need-same-length
 same-length c = search needs
 
-returns : tie.Need-returns
-returns c =
-    let start = c .before .before .before in
-    kept (start .args .w .now) (start .args .k) (start .args .v) (start .pre .0) (start .pre .1) (c .if1 .taken)
-
-mul-recount : tie.Need-mul-recount
-mul-recount c = search needs
-
-add-recount : tie.Need-add-recount
-add-recount c = search needs
-
-add-recount-2 : tie.Need-add-recount-2
-add-recount-2 c = search needs
-
-mul-recount-2 : tie.Need-mul-recount-2
-mul-recount-2 c = search needs
-
-add-recount-3 : tie.Need-add-recount-3
-add-recount-3 c = search needs
-
-add-recount-4 : tie.Need-add-recount-4
-add-recount-4 c = search needs
-
-recount-requires : tie.Need-recount-requires
-recount-requires c κs =
-    let start = c .before .before .before .before in
-    countable-block (start .args .w .now) (start .args .k) (start .args .v) (start .pre .0) (start .pre .1) (c .before .if1 .left)
-
-add-recount-5 : tie.Need-add-recount-5
-add-recount-5 c = search needs
-
-add-recount-6 : tie.Need-add-recount-6
-add-recount-6 c = search needs
-
-recount-requires-2 : tie.Need-recount-requires-2
-recount-requires-2 c κs =
-    let start = c .before .before .before .before .before .before .before .before in
-    countable-total (start .args .w .now) (start .args .k) (start .args .v) (start .pre .0) (start .pre .1) (c .before .before .before .before .before .if1 .left) _
-    (c .before .before .before .recount .ensures)
-
 same-length-2 : tie.Need-same-length-2
-same-length-2 c =
-    let start = c .before .before .before .before .before .before .before .before .before .before .before in
-    c .before .before .recount2 .ensures .size ∙ c .before .before .before .before .before .before .recount .ensures .size ∙ length-set (start .args .w .now) (start .args .k) (start .args .v)
+same-length-2 c = search needs
 
 returns-2 : tie.Need-returns-2
 returns-2 c =
-    let start = c .before .before .before .before .before .before .before .before .before .before .before in
-    moved (start .args .w .now) (start .args .k) (start .args .v) (start .pre .0) (start .pre .1) (c .before .before .before .before .before .before .before .before .if1 .left) _
-    (c .before .before .before .before .before .before .recount .ensures) _ (c .before .before .recount2 .ensures)
+    let start = c .before .before .before .before .before .before .before .before .before .before .before .before in
+    put-new (start .args .w .now) (start .args .m .now) (start .args .k) (start .args .v) (start .pre .0) (start .pre .1 .0) _ (start .pre .1 .1) (c .before .before .before .before .before .before .before .before .if1 .left) (c .before .before .before .before .before .before .leave .ensures) _ (c .before .before .join .ensures)
 
 pub put-spec : {M : Type 1} → statement M
 put-spec =
@@ -86,20 +55,12 @@ put-spec =
     mul-old
     slice-read-old
     cast-old
-    cast-new
+    returns
     mul-w
     slice-write-w
+    shl-bit
+    leave-requires
+    join-requires
     same-length
-    returns
-    mul-recount
-    add-recount
-    add-recount-2
-    mul-recount-2
-    add-recount-3
-    add-recount-4
-    recount-requires
-    add-recount-5
-    add-recount-6
-    recount-requires-2
     same-length-2
     returns-2)

@@ -1,0 +1,18 @@
+-- `state::count` meets its contract: the trail has as many literals as its first number says. Assumes nothing.
+use mathlib.Core.Path.{sym}
+use borrow.Author.Needs.{needs}
+use Rattle.state.specs.Work.{tail}
+use Rattle.trail.proofs.Trails.{trail-length}
+use Rattle.state.proofs.count.Statement.{statement}
+use Rattle.state.proofs.count.Tie as tie
+
+shared-slice-read-result : tie.Need-shared-slice-read-result
+shared-slice-read-result c = search needs
+
+returns : tie.Need-returns
+returns c =
+    let w = c .before .args .work .now in
+    sym (trail-length (tail w 0) (tail w))
+
+pub count-spec : {M : Type 1} → statement M
+count-spec = tie.close (tie.spec shared-slice-read-result returns)
