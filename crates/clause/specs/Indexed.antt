@@ -7,7 +7,7 @@ use Rattle.scope.specs.declared.Node.{Node}
 use Rattle.calculus.specs.Model.{Table}
 use Rattle.index.specs.Index.{indexSize, mostNodes, indexNode, opNode, Links, Fills}
 
--- 'a and b are literals of two .. nodes'
+-- 'a and b are literals of two different .. nodes'
 abbrev pub Apart : ℕ → (ℕ → Node) → Type 0
 Apart n t = (i : ℕ) → i < n → 2 < t i .kind → t i .a / 2 ≡ t i .b / 2 → ⊥
 

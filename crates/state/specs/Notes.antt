@@ -1,4 +1,4 @@
--- The notes: as a literal joins, the class before of each clause that changes, 4 × place + class; so that undo puts them back.
+-- The notes: as a literal joins, the class before of each clause that may change, 4 × place + class; so that undo puts them back.
 -- Assumes nothing.
 use mathlib.Core.Path.{_≡_}
 use mathlib.Core.Logic.{_⊎_}
@@ -21,7 +21,7 @@ Note t r q v = (p : ℕ) × (j : ℕ) × (p < q) × (j < 2) × (v ≡ 4 * placeA
 abbrev pub Names : (ℕ → ℕ) → ℕ → ℕ → ℕ → Type 0
 Names r from to k = (i : ℕ) × (from ≤ i) × (i < to) × (noteAt r i / 4 ≡ k)
 
--- the notes from one up to another are all of the classes that change when the literal at q joins
+-- each note from one up to another is of a class before the literal at q joined, and each class that changes then is noted
 pub record Noted (t : ℕ → Node) (r : ℕ → ℕ) (q from to : ℕ) : Type 0 where
   pub order : from ≤ to
   pub each : (i : ℕ) → from ≤ i → i < to → Note t r q (noteAt r i)
