@@ -7,7 +7,7 @@ use Rattle.scope.specs.declared.Node.{Node}
 use Rattle.scope.specs.Outcome.{Outcome, answer, refused, _>>=_}
 use Rattle.scope.specs.Table.{nodeAt, listFrom, encode}
 use Rattle.scope.specs.Calls.{Added as Written, decodeUsed, addNode, bytesAfter}
-use Rattle.record.specs.declared.Read.{Read}
+use Rattle.record.specs.declared.NodeRead.{NodeRead}
 use Rattle.record.specs.Read.{readOf}
 use Rattle.table.specs.declared.Counted.{Counted}
 use Rattle.table.specs.Counted.{countedOf}
@@ -32,7 +32,7 @@ nowhere = record { literal = 0; used = 0 }
 abbrev pub countPassed : Counted → Outcome Mark
 countPassed c = countedOf c >>= λ n. answer nowhere
 
-abbrev pub readPassed : Read → Outcome Mark
+abbrev pub readPassed : NodeRead → Outcome Mark
 readPassed r = readOf r >>= λ x. answer nowhere
 
 -- the node count of a used part

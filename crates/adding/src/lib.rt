@@ -9,7 +9,7 @@ ghost use Rattle.scope.specs.Calls.{add, bytesAfter};
 ghost use Rattle.writer.specs.Grown.{grown};
 ghost use Rattle.table.specs.Counted.{countedOf};
 ghost use Rattle.adding.specs.Added.{addedOf, marked, countPassed, readPassed, usedCount, Ready, AddsTo};
-use record::Read;
+use record::NodeRead;
 use scope::Node;
 use scope::Refusal;
 use table::Counted;
@@ -106,15 +106,15 @@ fn pass_count(c: Counted) -> Added
 }
 
 // A record's refusal passed on.
-fn pass_read(r: Read) -> Added
+fn pass_read(r: NodeRead) -> Added
     ensures { λ v. ⌜ addedOf v ≡ readPassed r ⌝ }
 {
     match r {
-        Read::Found(_) => Added::At(Mark {
+        NodeRead::Found(_) => Added::At(Mark {
             literal: 0,
             used: 0,
         }),
-        Read::Refused(f) => Added::Refused(f),
+        NodeRead::Refused(f) => Added::Refused(f),
     }
 }
 
@@ -135,7 +135,7 @@ pub fn add(buf: &mut [u8], used: usize, r: [u8; 8]) -> Added
     };
     let y = lookup::exchange(r);
     let v = record::read_record(&y, nodes);
-    let Read::Found(x) = v else {
+    let NodeRead::Found(x) = v else {
         return pass_read(v);
     };
     add_node(buf, used, nodes, y, x)

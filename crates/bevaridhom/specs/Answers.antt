@@ -22,8 +22,8 @@ use Rattle.bevaridhom.specs.declared.BevDerived.{BevDerived}
 use Rattle.bevaridhom.specs.declared.BevChecked.{BevChecked}
 use Rattle.bevaridhom.specs.declared.BevOpened.{BevOpened}
 use Rattle.bevaridhom.specs.declared.BevStep.{BevStep}
-use Rattle.reader.specs.declared.Handed.{Handed}
-use Rattle.reader.specs.declared.Handed.the-variants.{Step, Done}
+use Rattle.step_reader.specs.declared.Handed.{Handed}
+use Rattle.step_reader.specs.declared.Handed.the-variants.{Step, Done}
 
 abbrev pub countAnswer : Outcome ℕ → BevCount
 countAnswer (answer n) = record { number = 0; place = 0; nodes = n }

@@ -2,14 +2,14 @@
 ghost use mathlib.Core.Path.{_≡_};
 ghost use Rattle.scope.specs.Calls.{tableCount, tableRecord, evaluate, add, bytesAfter};
 ghost use Rattle.steps.specs.Opened.{stepCount};
-ghost use Rattle.reader.specs.Handed.{nextOf};
+ghost use Rattle.step_reader.specs.Handed.{nextOf};
 ghost use Rattle.bevaridhom.specs.Answers.{countAnswer, recordAnswer, truthAnswer, addAnswer, openAnswer, stepAnswer, HostDecides, HostDerives, HostChecks, HostReads};
 use adding::Added;
 use checking::Checked;
 use deciding::Decided;
 use deriving::Derived;
-use reader::Handed;
-use record::Read;
+use record::NodeRead;
+use step_reader::Handed;
 use steps::Opened;
 use table::Counted;
 use truth::Evaluated;
@@ -73,14 +73,14 @@ pub extern "C" fn bev_record(t: &[u8], literal: usize) -> BevRecord
 {
     let c = table::record_of(t, literal);
     match c {
-        Read::Found(x) => BevRecord {
+        NodeRead::Found(x) => BevRecord {
             number: 0,
             place: 0,
             kind: x.kind,
             a: x.a,
             b: x.b,
         },
-        Read::Refused(f) => BevRecord {
+        NodeRead::Refused(f) => BevRecord {
             number: f.number,
             place: f.place,
             kind: 0,
@@ -256,7 +256,7 @@ pub struct BevStep {
 pub extern "C" fn bev_step(d: &[u8], index: usize) -> BevStep
     ensures { λ r. ⌜ r ≡ stepAnswer (nextOf (now (d .entry)) index) ⌝ }
 {
-    let c = reader::step_of(d, index);
+    let c = step_reader::step_of(d, index);
     match c {
         Handed::Step(s) => BevStep {
             left: 1,

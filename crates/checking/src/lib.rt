@@ -44,7 +44,7 @@ fn run(t: &[u8], nodes: usize, goal: usize, work: &mut [u16], d: &[u8], count: u
     let mut x = [0u16; 16128];
     index::build(t, nodes, &mut x);
     let goals = [goal as u16; 1];
-    let v = checker::check_run(&x, nodes, &goals, work, d, count);
+    let v = replay::check_run(&x, nodes, &goals, work, d, count);
     match v {
         Verdict::Fine => Checked::Accepted,
         Verdict::Refused(failed) => Checked::Refused(failed),

@@ -1,14 +1,14 @@
--- The number and the values of every case of a `Read`. Assumes nothing.
+-- The number and the values of every case of a `NodeRead`. Assumes nothing.
 use Rattle.scope.specs.declared.Node.{Node}
 use Rattle.scope.specs.Outcome.{Outcome, answer, refused, fine}
-use Rattle.record.specs.declared.Read.{Read}
-use Rattle.record.specs.declared.Read.the-variants.{Found, Refused}
+use Rattle.record.specs.declared.NodeRead.{NodeRead}
+use Rattle.record.specs.declared.NodeRead.the-variants.{Found, Refused}
 
-abbrev pub readOf : Read → Outcome Node
+abbrev pub readOf : NodeRead → Outcome Node
 readOf (Found x) = answer x
 readOf (Refused r) = refused (r .number) (r .place)
 
 -- the same as a test's outcome: the node is left out
-abbrev pub readVerdict : Read → Outcome (Unit {0})
+abbrev pub readVerdict : NodeRead → Outcome (Unit {0})
 readVerdict (Found x) = fine
 readVerdict (Refused r) = refused (r .number) (r .place)

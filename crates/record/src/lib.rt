@@ -11,7 +11,7 @@ use scope::Refusal;
 use scope::Verdict;
 
 // What reading a record answers: the node or its refusal.
-pub enum Read {
+pub enum NodeRead {
     Found(Node),
     Refused(Refusal),
 }
@@ -80,39 +80,39 @@ pub fn fields(r: &[u8]) -> Node
 }
 
 // The record of node n: its node or its refusal.
-pub fn read_record(r: &[u8], n: usize) -> Read
+pub fn read_record(r: &[u8], n: usize) -> NodeRead
     requires { ⌜ length (now r) ≡ 8 ⌝ }
     ensures { λ v. ⌜ readOf v ≡ readRecord (now (r .entry)) n ⌝ }
 {
     let x = fields(r);
     let six = checksum::word(r, 6);
     if !form_ok(x, r[1], six) {
-        return Read::Refused(Refusal {
+        return NodeRead::Refused(Refusal {
             number: 14,
             place: n,
         });
     }
     if !range_ok(x, n) {
-        return Read::Refused(Refusal {
+        return NodeRead::Refused(Refusal {
             number: 15,
             place: n,
         });
     }
     if !order_ok(x) {
-        return Read::Refused(Refusal {
+        return NodeRead::Refused(Refusal {
             number: 16,
             place: n,
         });
     }
-    Read::Found(x)
+    NodeRead::Found(x)
 }
 
 // A refusal passed on.
-pub fn pass(r: Read) -> Verdict
+pub fn pass(r: NodeRead) -> Verdict
     ensures { λ v. ⌜ verdictOf v ≡ readVerdict r ⌝ }
 {
     match r {
-        Read::Found(_) => Verdict::Fine,
-        Read::Refused(f) => Verdict::Refused(f),
+        NodeRead::Found(_) => Verdict::Fine,
+        NodeRead::Refused(f) => Verdict::Refused(f),
     }
 }

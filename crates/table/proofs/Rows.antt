@@ -21,8 +21,8 @@ use Rattle.scope.proofs.Tests.{refused-no, then-first, bound, passed-on}
 use Rattle.scope.proofs.Lists.{length-listFrom, getD-listFrom}
 use Rattle.scope.proofs.Records.{count-at}
 use Rattle.block.specs.Format.{Fitting}
-use Rattle.record.specs.declared.Read.{Read}
-use Rattle.record.specs.declared.Read.the-variants.{Refused as Unread}
+use Rattle.record.specs.declared.NodeRead.{NodeRead}
+use Rattle.record.specs.declared.NodeRead.the-variants.{Refused as Unread}
 use Rattle.record.specs.Read.{readOf, readVerdict}
 use Rattle.codec.specs.Valid.{Bytes}
 use Rattle.codec.proofs.Blocks.{passed}
@@ -50,7 +50,7 @@ module _ (t : List ℕ) (n : ℕ) where
   row-fine e q = rw (e, q)
 
 -- a record that is refused is its row's refusal, passed on
-pub passes-on : (t head next : List ℕ) (n m : ℕ) (v : Verdict) (r : Read) (f : Refusal)
+pub passes-on : (t head next : List ℕ) (n m : ℕ) (v : Verdict) (r : NodeRead) (f : Refusal)
     → verdictOf v ≡ readVerdict r → r ≡ Unread f → readOf r ≡ readRecord (recordAt tables t n) n → Tested t head next v (recordTest t n) m
 passes-on t head next n m v r f p q e =
     refuses t head next v (recordTest t n) m (p ∙ ap readVerdict q) (row-refused t n (sym e ∙ ap readOf q))

@@ -10,7 +10,7 @@ ghost use Rattle.scope.specs.Calls.{tableCount, tableRecord};
 ghost use Rattle.record.specs.Read.{readOf};
 ghost use Rattle.repeats.specs.Chains.{placeOf, Chains};
 ghost use Rattle.table.specs.Counted.{countedOf, Tested};
-use record::Read;
+use record::NodeRead;
 use scope::Format;
 use scope::Refusal;
 use scope::Verdict;
@@ -54,7 +54,7 @@ fn record_verdict(t: &[u8], head: &mut [u16], next: &mut [u16], n: usize) -> Ver
     let at = repeats::place(n);
     let end = at + 8;
     let r = record::read_record(&t[at..end], n);
-    let Read::Found(_) = r else {
+    let NodeRead::Found(_) = r else {
         return record::pass(r);
     };
     if repeats::enter(t, head, next, n) {
@@ -137,15 +137,15 @@ pub fn count(t: &[u8]) -> Counted
 }
 
 // The record of a literal's node.
-pub fn record_of(t: &[u8], literal: usize) -> Read
+pub fn record_of(t: &[u8], literal: usize) -> NodeRead
     ensures { λ r. ⌜ readOf r ≡ tableRecord (now (t .entry)) literal ⌝ }
 {
     let c = count(t);
     match c {
-        Counted::Refused(r) => Read::Refused(r),
+        Counted::Refused(r) => NodeRead::Refused(r),
         Counted::Nodes(nodes) => {
             if 2 * nodes <= literal {
-                return Read::Refused(Refusal {
+                return NodeRead::Refused(Refusal {
                     number: 20,
                     place: 0,
                 });

@@ -1,6 +1,6 @@
 // Tests of the table calls on hand-made and damaged tables: each answer is a line, and the lines are compared.
 use adding::Added;
-use record::Read;
+use record::NodeRead;
 use scope::Refusal;
 use table::Counted;
 use truth::Evaluated;
@@ -35,7 +35,7 @@ fn show_count(t: &[u8]) {
 fn show_record(t: &[u8], literal: usize) {
     let c = table::record_of(t, literal);
     match c {
-        Read::Found(x) => {
+        NodeRead::Found(x) => {
             number(x.kind as usize);
             say(b" ");
             number(x.a as usize);
@@ -43,7 +43,7 @@ fn show_record(t: &[u8], literal: usize) {
             number(x.b as usize);
             say(b"\n");
         }
-        Read::Refused(f) => refused(f),
+        NodeRead::Refused(f) => refused(f),
     }
 }
 

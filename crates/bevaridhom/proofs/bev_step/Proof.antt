@@ -1,4 +1,4 @@
--- `bevaridhom::bev_step` meets its contract: what `reader::step_of` hands out, case by case. Assumes nothing.
+-- `bevaridhom::bev_step` meets its contract: what `step_reader::step_of` hands out, case by case. Assumes nothing.
 use mathlib.Core.Path.{_∙_, ap, sym}
 use Rattle.bevaridhom.specs.Answers.{stepAnswer}
 use borrow.Author.Needs.{needs}

@@ -1,2 +1,0 @@
--- What the deciding program's functions leave. Assumes nothing.
-pub mod Points

@@ -1,2 +1,0 @@
--- What the deriving program prints and writes. Assumes nothing.
-pub mod Told

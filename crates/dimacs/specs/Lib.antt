@@ -1,2 +1,0 @@
--- What the program for DIMACS files prints. Assumes nothing.
-pub mod Output
