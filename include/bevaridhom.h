@@ -1,8 +1,17 @@
 /* Bevaridhom: condition tables over up to 1,024 yes/no points. Link with libbevaridhom.a.
  *
- * Every call takes any bytes and any lengths. An answer's number is 0 when the call answered; otherwise it is the number of the
- * refusal, place says where, every other value is 0, and no lent byte has changed. NULL is fine where the length is 0.
- * docs/FORMAT.md has the formats, README.md how to link. */
+ * Answers. A call takes any bytes and any lengths and answers a struct by value. Its number is 0 when the call answered; otherwise it
+ * is the number of the first refusal that applies, place says where (docs/REFUSALS.md), and every other value is 0.
+ *
+ * Bytes lent. A refusal leaves every lent byte as it was, with two exceptions. The work area is free from row 23 on: bev_derive may
+ * have changed it where it answers 30 or 31, and bev_check where it answers 45, 46 or 47; a call that answers may always have. And
+ * after 51 or 52 the buffer of bev_dimacs is free.
+ *
+ * Areas. An area that a call may write (buffer, settings, work, derivation of bev_derive) must not overlap another area of the same
+ * call. NULL is fine where the length is 0. A work area is aligned as uint16_t.
+ *
+ * Threads. Calls keep no state and share none: they may run at the same time where no area that one of them may write is lent to
+ * another. A call allocates nothing and takes at most BEV_STACK bytes of stack. */
 #ifndef BEVARIDHOM_H
 #define BEVARIDHOM_H
 
@@ -13,14 +22,24 @@
 extern "C" {
 #endif
 
-/* Points of a setting, and bytes of a record. */
-#define BEV_POINTS 1024
-#define BEV_RECORD 8
-#define BEV_BLOCK 512
-#define BEV_TABLE_MAX 16384
-#define BEV_WORK 32768 /* numbers of a full work area */
-#define BEV_STEP 4
-#define BEV_DERIVATION_MAX 33554432
+/* The version of these calls: 1.0 the base, 1.1 with bev_dimacs. */
+#define BEV_VERSION_MAJOR 1
+#define BEV_VERSION_MINOR 1
+
+#define BEV_POINTS 1024             /* points of a setting, a byte each: 0 no, 1 yes */
+#define BEV_RECORD 8                /* bytes of a record */
+#define BEV_STEP 4                  /* bytes of a step */
+#define BEV_BLOCK 512               /* bytes of a block */
+#define BEV_TABLE_MAX 16384         /* bytes of the longest table: 2,016 nodes */
+#define BEV_DERIVATION_MAX 33554432 /* bytes of the longest derivation: 8,257,536 steps */
+#define BEV_WORK 32768              /* numbers of a work area */
+#define BEV_STACK 1048576           /* bytes of stack that every call fits in */
+
+/* Kinds of a node. */
+enum { BEV_TRUE = 1, BEV_ATOM = 2, BEV_AND = 3, BEV_OR = 4, BEV_IMP = 5, BEV_IFF = 6 };
+
+/* Rules of a step: unit, removal of a false literal, erasure of a met clause, conflict, split. */
+enum { BEV_RULE_U = 85, BEV_RULE_R = 82, BEV_RULE_E = 69, BEV_RULE_C = 67, BEV_RULE_S = 83 };
 
 typedef struct { uint16_t number; size_t place; size_t nodes; } bev_counted;
 typedef struct { uint16_t number; size_t place; uint8_t kind; uint16_t a; uint16_t b; } bev_node;
@@ -38,25 +57,27 @@ bev_counted bev_count(const uint8_t *table, size_t table_len);
 /* The record of a literal's node. Refusals: 10 to 17, 20. */
 bev_node bev_record(const uint8_t *table, size_t table_len, size_t literal);
 
-/* The truth (1 yes, 0 no) of a literal under the first 1,024 settings bytes. Refusals: 10 to 17, 20, 21, 22. */
+/* The truth (1 yes, 0 no) of a literal under the first 1,024 settings bytes; later bytes are not read. Refusals: 10 to 17, 20, 21, 22
+ * at the point. */
 bev_truth bev_evaluate(const uint8_t *table, size_t table_len, size_t literal, const uint8_t *settings, size_t settings_len);
 
-/* Adds a record of exactly 8 bytes to the table in the first `used` bytes of a buffer; used 0 is an empty table. Answers the
- * record's literal and the used length. Refusals: 9, 10 to 17, then 14 to 16, 51, 52 at the node count. */
+/* Adds a record to the table in the first `used` bytes of a buffer; used 0 is an empty table. Answers the record's literal and the used
+ * length; a record that is there already is found, and no byte changes. Refusals: 9, 10 to 17, then 14 to 16, 51, 52 at the node count. */
 bev_added bev_add(uint8_t *buffer, size_t buffer_len, size_t used, const uint8_t record[BEV_RECORD]);
 
 /* Whether some setting makes the goal true (1 possible, 0 impossible); if so the first 1,024 settings bytes become such a one, the one
- * that the solver's order ends on. Lent a work area of at least 32,768 numbers, whose contents are free afterwards (unchanged on a
- * refusal). Refusals: 10 to 17, 20, 21, 23. */
+ * that the solver's order ends on. Needs a work area of BEV_WORK numbers; every refusal leaves it as it was. Refusals: 10 to 17, 20,
+ * 21, 23. */
 bev_decided bev_decide(const uint8_t *table, size_t table_len, size_t goal, uint8_t *settings, size_t settings_len, uint16_t *work, size_t work_len);
 
 /* Writes the derivation, in the solver's order, of a goal that is impossible, and answers its step count: the derivation is the blocks
- * that hold these steps, 126 in a full one; the bytes past its last block stay. The work area as for bev_decide. Refusals: 10 to 17,
- * 20, 23, 30 the goal is possible, 31 more bytes are needed than lent or than 65,536 blocks. */
+ * that hold these steps, 126 in a full one; the bytes past its last block stay. The work area as for bev_decide, free also after 30
+ * and 31. Refusals: 10 to 17, 20, 23, 30 the goal is possible, 31 more bytes are needed than lent or than 65,536 blocks. */
 bev_derived bev_derive(const uint8_t *table, size_t table_len, size_t goal, uint16_t *work, size_t work_len, uint8_t *derivation, size_t derivation_len);
 
-/* Whether a derivation, by whatever author, shows that the goal is impossible: number 0 accepted. The work area as for bev_decide.
- * Refusals: 10 to 17, 20, 23, 40 to 44 for its form, 45 to 47 at the step where it fails. */
+/* Whether a derivation, by whatever author, shows that the goal is impossible: number 0 accepted. The work area as for bev_decide, free
+ * also after 45 to 47. Refusals: 10 to 17, 20, 23, 40 to 44 for its form, 45 and 46 at the step where it fails, 47 at the step count
+ * where its steps end with a branch open. */
 bev_checked bev_check(const uint8_t *table, size_t table_len, size_t goal, uint16_t *work, size_t work_len, const uint8_t *derivation, size_t derivation_len);
 
 /* Opens a derivation: its step count. Refusals: 40 to 44. */
@@ -67,7 +88,7 @@ bev_stepped bev_step(const uint8_t *derivation, size_t derivation_len, size_t in
 
 /* Reads a DIMACS text (conjunctive normal form) and builds its table in an empty buffer: answers the goal literal and the used length.
  * Variable v is point v - 1; the goal is true exactly where every clause is. Refusals: 60 heading, 61 body (no byte has changed), 51
- * and 52 as in bev_add, at the node count (the buffer's contents are then free). */
+ * and 52 as in bev_add, at the node count (the buffer is then free). */
 bev_added bev_dimacs(const uint8_t *text, size_t text_len, uint8_t *buffer, size_t buffer_len);
 
 #ifdef __cplusplus
