@@ -112,7 +112,7 @@ static int take_option(const struct command *c, char **argument, struct words *w
 }
 
 /* Parts a command's arguments into options and words, which move to the front; NULL, or what is wrong with the argument at `at`. */
-static const char *part_arguments(const struct command *c, char **argument, struct words *w, char **at)
+static const char *part_arguments(const struct command *c, char **argument, struct words *w, const char **at)
 {
     int standard = 0;
     bool options = true;
@@ -128,18 +128,19 @@ static const char *part_arguments(const struct command *c, char **argument, stru
             argument += n;
         } else {
             standard += strcmp(*argument, "-") == 0;
+            if (standard > 1)
+                return "standard input can be read only once";
             w->word[w->count++] = *argument++;
         }
     }
-    if (w->out && strcmp(w->out, "-") == 0)
-        return "the output must be a file";
-    return standard > 1 ? "standard input can be read only once" : NULL;
+    *at = w->out;
+    return w->out && strcmp(w->out, "-") == 0 ? "the output must be a file" : NULL;
 }
 
 static int run_command(const struct command *c, char **arguments)
 {
     struct words w = { .command = c->name };
-    char *at = arguments[-1];
+    const char *at = c->name;
     for (char **a = arguments; *a; a++)
         if (strcmp(*a, "--help") == 0)
             return print_help(c);

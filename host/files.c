@@ -170,9 +170,9 @@ bool prepare(const char *path, const struct bytes *const inputs[], const uint8_t
         complain(path, "is also the input; the output must be another file");
         return false;
     }
-    errno = there && S_ISDIR(st.st_mode) ? EISDIR : there ? 0 : errno;
-    bool possible = there ? errno == 0 : errno == ENOENT;
-    if (possible && open_output(o, there ? &st : NULL) && write_all(o->fd, at, len) && (!o->beside || fsync(o->fd) == 0))
+    if (there && S_ISDIR(st.st_mode))
+        errno = EISDIR;
+    else if ((there || (errno == ENOENT && *path)) && open_output(o, there ? &st : NULL) && write_all(o->fd, at, len) && (!o->beside || fsync(o->fd) == 0))
         return true;
     complain_errno(path);
     drop(o);
