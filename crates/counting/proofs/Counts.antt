@@ -25,10 +25,10 @@ use Rattle.clause.specs.Stored.{literals}
 use Rattle.state.specs.Work.{gOf}
 use Rattle.state.specs.Holds.{Holds}
 use Rattle.moves.specs.Reason.{Reasoned}
-use Rattle.deciding.specs.Search.{Turned, Ended, Searched}
-use Rattle.deciding.specs.declared.Stop.the-variants.{Closed as Shut, Model as Ends, Fork}
-use Rattle.deciding.specs.declared.Found.the-variants.{Model, Closed as AllClosed}
-use Rattle.deciding.proofs.Searches.{tree-conflict, tree-unit, tree-split, fuel, Run, run-starts, run-conflict, run-done, run-split, run-room, run-unit, shut-open, shut-fork, open-fork, model-closed, stopped-shut, stopped-closed, stopped-model, left-model, left-turned, right-list, right-ended, end-more, right-closed}
+use Rattle.searching.specs.Search.{Turned, Ended, Searched}
+use Rattle.searching.specs.declared.Stop.the-variants.{Closed as Shut, Model as Ends, Fork}
+use Rattle.searching.specs.declared.Found.the-variants.{Model, Closed as AllClosed}
+use Rattle.searching.proofs.Searches.{tree-conflict, tree-unit, tree-split, fuel, Run, run-starts, run-conflict, run-done, run-split, run-room, run-unit, shut-open, shut-fork, open-fork, model-closed, stopped-shut, stopped-closed, stopped-model, left-model, left-turned, right-list, right-ended, end-more, right-closed}
 use Rattle.counting.specs.Count.{atMost, stepCount, Sized, Advanced, foundBy, Tallied, Counted}
 use Rattle.counting.specs.declared.Told.{Told}
 use Rattle.counting.specs.declared.Tally.{Tally}

@@ -13,10 +13,10 @@ use Rattle.calculus.specs.declared.Move.the-variants.{Conflict, Unit as Single}
 use Rattle.rules.specs.declared.Step.{Step}
 use Rattle.rules.specs.Derivation.{stepsOf}
 use Rattle.state.specs.Work.{gOf}
-use Rattle.deciding.specs.Search.{Settled, Ended}
-use Rattle.deciding.specs.declared.Stop.the-variants.{Closed as Shut, Fork}
-use Rattle.deciding.specs.declared.Found.{Found}
-use Rattle.deciding.specs.declared.Found.the-variants.{Model, Closed as AllClosed}
+use Rattle.searching.specs.Search.{Settled, Ended}
+use Rattle.searching.specs.declared.Stop.the-variants.{Closed as Shut, Fork}
+use Rattle.searching.specs.declared.Found.{Found}
+use Rattle.searching.specs.declared.Found.the-variants.{Model, Closed as AllClosed}
 use Rattle.counting.specs.declared.Told.{Told}
 use Rattle.counting.specs.declared.Tally.{Tally}
 use Rattle.counting.specs.declared.Tally.the-variants.{Open, Closed}

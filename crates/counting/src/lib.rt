@@ -1,7 +1,7 @@
 // How many steps the derivation in the solver's order has, up to a limit. The search runs as decide's does and writes nothing; where a
 // model is found there is no derivation. The count stops at its limit, and the search goes on.
 use calculus::Move;
-use deciding::Stop;
+use searching::Stop;
 ghost use mathlib.Core.Path.{_≡_};
 ghost use Prim.Native.Nat.{_+_, _≤_};
 ghost use Rattle.calculus.specs.Model.{Goals};
@@ -115,7 +115,7 @@ fn count(
     let stop = told.stop;
     match stop {
         Stop::Closed => {
-            deciding::undo_to(x, n, goals, work, masks, held);
+            searching::undo_to(x, n, goals, work, masks, held);
             Tally::Closed(told.count)
         }
         Stop::Model => Tally::Open,
@@ -125,12 +125,12 @@ fn count(
             match left {
                 Tally::Open => Tally::Open,
                 Tally::Closed(c) => {
-                    deciding::turn(x, n, goals, work, masks, l);
+                    searching::turn(x, n, goals, work, masks, l);
                     let right = count(x, n, goals, work, masks, cap, c);
                     match right {
                         Tally::Open => Tally::Open,
                         Tally::Closed(d) => {
-                            deciding::undo_to(x, n, goals, work, masks, held);
+                            searching::undo_to(x, n, goals, work, masks, held);
                             Tally::Closed(d)
                         }
                     }
@@ -167,7 +167,7 @@ pub fn count_last(
             match left {
                 Tally::Open => Tally::Open,
                 Tally::Closed(c) => {
-                    deciding::turn(x, n, goals, work, masks, l);
+                    searching::turn(x, n, goals, work, masks, l);
                     count_last(x, n, goals, work, masks, cap, c)
                 }
             }

@@ -21,13 +21,13 @@ use Rattle.calculus.specs.Order.{possible, impossible, answerOf, settingOf}
 use Rattle.calculus.specs.Decide.{nodesOf, searchOf, settingsOn, Decided as Given, decide}
 use Rattle.index.specs.Index.{indexNode, Built}
 use Rattle.state.specs.Work.{gOf, Ready}
-use Rattle.deciding.specs.Search.{foundOf, Ended}
+use Rattle.searching.specs.Search.{foundOf, Ended}
 use Rattle.deciding.specs.Setting.{Points}
 use Rattle.deciding.specs.Decides.{rowsTest, Prepared, Decides}
 use Rattle.deciding.specs.declared.Decided.{Decided}
 use Rattle.deciding.specs.declared.Decided.the-variants.{Possible, Impossible, Refused}
-use Rattle.deciding.specs.declared.Found.{Found}
-use Rattle.deciding.specs.declared.Found.the-variants.{Model, Closed}
+use Rattle.searching.specs.declared.Found.{Found}
+use Rattle.searching.specs.declared.Found.the-variants.{Model, Closed}
 use Rattle.deciding.proofs.Bridge.{low, never-true, made-true}
 use Rattle.deciding.proofs.Nodes.{nodesIn, size-in, nodes-read, read, same-nodes, node-in, indexed, search-in}
 

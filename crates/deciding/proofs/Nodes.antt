@@ -22,8 +22,8 @@ use Rattle.calculus.specs.Decide.{nodesOf, searchOf}
 use Rattle.index.specs.Index.{indexNode, Built}
 use Rattle.clause.specs.Indexed.{Apart, Indexed}
 use Rattle.state.specs.Work.{gOf}
-use Rattle.deciding.specs.Search.{result, foundOf, Ended}
-use Rattle.deciding.specs.declared.Found.{Found}
+use Rattle.searching.specs.Search.{result, foundOf, Ended}
+use Rattle.searching.specs.declared.Found.{Found}
 use Rattle.deciding.proofs.Bridge.{table-of, apart-of, table-same, apart-same, search-same}
 
 -- the first nodes of a table

@@ -27,7 +27,7 @@ use Rattle.rules.specs.Derive.{derivationOf, isImpossible, Derived as Given, de
 use Rattle.steps.proofs.Encode.{length-encode-steps}
 use Rattle.index.specs.Index.{indexNode, Built}
 use Rattle.state.specs.Work.{gOf}
-use Rattle.deciding.specs.Search.{result, foundOf}
+use Rattle.searching.specs.Search.{result, foundOf}
 use Rattle.deciding.proofs.Nodes.{nodesIn, size-in, nodes-read, read, node-in, index-table, search-in}
 use Rattle.counting.specs.Count.{atMost, stepsFrom, foundBy, Tallied}
 use Rattle.counting.specs.declared.Tally.{Tally}

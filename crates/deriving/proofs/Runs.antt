@@ -21,8 +21,8 @@ use Rattle.state.specs.Holds.{Holds}
 use Rattle.gather.specs.declared.Writer.{Writer}
 use Rattle.gather.specs.Kept.{gathered, Space, Pushed}
 use Rattle.gather.proofs.Pushes.{space-less, space-left, pushed-none, pushed-on}
-use Rattle.deciding.specs.Search.{result, Extends, Turned}
-use Rattle.deciding.proofs.Searches.{extends-self, extends-more, result-done, result-unit, result-split}
+use Rattle.searching.specs.Search.{result, Extends, Turned}
+use Rattle.searching.proofs.Searches.{extends-self, extends-more, result-done, result-unit, result-split}
 use Rattle.counting.specs.Count.{stepsFrom}
 use Rattle.deriving.specs.Trace.{left, Due, Stepped, Noted, Fits}
 use Rattle.deriving.specs.declared.Turn.{Turn}

@@ -21,7 +21,7 @@ use Rattle.clause.specs.Classes.{wideValue}
 use Rattle.clause.proofs.Rows.{wide-low}
 use Rattle.state.specs.Work.{valueCode}
 use Rattle.moves.specs.Reason.{Reasoned}
-use Rattle.deciding.proofs.Searches.{tree-conflict, tree-unit, tree-split, fuel}
+use Rattle.searching.proofs.Searches.{tree-conflict, tree-unit, tree-split, fuel}
 use Rattle.counting.specs.Count.{stepsFrom}
 use Rattle.deriving.specs.Trace.{removal, OnClause}
 

@@ -16,7 +16,7 @@ use Rattle.state.specs.Work.{gOf}
 use Rattle.state.specs.Holds.{Holds}
 use Rattle.gather.specs.declared.Writer.{Writer}
 use Rattle.gather.specs.Kept.{gathered, Space, Pushed}
-use Rattle.deciding.specs.Search.{result, Extends}
+use Rattle.searching.specs.Search.{result, Extends}
 use Rattle.counting.specs.Count.{stepsFrom}
 use Rattle.deriving.specs.declared.At.{At}
 use Rattle.deriving.specs.declared.Turn.{Turn}

@@ -249,15 +249,15 @@ fn note(
     let p = a.at;
     match turn {
         Turn::Closed => {
-            deciding::undo_to(x, n, goals, work, masks, held);
+            searching::undo_to(x, n, goals, work, masks, held);
             p
         }
         Turn::Fork(l) => {
             solver::assume(x, n, goals, work, masks, l);
             let b = note(x, n, goals, work, masks, out, block, p);
-            deciding::turn(x, n, goals, work, masks, l);
+            searching::turn(x, n, goals, work, masks, l);
             let c = note(x, n, goals, work, masks, out, block, b);
-            deciding::undo_to(x, n, goals, work, masks, held);
+            searching::undo_to(x, n, goals, work, masks, held);
             c
         }
     }
@@ -288,7 +288,7 @@ fn note_last(
         Turn::Fork(l) => {
             solver::assume(x, n, goals, work, masks, l);
             let b = note(x, n, goals, work, masks, out, block, p);
-            deciding::turn(x, n, goals, work, masks, l);
+            searching::turn(x, n, goals, work, masks, l);
             note_last(x, n, goals, work, masks, out, block, b)
         }
     }

@@ -9,9 +9,9 @@ use borrow.Fn.PlainCycle.{Measures, is, falls, and}
 use Rattle.state.specs.Work.{gOf}
 use Rattle.state.proofs.count.Reads as count-reads
 use Rattle.solver.proofs.assume.Reads as assume-reads
-use Rattle.deciding.proofs.Searches.{fork-fresh, fork-less}
-use Rattle.deciding.proofs.turn.Reads as turn-reads
-use Rattle.deciding.proofs.undo_to.Reads as undo-to-reads
+use Rattle.searching.proofs.Searches.{fork-fresh, fork-less}
+use Rattle.searching.proofs.turn.Reads as turn-reads
+use Rattle.searching.proofs.undo_to.Reads as undo-to-reads
 use Rattle.counting.proofs.Counts.{counted-open, ended-closed, ended-open, left-open, left-low, left-done, right-held, right-open, right-more, right-done}
 use Rattle.counting.proofs.units.Reads as units-reads
 use Rattle.counting.proofs.count.Reads as count

@@ -8,8 +8,8 @@ use borrow.Fn.Kinds.{In}
 use borrow.Fn.PlainCycle.{Measures, is, falls, and}
 use Rattle.state.specs.Work.{gOf}
 use Rattle.solver.proofs.assume.Reads as assume-reads
-use Rattle.deciding.proofs.Searches.{fork-fresh, fork-less}
-use Rattle.deciding.proofs.turn.Reads as turn-reads
+use Rattle.searching.proofs.Searches.{fork-fresh, fork-less}
+use Rattle.searching.proofs.turn.Reads as turn-reads
 use Rattle.counting.proofs.Counts.{ended-shut, ended-open, left-open, left-low, left-done, right-held, right-tallied}
 use Rattle.counting.proofs.units.Reads as units-reads
 use Rattle.counting.proofs.count.Reads as count-reads

@@ -7,7 +7,7 @@ use lib.ListN.{length}
 use borrow.Author.Needs.{needs}
 use Rattle.index.specs.Index.{indexNode}
 use Rattle.state.specs.Work.{gOf}
-use Rattle.deciding.proofs.Searches.{run-fresh, run-room}
+use Rattle.searching.proofs.Searches.{run-fresh, run-room}
 use Rattle.counting.proofs.Counts.{Counting, counting-starts, counting-conflict, counting-done, counting-split, counting-unit}
 use Rattle.counting.proofs.units.Statement.{statement}
 use Rattle.counting.proofs.units.Tie as tie

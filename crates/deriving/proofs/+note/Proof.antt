@@ -12,8 +12,8 @@ use Rattle.deriving.proofs.Runs.{noted-closed, fork-fresh, fork-less, l
 use Rattle.deriving.proofs.note.Reads as note
 use Rattle.deriving.proofs.note.Kinds as note-kinds
 use Rattle.deriving.proofs.+note.Lts-note as note-lts
-use Rattle.deciding.proofs.turn.Reads as turn-reads
-use Rattle.deciding.proofs.undo_to.Reads as undo-to-reads
+use Rattle.searching.proofs.turn.Reads as turn-reads
+use Rattle.searching.proofs.undo_to.Reads as undo-to-reads
 use Rattle.deriving.proofs.settle.Reads as settle-reads
 use Rattle.solver.proofs.assume.Reads as assume-reads
 use Rattle.deriving.proofs.+note.{statement}

@@ -8,7 +8,7 @@ use borrow.Fn.Kinds.{In}
 use borrow.Fn.PlainCycle.{Measures, is, falls, and}
 use Rattle.state.specs.Work.{gOf}
 use Rattle.solver.proofs.assume.Reads as assume-reads
-use Rattle.deciding.proofs.turn.Reads as turn-reads
+use Rattle.searching.proofs.turn.Reads as turn-reads
 use Rattle.deriving.proofs.Runs.{pushed-closed, fork-fresh, fork-less, left-due, left-turned, right-list, right-due, pushed-fork}
 use Rattle.deriving.proofs.settle.Reads as settle-reads
 use Rattle.deriving.proofs.note.Reads as note-reads

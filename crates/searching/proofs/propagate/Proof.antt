@@ -1,15 +1,15 @@
--- `deciding::propagate` meets its contract: before each turn the search from here ends on what the search from the start does.
+-- `searching::propagate` meets its contract: before each turn the search from here ends on what the search from the start does.
 -- The measure is the number of undecided nodes. Assumes nothing.
 use mathlib.Core.Path.{sym, ap, _∙_}
 use Prim.Native.Nat.{_-_}
 use lib.ListN.{length}
 use Rattle.index.specs.Index.{indexNode}
 use Rattle.state.specs.Work.{gOf}
-use Rattle.deciding.proofs.Searches.{Run, run-starts, run-conflict, run-done, run-split, run-fresh, run-room, run-unit}
+use Rattle.searching.proofs.Searches.{Run, run-starts, run-conflict, run-done, run-split, run-fresh, run-room, run-unit}
 use native.Mathlib.Omega.{arith}
 use borrow.Author.Needs.{needs}
-use Rattle.deciding.proofs.propagate.Statement.{statement}
-use Rattle.deciding.proofs.propagate.Tie as tie
+use Rattle.searching.proofs.propagate.Statement.{statement}
+use Rattle.searching.proofs.propagate.Tie as tie
 
 abbrev Inv-loop : tie.InvT-loop
 Inv-loop x n goals work₀ masks₀ work masks = Run (indexNode x) n goals work₀ masks₀ work masks

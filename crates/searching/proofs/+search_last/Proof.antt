@@ -1,4 +1,4 @@
--- `deciding::search_last` meets its contract: as that of `search`, where nothing is taken back. The measure is the number of undecided
+-- `searching::search_last` meets its contract: as that of `search`, where nothing is taken back. The measure is the number of undecided
 -- nodes. Assumes nothing.
 use Prim.Native.Nat.{ℕ, _-_, _<_}
 use native.Mathlib.Omega.{arith}
@@ -8,15 +8,15 @@ use borrow.Fn.Kinds.{In}
 use borrow.Fn.PlainCycle.{Measures, is, falls, and}
 use Rattle.state.specs.Work.{gOf}
 use Rattle.solver.proofs.assume.Reads as assume-reads
-use Rattle.deciding.proofs.Searches.{stopped-shut, stopped-model, fork-fresh, fork-less, left-model, left-turned, right-list, right-ended}
-use Rattle.deciding.proofs.propagate.Reads as propagate-reads
-use Rattle.deciding.proofs.search.Reads as search-reads
-use Rattle.deciding.proofs.turn.Reads as turn-reads
-use Rattle.deciding.proofs.search_last.Reads as search-last
-use Rattle.deciding.proofs.search_last.Kinds as search-last-kinds
-use Rattle.deciding.proofs.+search_last.Lts-search_last as search-last-lts
-use Rattle.deciding.proofs.+search_last.{statement}
-use Rattle.deciding.proofs.+search_last.Tie.{close}
+use Rattle.searching.proofs.Searches.{stopped-shut, stopped-model, fork-fresh, fork-less, left-model, left-turned, right-list, right-ended}
+use Rattle.searching.proofs.propagate.Reads as propagate-reads
+use Rattle.searching.proofs.search.Reads as search-reads
+use Rattle.searching.proofs.turn.Reads as turn-reads
+use Rattle.searching.proofs.search_last.Reads as search-last
+use Rattle.searching.proofs.search_last.Kinds as search-last-kinds
+use Rattle.searching.proofs.+search_last.Lts-search_last as search-last-lts
+use Rattle.searching.proofs.+search_last.{statement}
+use Rattle.searching.proofs.+search_last.Tie.{close}
 
 abbrev μ-search-last : Measures 4 search-last-kinds.ps ℕ
 μ-search-last κs a = a .1 .0 - length (gOf (a .1 .1 .1 .0 .now))

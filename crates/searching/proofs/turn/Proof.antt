@@ -1,10 +1,10 @@
--- `deciding::turn` meets its contract: the newest literal goes, and the negation of a literal that was fresh is fresh. Assumes nothing.
+-- `searching::turn` meets its contract: the newest literal goes, and the negation of a literal that was fresh is fresh. Assumes nothing.
 use Rattle.state.specs.Work.{gOf}
-use Rattle.deciding.proofs.Searches.{turned-some, turned-low, newest-gone, turn-fresh, turn-list}
+use Rattle.searching.proofs.Searches.{turned-some, turned-low, newest-gone, turn-fresh, turn-list}
 use native.Mathlib.Omega.{arith}
 use borrow.Author.Needs.{needs}
-use Rattle.deciding.proofs.turn.Statement.{statement}
-use Rattle.deciding.proofs.turn.Tie as tie
+use Rattle.searching.proofs.turn.Statement.{statement}
+use Rattle.searching.proofs.turn.Tie as tie
 
 count-requires : tie.Need-count-requires
 count-requires c κs = search needs

@@ -11,10 +11,10 @@ use Rattle.calculus.specs.Model.{Fresh}
 use Rattle.calculus.specs.declared.Move.the-variants.{Split}
 use Rattle.state.specs.Work.{gOf}
 use Rattle.state.specs.Holds.{Holds}
-use Rattle.deciding.specs.declared.Stop.{Stop}
-use Rattle.deciding.specs.declared.Stop.the-variants.{Closed as Shut, Model as Open, Fork}
-use Rattle.deciding.specs.declared.Found.{Found}
-use Rattle.deciding.specs.declared.Found.the-variants.{Model, Closed}
+use Rattle.searching.specs.declared.Stop.{Stop}
+use Rattle.searching.specs.declared.Stop.the-variants.{Closed as Shut, Model as Open, Fork}
+use Rattle.searching.specs.declared.Found.{Found}
+use Rattle.searching.specs.declared.Found.the-variants.{Model, Closed}
 
 -- what the search from G ends on, with as much fuel as there are undecided nodes
 abbrev pub result : (ℕ → Node) → ℕ → List ℕ → List ℕ → Answer

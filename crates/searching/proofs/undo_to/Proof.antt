@@ -1,4 +1,4 @@
--- `deciding::undo_to` meets its contract: before each turn the literals held are the first of those at the start.
+-- `searching::undo_to` meets its contract: before each turn the literals held are the first of those at the start.
 -- The measure is their number. Assumes nothing.
 use mathlib.Core.Path.{_≡_, refl, sym, ap, _∙_}
 use Prim.Native.Nat.{ℕ, _-_, _<_, _≤_}
@@ -6,10 +6,10 @@ use lib.ListN.{length, drop}
 use Rattle.index.specs.Index.{indexNode}
 use Rattle.state.specs.Work.{gOf}
 use Rattle.state.specs.Holds.{Holds}
-use Rattle.deciding.proofs.Searches.{extends-self, back-one}
+use Rattle.searching.proofs.Searches.{extends-self, back-one}
 use native.Mathlib.Omega.{arith}
-use Rattle.deciding.proofs.undo_to.Statement.{statement}
-use Rattle.deciding.proofs.undo_to.Tie as tie
+use Rattle.searching.proofs.undo_to.Statement.{statement}
+use Rattle.searching.proofs.undo_to.Tie as tie
 
 abbrev Inv-loop : tie.InvT-loop
 Inv-loop x n goals work₀ masks₀ held work masks =

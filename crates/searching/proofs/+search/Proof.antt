@@ -1,4 +1,4 @@
--- `deciding::search` meets its contract: at each return the laws of Searches say what the search came to.
+-- `searching::search` meets its contract: at each return the laws of Searches say what the search came to.
 -- The measure is the number of undecided nodes. Assumes nothing.
 use Prim.Native.Nat.{ℕ, _-_, _<_}
 use native.Mathlib.Omega.{arith}
@@ -9,15 +9,15 @@ use borrow.Fn.PlainCycle.{Measures, is, falls, and}
 use Rattle.state.specs.Work.{gOf}
 use Rattle.state.proofs.count.Reads as count-reads
 use Rattle.solver.proofs.assume.Reads as assume-reads
-use Rattle.deciding.proofs.Searches.{found-model, stopped-closed, stopped-model, fork-fresh, fork-less, left-model, left-turned, right-list, right-model, end-more, right-closed}
-use Rattle.deciding.proofs.propagate.Reads as propagate-reads
-use Rattle.deciding.proofs.turn.Reads as turn-reads
-use Rattle.deciding.proofs.undo_to.Reads as undo-to-reads
-use Rattle.deciding.proofs.search.Reads as search′
-use Rattle.deciding.proofs.search.Kinds as search-kinds
-use Rattle.deciding.proofs.+search.Lts-search as search-lts
-use Rattle.deciding.proofs.+search.{statement}
-use Rattle.deciding.proofs.+search.Tie.{close}
+use Rattle.searching.proofs.Searches.{found-model, stopped-closed, stopped-model, fork-fresh, fork-less, left-model, left-turned, right-list, right-model, end-more, right-closed}
+use Rattle.searching.proofs.propagate.Reads as propagate-reads
+use Rattle.searching.proofs.turn.Reads as turn-reads
+use Rattle.searching.proofs.undo_to.Reads as undo-to-reads
+use Rattle.searching.proofs.search.Reads as search′
+use Rattle.searching.proofs.search.Kinds as search-kinds
+use Rattle.searching.proofs.+search.Lts-search as search-lts
+use Rattle.searching.proofs.+search.{statement}
+use Rattle.searching.proofs.+search.Tie.{close}
 
 abbrev μ-search : Measures 4 search-kinds.ps ℕ
 μ-search κs a = a .1 .0 - length (gOf (a .1 .1 .1 .0 .now))

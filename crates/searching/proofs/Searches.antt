@@ -15,11 +15,11 @@ use Rattle.calculus.proofs.Count.{room}
 use Rattle.calculus.proofs.Fresh.{unit-fresh, split-fresh}
 use Rattle.state.specs.Work.{gOf}
 use Rattle.state.specs.Holds.{Holds}
-use Rattle.deciding.specs.Search.{result, Extends, foundOf, Settled, Turned, Ended, Searched}
-use Rattle.deciding.specs.declared.Stop.{Stop}
-use Rattle.deciding.specs.declared.Stop.the-variants.{Closed as Shut, Model as Open, Fork}
-use Rattle.deciding.specs.declared.Found.{Found}
-use Rattle.deciding.specs.declared.Found.the-variants.{Model, Closed}
+use Rattle.searching.specs.Search.{result, Extends, foundOf, Settled, Turned, Ended, Searched}
+use Rattle.searching.specs.declared.Stop.{Stop}
+use Rattle.searching.specs.declared.Stop.the-variants.{Closed as Shut, Model as Open, Fork}
+use Rattle.searching.specs.declared.Found.{Found}
+use Rattle.searching.specs.declared.Found.the-variants.{Model, Closed}
 
 -- ---- lists that grow at the front
 
