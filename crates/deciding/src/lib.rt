@@ -99,7 +99,7 @@ fn run(t: &[u8], nodes: usize, goal: usize, settings: &mut [u8], work: &mut [u16
     let goals = [goal as u16; 1];
     let mut masks = [0u64; 392];
     solver::start(&x, nodes, &goals, work, &mut masks);
-    let found = searching::search_last(&x, nodes, &goals, work, &mut masks);
+    let found = searching::search(&x, nodes, &goals, work, &mut masks);
     match found {
         Found::Closed => Decided::Impossible,
         Found::Model => {
