@@ -31,8 +31,18 @@ count-below t = and 4 count-kinds.ps (falls 4 count-kinds.ps _<_ μ-count t) cou
 
 abbrev count-claims : ℕ → count-lts.Claims
 count-claims t = (
-  units-reads.Asked, units-reads.Learnt, count-reads.Asked, count-reads.Learnt, assume-reads.Asked, assume-reads.Learnt,
-  count-below t, count.Post, undo-to-reads.Asked, undo-to-reads.Learnt, negated-reads.Asked, negated-reads.Learnt,
+  units-reads.Asked,
+  units-reads.Learnt,
+  count-reads.Asked,
+  count-reads.Learnt,
+  assume-reads.Asked,
+  assume-reads.Learnt,
+  count-below t,
+  count.Post,
+  undo-to-reads.Asked,
+  undo-to-reads.Learnt,
+  negated-reads.Asked,
+  negated-reads.Learnt,
 )
 
 count-units-requires : (t : ℕ) → count-lts.Need-units-requires (count-claims t) (count-at t) count.Post
