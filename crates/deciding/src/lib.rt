@@ -72,7 +72,7 @@ fn solve(x: &[u16], n: usize, goals: &[u16], settings: &mut [u8], work: &mut [u1
 {
     let mut masks = [0u64; 392];
     solver::start(x, n, goals, work, &mut masks);
-    let found = searching::search_last(x, n, goals, work, &mut masks);
+    let found = searching::search(x, n, goals, work, &mut masks);
     match found {
         Found::Closed => Decided::Impossible,
         Found::Model => {

@@ -1,21 +1,21 @@
 -- What the search's contracts come to at each return, over the lists of literals held. Assumes nothing.
 use mathlib.Core.Path.{_≡_, refl, sym, ap, _∙_}
-use mathlib.Core.List.{List, [], _∷_}
-use Prim.Native.Nat.{ℕ, zero, suc, _+_, _-_, _*_, _<_, _≤_}
+use mathlib.Core.List.{List, _∷_}
+use Prim.Native.Nat.{ℕ, zero, suc, _+_, _-_, _<_, _≤_}
 use native.Mathlib.Omega.{arith}
 use lib.ListN.{length, drop, length-drop}
 use lib.Seq.{drop-drop}
 use Rattle.scope.specs.declared.Node.{Node}
 use Rattle.calculus.specs.Expansion.{neg, expand}
 use Rattle.calculus.specs.Order.{move, conflict, unit, split, model, tree, possible, impossible, orElse, answerOf}
-use Rattle.calculus.specs.Model.{Table, Below, Fresh}
+use Rattle.calculus.specs.Model.{Table, Below, Fresh, Good}
 use Rattle.calculus.specs.declared.Move.the-variants.{Conflict, Unit as Single, Done, Split}
 use Rattle.calculus.proofs.Literals.{neg-fresh}
 use Rattle.calculus.proofs.Count.{room}
 use Rattle.calculus.proofs.Fresh.{unit-fresh, split-fresh}
 use Rattle.state.specs.Work.{gOf}
 use Rattle.state.specs.Holds.{Holds}
-use Rattle.searching.specs.Search.{result, Extends, foundOf, Settled, Turned, Ended, Searched}
+use Rattle.searching.specs.Search.{result, Extends, foundOf, Splits, Settled, Searched}
 use Rattle.searching.specs.declared.Stop.{Stop}
 use Rattle.searching.specs.declared.Stop.the-variants.{Closed as Shut, Model as Open, Fork}
 use Rattle.searching.specs.declared.Found.{Found}
@@ -33,6 +33,16 @@ extends-more {G} {F} x l =
     let m = x .more in
     let z : suc (length F) - length G ≡ suc (length F - length G) = omega arith in
     record { more = omega arith; first = ap (λ (k : ℕ). drop k (l ∷ F)) z ∙ x .first }
+
+pub extends-on : {G H F : List ℕ} → Extends G H → Extends H F → Extends G F
+extends-on {G} {H} {F} x y =
+    let z : length F - length H + (length H - length G) ≡ length F - length G = omega (arith, x .more, y .more) in
+    record {
+      more = omega (arith, x .more, y .more);
+      first =
+          ap (λ (k : ℕ). drop k F) (sym z) ∙ sym (drop-drop (length H - length G) (length F - length H) F)
+          ∙ ap (λ (E : List ℕ). drop (length H - length G) E) (y .first) ∙ x .first;
+    }
 
 -- one literal more is taken back
 pub back-one : (xs ys zs : List ℕ) → length ys ≤ length xs → 0 < length ys → ys ≡ drop (length xs - length ys) xs → zs ≡ drop 1 ys
@@ -96,9 +106,6 @@ shut-fork e = absurd (let z : _≡_ {A = ℕ} 0 1 = cc in omega arith)
 pub open-fork : {P : Type 0} {l : ℕ} → _≡_ {A = Stop} Open (Fork l) → P
 open-fork e = absurd (let z : _≡_ {A = ℕ} 0 1 = cc in omega arith)
 
-pub model-closed : {P : Type 0} → _≡_ {A = Found} Model Closed → P
-model-closed e = absurd (let z : _≡_ {A = ℕ} 0 1 = cc in omega arith)
-
 -- ---- the units
 
 -- what holds before each turn
@@ -159,112 +166,84 @@ module _ {t : ℕ → Node} {n : ℕ} {goals w m w′ m′ : List ℕ} (r : Run 
       sets = y ∙ r .sets;
     }
 
--- ---- the turn to the right
+-- ---- a split
 
-pub turned-some : (n l : ℕ) (G : List ℕ) → Turned n l G → 0 < length G
-turned-some n l [] h = absurd h
-turned-some n l (m ∷ G) h = omega arith
+-- the units that joined after G end at G₁, where the next move is a split on l
+pub record Forked (t : ℕ → Node) (n : ℕ) (goals G G₁ : List ℕ) (l : ℕ) : Type 0 where
+  pub table : Table n t
+  pub below : Below n goals
+  pub good : Good n G₁
+  pub grows : Extends G G₁
+  pub splits : move (expand t) goals G₁ ≡ Split l
 
-turned-fresh : (n l : ℕ) (G : List ℕ) → Turned n l G → Fresh n (drop 1 G) l
-turned-fresh n l [] h = absurd h
-turned-fresh n l (m ∷ G) h = h .1
+module _ {t : ℕ → Node} {n : ℕ} {goals G G₁ : List ℕ} {l : ℕ} (f : Forked t n goals G G₁ l) where
+  pub fork-fresh : Fresh n G₁ l
+  fork-fresh = split-fresh n t goals (f .table) (f .below) G₁ (f .good) l (f .splits)
 
-pub turned-low : (n l : ℕ) (G : List ℕ) → Turned n l G → l < 2 * n
-turned-low n l G h = turned-fresh n l G h .0
+  pub fork-room : length G₁ < n
+  fork-room = room n G₁ l (f .good) fork-fresh
 
-pub turn-fresh : (n l m : ℕ) (G F : List ℕ) → Turned n l G → F ≡ drop 1 G → m ≡ neg l → Fresh n F m
-turn-fresh n l m G F h p q = rw (p, q) (neg-fresh n (drop 1 G) l (turned-fresh n l G h))
+  -- a branch has fewer undecided nodes, and ends with no fewer literals than the whole began with
+  pub fork-less : {B : List ℕ} {m : ℕ} → B ≡ m ∷ G₁ → n - length B < n - length G
+  fork-less q = omega (arith, fork-room, f .grows .more, ap length q)
 
-pub turn-list : (l m : ℕ) (G F H : List ℕ) → F ≡ drop 1 G → m ≡ neg l → H ≡ m ∷ F → H ≡ neg l ∷ drop 1 G
-turn-list l m G F H p q r = cc
+  pub fork-grows : {B F : List ℕ} {m : ℕ} → B ≡ m ∷ G₁ → Extends B F → Extends G F
+  fork-grows {m = m} q x = extends-on (extends-more (f .grows) m) (rw q at x)
 
--- back to one literal fewer is the newest taken away
-pub newest-gone : (n l h : ℕ) (G F : List ℕ) → Turned n l G → h ≡ length G → F ≡ drop (length G - (h - 1)) G → F ≡ drop 1 G
-newest-gone n l h G F t e p =
-    let z : length G - (h - 1) ≡ 1 = omega (arith, turned-some n l G t, e) in
-    p ∙ ap (λ (k : ℕ). drop k G) z
+  pub fork-result : orElse (result t n goals (l ∷ G₁)) (result t n goals (neg l ∷ G₁)) ≡ result t n goals G₁
+  fork-result = sym (result-split t goals G₁ n fork-room (f .splits))
+
+  -- the left branch, from L, closed with F; h literals were held at the split
+  module _ {h : ℕ} {L F : List ℕ} (e : h ≡ length G₁) (q : L ≡ l ∷ G₁) (x : Extends L F) where
+    pub undo-less : h < length F
+    undo-less = omega (arith, e, ap length q, x .more)
+
+    undone : drop (length F - h) F ≡ G₁
+    undone = rw e (extends-on (extends-more (extends-self G₁) l) (rw q at x) .first)
+
+    pub undo-splits : Splits (expand t) goals (drop (length F - h) F)
+    undo-splits = (l, rw undone (f .splits))
+
+    -- the right branch begins with m, the negation
+    module _ {U : List ℕ} {m : ℕ} (u : U ≡ drop (length F - h) F) (z : m ≡ neg l) where
+      pub right-fresh : Fresh n U m
+      right-fresh = rw (u, undone, z) (neg-fresh n G₁ l fork-fresh)
+
+      pub right-list : {R : List ℕ} → R ≡ m ∷ U → R ≡ neg l ∷ G₁
+      right-list r = rw (u, undone, z) at r
 
 -- ---- the search
 
--- a model is held, and nothing is to be taken back
-pub found-model : {t : ℕ → Node} {n : ℕ} {goals w w′ m′ : List ℕ} → Ended t n goals w w′ m′ Model → Searched t n goals w w′ m′ Model
-found-model a = record { ended = a; back = λ q. model-closed q }
-
 module _ {t : ℕ → Node} {n : ℕ} {goals w w₁ m₁ : List ℕ} {r : Stop} (s : Settled t n goals w w₁ m₁ r) where
-  -- the units end on a conflict, whatever is taken back then
-  pub stopped-shut : r ≡ Shut → {w₂ m₂ : List ℕ} → Holds t n goals w₂ m₂ → Ended t n goals w w₂ m₂ Closed
-  stopped-shut e h = record { holds = h; answered = sym (s .closes e) ∙ s .same }
-
-  pub stopped-closed : r ≡ Shut → {w₂ m₂ : List ℕ} → Holds t n goals w₂ m₂
-      → gOf w₂ ≡ drop (length (gOf w₁) - length (gOf w)) (gOf w₁) → Searched t n goals w w₂ m₂ Closed
-  stopped-closed e h q = record { ended = stopped-shut e h; back = λ _. q ∙ s .grows .first }
+  -- the units end on a conflict
+  pub stopped-closed : r ≡ Shut → Searched t n goals w w₁ m₁ Closed
+  stopped-closed e = record { holds = s .holds; grows = s .grows; answered = sym (s .closes e) ∙ s .same }
 
   -- or on a model
-  pub stopped-model : r ≡ Open → Ended t n goals w w₁ m₁ Model
-  stopped-model e = record { holds = s .holds; answered = sym (s .ends e) ∙ s .same }
+  pub stopped-model : r ≡ Open → Searched t n goals w w₁ m₁ Model
+  stopped-model e = record { holds = s .holds; grows = s .grows; answered = sym (s .ends e) ∙ s .same }
 
   -- or on a split
   module _ (T : Table n t) (B : Below n goals) {l : ℕ} (e : r ≡ Fork l) where
-    pub fork-fresh : Fresh n (gOf w₁) l
-    fork-fresh = split-fresh n t goals T B (gOf w₁) (s .holds .ready .trail .good) l (s .forks l e)
-
-    fork-room : length (gOf w₁) < n
-    fork-room = room n (gOf w₁) l (s .holds .ready .trail .good) fork-fresh
-
-    -- a branch has fewer undecided nodes
-    pub fork-less : {F : List ℕ} {m : ℕ} → F ≡ m ∷ gOf w₁ → n - length F < n - length (gOf w)
-    fork-less q = omega (arith, fork-room, s .grows .more, ap length q)
-
-    fork-result : orElse (result t n goals (l ∷ gOf w₁)) (result t n goals (neg l ∷ gOf w₁)) ≡ result t n goals (gOf w)
-    fork-result = sym (result-split t goals (gOf w₁) n fork-room (s .forks l e)) ∙ s .same
+    pub forked : Forked t n goals (gOf w) (gOf w₁) l
+    forked = record { table = T; below = B; good = s .holds .ready .trail .good; grows = s .grows; splits = s .forks l e }
 
     -- the left branch
     module _ {w₂ w₃ m₃ : List ℕ} {left : Found} (q : gOf w₂ ≡ l ∷ gOf w₁) (a : Searched t n goals w₂ w₃ m₃ left) where
       left-answered : foundOf left (gOf w₃) ≡ result t n goals (l ∷ gOf w₁)
-      left-answered = a .ended .answered ∙ ap (result t n goals) q
+      left-answered = a .answered ∙ ap (result t n goals) q
 
-      pub left-model : left ≡ Model → Ended t n goals w w₃ m₃ Model
-      left-model p =
-          let x : possible (gOf w₃) ≡ result t n goals (l ∷ gOf w₁) = ap (λ (f : Found). foundOf f (gOf w₃)) (sym p) ∙ left-answered in
-          record { holds = a .ended .holds; answered = rw (← x) at fork-result }
+      branches : orElse (foundOf left (gOf w₃)) (result t n goals (neg l ∷ gOf w₁)) ≡ result t n goals (gOf w)
+      branches = rw left-answered (fork-result forked ∙ s .same)
 
-      module _ (p : left ≡ Closed) where
-        left-list : gOf w₃ ≡ l ∷ gOf w₁
-        left-list = a .back p ∙ q
+      pub left-model : left ≡ Model → Searched t n goals w w₃ m₃ Model
+      left-model p = record { holds = a .holds; grows = fork-grows forked q (a .grows); answered = rw p at branches }
 
-        pub left-turned : Turned n l (gOf w₃)
-        left-turned = rw left-list (refl, fork-fresh)
-
-        left-result : result t n goals (neg l ∷ gOf w₁) ≡ result t n goals (gOf w)
-        left-result =
-            let x : impossible ≡ result t n goals (l ∷ gOf w₁) = ap (λ (f : Found). foundOf f (gOf w₃)) (sym p) ∙ left-answered in
-            rw (← x) at fork-result
-
-        -- the right branch
-        module _ (w₄ : List ℕ) (d : gOf w₄ ≡ neg l ∷ drop 1 (gOf w₃)) where
-          pub right-list : gOf w₄ ≡ neg l ∷ gOf w₁
-          right-list = d ∙ ap (λ (F : List ℕ). neg l ∷ drop 1 F) left-list
-
-          -- what it ends on is what the whole ends on
-          pub right-ended : {w₅ m₅ : List ℕ} {right : Found} → Ended t n goals w₄ w₅ m₅ right → Ended t n goals w w₅ m₅ right
-          right-ended b = record { holds = b .holds; answered = b .answered ∙ ap (result t n goals) right-list ∙ left-result }
-
-          module _ {w₅ m₅ : List ℕ} {right : Found} (b : Searched t n goals w₄ w₅ m₅ right) where
-            pub right-model : right ≡ Model → Ended t n goals w w₅ m₅ Model
-            right-model z = rw z at (right-ended (b .ended))
-
-            module _ (z : right ≡ Closed) where
-              end-list : gOf w₅ ≡ neg l ∷ gOf w₁
-              end-list = b .back z ∙ right-list
-
-              pub end-more : length (gOf w) ≤ length (gOf w₅)
-              end-more = omega (arith, s .grows .more, ap length end-list)
-
-              pub right-closed : {w₆ m₆ : List ℕ} → Holds t n goals w₆ m₆ → gOf w₆ ≡ drop (length (gOf w₅) - length (gOf w)) (gOf w₅)
-                  → Searched t n goals w w₆ m₆ Closed
-              right-closed h y =
-                  let c : Ended t n goals w w₅ m₅ Closed = rw z at (right-ended (b .ended)) in
-                  record {
-                    ended = record { holds = h; answered = c .answered };
-                    back = λ _. y ∙ (rw (← end-list) at (extends-more (s .grows) (neg l))) .first;
-                  }
+      -- the right branch: what it ends on is what the whole ends on
+      pub right-searched : left ≡ Closed → {w₄ w₅ m₅ : List ℕ} {right : Found} → gOf w₄ ≡ neg l ∷ gOf w₁ → Searched t n goals w₄ w₅ m₅ right
+          → Searched t n goals w w₅ m₅ right
+      right-searched p d b = record {
+        holds = b .holds;
+        grows = fork-grows forked d (b .grows);
+        answered = b .answered ∙ ap (result t n goals) d ∙ rw p at branches;
+      }

@@ -1,13 +1,12 @@
 -- What the search's functions leave of the work area and its sets: the literals held, and what the search from them ends on.
 -- Assumes nothing.
 use mathlib.Core.Path.{_≡_}
-use mathlib.Core.List.{List, [], _∷_}
+use mathlib.Core.List.{List}
 use Prim.Native.Nat.{ℕ, _-_, _≤_}
 use lib.ListN.{length, drop}
 use Rattle.scope.specs.declared.Node.{Node}
 use Rattle.calculus.specs.Expansion.{expand}
 use Rattle.calculus.specs.Order.{move, tree, Answer, possible, impossible, answerOf}
-use Rattle.calculus.specs.Model.{Fresh}
 use Rattle.calculus.specs.declared.Move.the-variants.{Split}
 use Rattle.state.specs.Work.{gOf}
 use Rattle.state.specs.Holds.{Holds}
@@ -39,17 +38,12 @@ pub record Settled (t : ℕ → Node) (n : ℕ) (goals w w′ m′ : List ℕ) (
   pub ends : r ≡ Open → result t n goals (gOf w′) ≡ possible (gOf w′)
   pub forks : (l : ℕ) → r ≡ Fork l → move (expand t) goals (gOf w′) ≡ Split l
 
--- l is the newest literal, and was fresh
-abbrev pub Turned : ℕ → ℕ → List ℕ → Type 0
-Turned n l [] = ⊥
-Turned n l (m ∷ G) = (m ≡ l) × Fresh n G l
+-- the next move from G is a split
+abbrev pub Splits : (ℕ → List (List ℕ)) → List ℕ → List ℕ → Type 0
+Splits e goals G = (l : ℕ) × (move e goals G ≡ Split l)
 
--- the search is done: its answer, with the final literals where there is a model
-pub record Ended (t : ℕ → Node) (n : ℕ) (goals w w′ m′ : List ℕ) (r : Found) : Type 0 where
-  pub holds : Holds t n goals w′ m′
-  pub answered : foundOf r (gOf w′) ≡ result t n goals (gOf w)
-
--- .. and where all branches closed, the literals held are those of the start
+-- the search is done: its answer, with the final literals where there is a model; those of the start are still held
 pub record Searched (t : ℕ → Node) (n : ℕ) (goals w w′ m′ : List ℕ) (r : Found) : Type 0 where
-  pub ended : Ended t n goals w w′ m′ r
-  pub back : r ≡ Closed → gOf w′ ≡ gOf w
+  pub holds : Holds t n goals w′ m′
+  pub grows : Extends (gOf w) (gOf w′)
+  pub answered : foundOf r (gOf w′) ≡ result t n goals (gOf w)

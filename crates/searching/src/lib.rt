@@ -1,17 +1,16 @@
-// The search: recursive, a call for each branch of a split, so the number of undecided nodes falls at each call; the work area is carried
-// along and taken back where a branch closes.
+// The search: recursive, a call for each branch of a split, so the number of undecided nodes falls at each call. The work area is carried
+// along, and taken back to a split before its right branch.
 use calculus::Move;
 ghost use mathlib.Core.Path.{_≡_};
-ghost use mathlib.Core.List.{_∷_};
-ghost use Prim.Native.Nat.{_-_, _≤_};
+ghost use Prim.Native.Nat.{_-_, _<_};
 ghost use lib.ListN.{length, drop};
-ghost use Rattle.calculus.specs.Expansion.{neg};
+ghost use Rattle.calculus.specs.Expansion.{expand};
 ghost use Rattle.calculus.specs.Model.{Goals};
 ghost use Rattle.index.specs.Index.{indexNode};
 ghost use Rattle.clause.specs.Indexed.{Indexed};
 ghost use Rattle.state.specs.Work.{gOf};
 ghost use Rattle.state.specs.Holds.{Holds};
-ghost use Rattle.searching.specs.Search.{Settled, Turned, Ended, Searched};
+ghost use Rattle.searching.specs.Search.{Splits, Settled, Searched};
 
 // Where the units end: at a conflict, at a model, or at a split on a literal.
 pub enum Stop {
@@ -52,12 +51,12 @@ fn propagate(x: &[u16], n: usize, goals: &[u16], work: &mut [u16], masks: &mut [
     }
 }
 
-// The literals that joined after the first `held` are assumed no more.
+// The literals that joined after the first `held`, at least one, are assumed no more. With those the next move is a split.
 pub fn undo_to(x: &[u16], n: usize, goals: &[u16], work: &mut [u16], masks: &mut [u64], held: u16)
     requires { ⌜ Indexed (now x) n ⌝ }
     requires { ⌜ Goals n (now goals) ⌝ }
     requires { ⌜ Holds (indexNode (now x)) n (now goals) (now work) (now masks) ⌝ }
-    requires { ⌜ held ≤ length (gOf (now work)) ⌝ }
+    requires { ⌜ (held < length (gOf (now work))) × Splits (expand (indexNode (now x))) (now goals) (drop (length (gOf (now work)) - held) (gOf (now work))) ⌝ }
     ensures { λ _. ⌜ Holds (indexNode (now (x .entry))) n (now (goals .entry)) (now (work .exit)) (now (masks .exit)) ⌝ }
     ensures { λ _. ⌜ gOf (now (work .exit)) ≡ drop (length (gOf (now (work .entry))) - held) (gOf (now (work .entry))) ⌝ }
 {
@@ -66,75 +65,28 @@ pub fn undo_to(x: &[u16], n: usize, goals: &[u16], work: &mut [u16], masks: &mut
     }
 }
 
-// The newest literal, l, is assumed no more, and its negation is.
-pub fn turn(x: &[u16], n: usize, goals: &[u16], work: &mut [u16], masks: &mut [u64], l: u16)
-    requires { ⌜ Indexed (now x) n ⌝ }
-    requires { ⌜ Goals n (now goals) ⌝ }
-    requires { ⌜ Holds (indexNode (now x)) n (now goals) (now work) (now masks) ⌝ }
-    requires { ⌜ Turned n l (gOf (now work)) ⌝ }
-    ensures { λ _. ⌜ Holds (indexNode (now (x .entry))) n (now (goals .entry)) (now (work .exit)) (now (masks .exit)) ⌝ }
-    ensures { λ _. ⌜ gOf (now (work .exit)) ≡ neg l ∷ drop 1 (gOf (now (work .entry))) ⌝ }
-{
-    let held = state::count(work) - 1;
-    undo_to(x, n, goals, work, masks, held);
-    solver::assume(x, n, goals, work, masks, clause::negated(l));
-}
-
-// The search from the literals held: a model, which stays, or every branch closes, and the literals held are those of the start.
-fn search(x: &[u16], n: usize, goals: &[u16], work: &mut [u16], masks: &mut [u64]) -> Found
+// The search from the literals held, which stay held: a model, or every branch closes. What joined is taken back only before a right
+// branch.
+pub fn search(x: &[u16], n: usize, goals: &[u16], work: &mut [u16], masks: &mut [u64]) -> Found
     requires { ⌜ Indexed (now x) n ⌝ }
     requires { ⌜ Goals n (now goals) ⌝ }
     requires { ⌜ Holds (indexNode (now x)) n (now goals) (now work) (now masks) ⌝ }
     ensures { λ r. ⌜ Searched (indexNode (now (x .entry))) n (now (goals .entry)) (now (work .entry)) (now (work .exit)) (now (masks .exit)) r ⌝ }
-{
-    let held = state::count(work);
-    let stop = propagate(x, n, goals, work, masks);
-    match stop {
-        Stop::Closed => {
-            undo_to(x, n, goals, work, masks, held);
-            Found::Closed
-        }
-        Stop::Model => Found::Model,
-        Stop::Fork(l) => {
-            solver::assume(x, n, goals, work, masks, l);
-            let left = search(x, n, goals, work, masks);
-            match left {
-                Found::Model => Found::Model,
-                Found::Closed => {
-                    turn(x, n, goals, work, masks, l);
-                    let right = search(x, n, goals, work, masks);
-                    match right {
-                        Found::Model => Found::Model,
-                        Found::Closed => {
-                            undo_to(x, n, goals, work, masks, held);
-                            Found::Closed
-                        }
-                    }
-                }
-            }
-        }
-    }
-}
-
-// The search where no split is open: a model, which stays, or every branch closes, and nothing is taken back.
-pub fn search_last(x: &[u16], n: usize, goals: &[u16], work: &mut [u16], masks: &mut [u64]) -> Found
-    requires { ⌜ Indexed (now x) n ⌝ }
-    requires { ⌜ Goals n (now goals) ⌝ }
-    requires { ⌜ Holds (indexNode (now x)) n (now goals) (now work) (now masks) ⌝ }
-    ensures { λ r. ⌜ Ended (indexNode (now (x .entry))) n (now (goals .entry)) (now (work .entry)) (now (work .exit)) (now (masks .exit)) r ⌝ }
 {
     let stop = propagate(x, n, goals, work, masks);
     match stop {
         Stop::Closed => Found::Closed,
         Stop::Model => Found::Model,
         Stop::Fork(l) => {
+            let held = state::count(work);
             solver::assume(x, n, goals, work, masks, l);
             let left = search(x, n, goals, work, masks);
             match left {
                 Found::Model => Found::Model,
                 Found::Closed => {
-                    turn(x, n, goals, work, masks, l);
-                    search_last(x, n, goals, work, masks)
+                    undo_to(x, n, goals, work, masks, held);
+                    solver::assume(x, n, goals, work, masks, clause::negated(l));
+                    search(x, n, goals, work, masks)
                 }
             }
         }

@@ -10,11 +10,11 @@ slice-aggregate-start c = search needs
 start-requires : tie.Need-start-requires
 start-requires c κs = search needs
 
-slice-aggregate-search-last : tie.Need-slice-aggregate-search-last
-slice-aggregate-search-last c = search needs
+slice-aggregate-search : tie.Need-slice-aggregate-search
+slice-aggregate-search c = search needs
 
-search-last-requires : tie.Need-search-last-requires
-search-last-requires c κs = search needs
+search-requires : tie.Need-search-requires
+search-requires c κs = search needs
 
 enum-told : tie.Need-enum-told
 enum-told c = search needs
@@ -29,7 +29,7 @@ same-length : tie.Need-same-length
 same-length c = search needs
 
 returns : tie.Need-returns
-returns c = solved-closed (c .before .before .before .before .before .before .before .before .before .before .before .start .ensures .1) (c .before .before .before .before .before .search-last .ensures) _ (c .enum-told .given .1)
+returns c = solved-closed (c .before .before .before .before .before .before .before .before .before .before .before .start .ensures .1) (c .before .before .before .before .before .search .ensures) _ (c .enum-told .given .1)
 
 same-length-2 : tie.Need-same-length-2
 same-length-2 c = search needs
@@ -39,7 +39,7 @@ same-length-3 c = search needs
 
 returns-2 : tie.Need-returns-2
 returns-2 c =
-    solved-model (c .before .before .before .before .before .before .before .before .before .before .before .before .before .before .before .before .start .ensures .1) (c .before .before .before .before .before .before .before .before .before .before .search-last .ensures) _
+    solved-model (c .before .before .before .before .before .before .before .before .before .before .before .before .before .before .before .before .start .ensures .1) (c .before .before .before .before .before .before .before .before .before .before .search .ensures) _
     (c .before .before .before .before .before .enum-told2 .given .1) (c .before .before .set-points .ensures)
 
 pub solve-spec : {M : Type 1} → statement M
@@ -48,8 +48,8 @@ solve-spec =
     (tie.spec
     slice-aggregate-start
     start-requires
-    slice-aggregate-search-last
-    search-last-requires
+    slice-aggregate-search
+    search-requires
     enum-told
     enum-told-2
     set-points-requires

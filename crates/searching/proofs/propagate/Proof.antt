@@ -21,7 +21,10 @@ loop-holds : tie.Need-loop-holds Inv-loop μ-loop
 loop-holds c = run-starts (c .before .before .before .before .pre .1 .1)
 
 next-move-requires : tie.Need-next-move-requires Inv-loop μ-loop
-next-move-requires c κs = (c .before .before .before .before .before .before .before .pre .0, (c .before .before .before .before .before .before .before .pre .1 .0, c .before .before .loop .inv .holds))
+next-move-requires c κs =
+    let at-loop = c .before .before in
+    let s = at-loop .before .before .before .before .before in
+    (s .pre .0, (s .pre .1 .0, at-loop .loop .inv .holds))
 
 enum-told : tie.Need-enum-told Inv-loop μ-loop
 enum-told c = search needs
@@ -33,31 +36,48 @@ same-length-2 : tie.Need-same-length-2 Inv-loop μ-loop
 same-length-2 c = c .before .before .before .before .before .loop .inv .sets
 
 returns : tie.Need-returns Inv-loop μ-loop
-returns c = run-conflict (c .before .before .before .before .before .loop .inv) (sym (c .before .before .next-move .ensures) ∙ c .enum-told .given .1)
+returns c =
+    let at-next-move = c .before .before in
+    let at-loop = at-next-move .before .before .before in
+    run-conflict (at-loop .loop .inv) (sym (at-next-move .next-move .ensures) ∙ c .enum-told .given .1)
 
 enum-known-m : tie.Need-enum-known-m Inv-loop μ-loop
 enum-known-m c = search needs
 
 assume-requires : tie.Need-assume-requires Inv-loop μ-loop
 assume-requires c κs =
-    let s = c .before .before .before .before .before .before .before .before .before .before .before .before .before in
-    let e = sym (c .before .before .before .before .before .next-move .ensures) ∙ c .before .before .before .m .given .1 in
-    let r = c .before .before .before .before .before .before .before .before .loop .inv in
+    let at-m = c .before .before .before in
+    let at-next-move = at-m .before .before in
+    let at-loop = at-next-move .before .before .before in
+    let at-place = at-loop .before .before .before .before .before in
+    let s = at-place in
+    let e = sym (at-next-move .next-move .ensures) ∙ at-m .m .given .1 in
+    let r = at-loop .loop .inv in
     (s .pre .0, (s .pre .1 .0, (r .holds, run-fresh r (s .pre .0 .table) (s .pre .1 .0 .below) e)))
 
 loop-less : tie.Need-loop-less Inv-loop μ-loop
 loop-less c =
-    let s = c .before .before .before .before .before .before .before .before .before .before .before .before .before .before .before .before .before .before in
-    let e = sym (c .before .before .before .before .before .before .before .before .before .before .next-move .ensures) ∙ c .before .before .before .before .before .before .before .before .m .given .1 in
-    let r = c .before .before .before .before .before .before .before .before .before .before .before .before .before .loop .inv in
-    omega (arith, run-room r (s .pre .0 .table) (s .pre .1 .0 .below) e, ap length (c .before .before .before .before .assume .ensures .1))
+    let at-assume = c .before .before .before .before in
+    let at-m = at-assume .before .before .before .before in
+    let at-next-move = at-m .before .before in
+    let at-loop = at-next-move .before .before .before in
+    let at-place = at-loop .before .before .before .before .before in
+    let s = at-place in
+    let e = sym (at-next-move .next-move .ensures) ∙ at-m .m .given .1 in
+    let r = at-loop .loop .inv in
+    omega (arith, run-room r (s .pre .0 .table) (s .pre .1 .0 .below) e, ap length (at-assume .assume .ensures .1))
 
 loop-again : tie.Need-loop-again Inv-loop μ-loop
 loop-again c =
-    let s = c .before .before .before .before .before .before .before .before .before .before .before .before .before .before .before .before .before .before in
-    let e = sym (c .before .before .before .before .before .before .before .before .before .before .next-move .ensures) ∙ c .before .before .before .before .before .before .before .before .m .given .1 in
-    let r = c .before .before .before .before .before .before .before .before .before .before .before .before .before .loop .inv in
-    let a = c .before .before .before .before .assume in
+    let at-assume = c .before .before .before .before in
+    let at-m = at-assume .before .before .before .before in
+    let at-next-move = at-m .before .before in
+    let at-loop = at-next-move .before .before .before in
+    let at-place = at-loop .before .before .before .before .before in
+    let s = at-place in
+    let e = sym (at-next-move .next-move .ensures) ∙ at-m .m .given .1 in
+    let r = at-loop .loop .inv in
+    let a = at-assume .assume in
     run-unit r (s .pre .0 .table) (s .pre .1 .0 .below) e (a .ensures .0) (a .ensures .1) (a .kept .1 .1 .1 .0) (a .kept .1 .1 .1 .1 .0)
 
 enum-told-2 : tie.Need-enum-told-2 Inv-loop μ-loop
@@ -70,7 +90,10 @@ same-length-4 : tie.Need-same-length-4 Inv-loop μ-loop
 same-length-4 c = c .before .before .before .before .before .loop .inv .sets
 
 returns-2 : tie.Need-returns-2 Inv-loop μ-loop
-returns-2 c = run-done (c .before .before .before .before .before .loop .inv) (sym (c .before .before .next-move .ensures) ∙ c .enum-told2 .given .1)
+returns-2 c =
+    let at-next-move = c .before .before in
+    let at-loop = at-next-move .before .before .before in
+    run-done (at-loop .loop .inv) (sym (at-next-move .next-move .ensures) ∙ c .enum-told2 .given .1)
 
 enum-known-m-2 : tie.Need-enum-known-m-2 Inv-loop μ-loop
 enum-known-m-2 c = search needs
@@ -82,7 +105,10 @@ same-length-6 : tie.Need-same-length-6 Inv-loop μ-loop
 same-length-6 c = c .before .before .before .before .before .before .loop .inv .sets
 
 returns-3 : tie.Need-returns-3 Inv-loop μ-loop
-returns-3 c = run-split (c .before .before .before .before .before .before .loop .inv) (sym (c .before .before .before .next-move .ensures) ∙ c .before .m2 .given .1)
+returns-3 c =
+    let at-next-move = c .before .before .before in
+    let at-loop = at-next-move .before .before .before in
+    run-split (at-loop .loop .inv) (sym (at-next-move .next-move .ensures) ∙ c .before .m2 .given .1)
 
 pub propagate-spec : {M : Type 1} → statement M
 propagate-spec =

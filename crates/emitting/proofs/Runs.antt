@@ -1,9 +1,9 @@
 -- What the contracts of the writing pass come to at each return, over the literals held and the steps pushed. Assumes nothing.
 use mathlib.Core.Path.{_≡_, refl, sym, ap, _∙_}
 use mathlib.Core.List.{List, [], _∷_, _++_, append-assoc, append-nil}
-use Prim.Native.Nat.{ℕ, _+_, _-_, _<_, _≤_}
+use Prim.Native.Nat.{ℕ, _+_, _<_}
 use native.Mathlib.Omega.{arith}
-use lib.ListN.{length, drop, length-append}
+use lib.ListN.{length, length-append}
 use Rattle.scope.specs.declared.Node.{Node}
 use Rattle.calculus.specs.Expansion.{neg, expand}
 use Rattle.calculus.specs.Order.{move, impossible}
@@ -21,13 +21,13 @@ use Rattle.state.specs.Holds.{Holds}
 use Rattle.gather.specs.declared.Writer.{Writer}
 use Rattle.gather.specs.Kept.{gathered, Space, Pushed}
 use Rattle.gather.proofs.Pushes.{space-less, space-left, pushed-none, pushed-on}
-use Rattle.searching.specs.Search.{result, Extends, Turned}
-use Rattle.searching.proofs.Searches.{extends-self, extends-more, result-done, result-unit, result-split}
+use Rattle.searching.specs.Search.{result, Extends}
+use Rattle.searching.proofs.Searches.{extends-self, extends-more, result-done, result-unit, Forked, fork-grows, fork-result}
 use Rattle.counting.specs.Count.{stepsFrom}
-use Rattle.deriving.specs.Trace.{left, Due, Stepped, Noted, Fits}
-use Rattle.deriving.specs.declared.Turn.{Turn}
-use Rattle.deriving.specs.declared.Turn.the-variants.{Closed, Fork}
-use Rattle.deriving.proofs.Steps.{steps-conflict, steps-unit, steps-split}
+use Rattle.emitting.specs.Trace.{left, Due, Stepped, Emitted, Fits}
+use Rattle.emitting.specs.declared.Turn.{Turn}
+use Rattle.emitting.specs.declared.Turn.the-variants.{Closed, Fork}
+use Rattle.emitting.proofs.Steps.{steps-conflict, steps-unit, steps-split}
 
 closed-fork : {P : Type 0} {l : ℕ} → _≡_ {A = Turn} Closed (Fork l) → P
 closed-fork e = absurd (let z : _≡_ {A = ℕ} 0 1 = cc in omega arith)
@@ -165,92 +165,52 @@ module _ {t : ℕ → Node} {n : ℕ} {goals w m w′ m′ out out′ : List ℕ
 
 module _ {t : ℕ → Node} {n : ℕ} {goals w w₁ m₁ out out₁ : List ℕ} {g g₁ : Writer} {turn : Turn} (s : Stepped t n goals w w₁ m₁ out out₁ g g₁ turn) where
   -- a phase that ends on a conflict has pushed all steps
-  pub pushed-closed : turn ≡ Closed → Pushed (stepsFrom t n goals (gOf w)) out g out₁ g₁
-  pushed-closed e =
+  pub emitted-closed : turn ≡ Closed → Emitted t n goals w w₁ m₁ out out₁ g g₁
+  emitted-closed e =
       let z : s .steps ≡ stepsFrom t n goals (gOf w) = sym (append-nil (s .steps)) ∙ rw e at (s .whole) in
-      rw (← z) (s .pushed)
+      record { holds = s .holds; grows = s .grows; pushed = rw (← z) (s .pushed) }
 
-  pub noted-closed : turn ≡ Closed → {w₂ m₂ : List ℕ} → Holds t n goals w₂ m₂ → gOf w₂ ≡ drop (length (gOf w₁) - length (gOf w)) (gOf w₁)
-      → Noted t n goals w w₂ m₂ out out₁ g g₁
-  noted-closed e h q = record { holds = h; back = q ∙ s .grows .first; pushed = pushed-closed e }
-
+  -- or it ends on a split
   module _ (T : Table n t) (B : Below n goals) {l : ℕ} (e : turn ≡ Fork l) where
-    fork-split : move (expand t) goals (gOf w₁) ≡ Split l
-    fork-split = s .forks l e
+    pub forked : Forked t n goals (gOf w) (gOf w₁) l
+    forked = record { table = T; below = B; good = s .holds .ready .trail .good; grows = s .grows; splits = s .forks l e }
 
-    pub fork-fresh : Fresh n (gOf w₁) l
-    fork-fresh = split-fresh n t goals T B (gOf w₁) (s .holds .ready .trail .good) l fork-split
+    abbrev lefts : List Step
+    lefts = stepsFrom t n goals (l ∷ gOf w₁)
 
-    fork-room : length (gOf w₁) < n
-    fork-room = room n (gOf w₁) l (s .holds .ready .trail .good) fork-fresh
-
-    -- a branch has fewer undecided nodes
-    pub fork-less : {F : List ℕ} {m : ℕ} → F ≡ m ∷ gOf w₁ → n - length F < n - length (gOf w)
-    fork-less q = omega (arith, fork-room, s .grows .more, ap length q)
+    abbrev rights : List Step
+    rights = stepsFrom t n goals (neg l ∷ gOf w₁)
 
     fork-closes : (result t n goals (l ∷ gOf w₁) ≡ impossible) × (result t n goals (neg l ∷ gOf w₁) ≡ impossible)
-    fork-closes =
-        or-closed (result t n goals (l ∷ gOf w₁)) (result t n goals (neg l ∷ gOf w₁))
-        (sym (result-split t goals (gOf w₁) n fork-room fork-split) ∙ s .closes)
+    fork-closes = or-closed (result t n goals (l ∷ gOf w₁)) (result t n goals (neg l ∷ gOf w₁)) (fork-result forked ∙ s .closes)
 
-    fork-whole : s .steps ++ (stepsFrom t n goals (l ∷ gOf w₁) ++ stepsFrom t n goals (neg l ∷ gOf w₁)) ≡ stepsFrom t n goals (gOf w)
+    fork-whole : s .steps ++ (lefts ++ rights) ≡ stepsFrom t n goals (gOf w)
     fork-whole = rw e at (s .whole)
 
     module _ (d : Space (length (stepsFrom t n goals (gOf w))) out g) where
-      fork-space : Space (length (stepsFrom t n goals (l ∷ gOf w₁) ++ stepsFrom t n goals (neg l ∷ gOf w₁))) out₁ g₁
-      fork-space = space-rest (s .steps) (stepsFrom t n goals (l ∷ gOf w₁) ++ stepsFrom t n goals (neg l ∷ gOf w₁)) fork-whole d (s .pushed)
+      fork-space : Space (length (lefts ++ rights)) out₁ g₁
+      fork-space = space-rest (s .steps) (lefts ++ rights) fork-whole d (s .pushed)
 
-      module _ (w₂ : List ℕ) (q : gOf w₂ ≡ l ∷ gOf w₁) where
-        pub left-due : Due t n goals (gOf w₂) out₁ g₁
-        left-due =
-            rw q (record {
-              closes = fork-closes .0;
-              space = space-first (stepsFrom t n goals (l ∷ gOf w₁)) (stepsFrom t n goals (neg l ∷ gOf w₁)) refl fork-space;
-            })
+      -- the left branch
+      pub left-due : {F : List ℕ} → F ≡ l ∷ gOf w₁ → Due t n goals F out₁ g₁
+      left-due q = rw q (record { closes = fork-closes .0; space = space-first lefts rights refl fork-space })
 
-        -- the left branch
-        module _ {w₃ m₃ out₂ : List ℕ} {g₂ : Writer} (a : Noted t n goals w₂ w₃ m₃ out₁ out₂ g₁ g₂) where
-          left-list : gOf w₃ ≡ l ∷ gOf w₁
-          left-list = a .back ∙ q
+      module _ {w₂ w₃ m₃ out₂ : List ℕ} {g₂ : Writer} (q : gOf w₂ ≡ l ∷ gOf w₁) (a : Emitted t n goals w₂ w₃ m₃ out₁ out₂ g₁ g₂) where
+        left-pushed : Pushed lefts out₁ g₁ out₂ g₂
+        left-pushed = rw q at (a .pushed)
 
-          left-pushed : Pushed (stepsFrom t n goals (l ∷ gOf w₁)) out₁ g₁ out₂ g₂
-          left-pushed = rw q at (a .pushed)
+        -- the right branch
+        pub right-due : {F : List ℕ} → F ≡ neg l ∷ gOf w₁ → Due t n goals F out₂ g₂
+        right-due r = rw r (record { closes = fork-closes .1; space = space-rest lefts rights refl fork-space left-pushed })
 
-          pub left-turned : Turned n l (gOf w₃)
-          left-turned = rw left-list (refl, fork-fresh)
-
-          -- the right branch
-          module _ (w₄ : List ℕ) (u : gOf w₄ ≡ neg l ∷ drop 1 (gOf w₃)) where
-            pub right-list : gOf w₄ ≡ neg l ∷ gOf w₁
-            right-list = u ∙ ap (λ (F : List ℕ). neg l ∷ drop 1 F) left-list
-
-            pub right-due : Due t n goals (gOf w₄) out₂ g₂
-            right-due =
-                rw right-list (record {
-                  closes = fork-closes .1;
-                  space = space-rest (stepsFrom t n goals (l ∷ gOf w₁)) (stepsFrom t n goals (neg l ∷ gOf w₁)) refl fork-space left-pushed;
-                })
-
-            -- the steps of a phase, of the left branch and of the right are all
-            pub pushed-fork : {out₃ : List ℕ} {g₃ : Writer} → Pushed (stepsFrom t n goals (gOf w₄)) out₂ g₂ out₃ g₃
-                → Pushed (stepsFrom t n goals (gOf w)) out g out₃ g₃
-            pushed-fork b = rw (← fork-whole) (pushed-on (s .pushed) (pushed-on left-pushed (rw right-list at b)))
-
-            module _ {w₅ m₅ out₃ : List ℕ} {g₃ : Writer} (b : Noted t n goals w₄ w₅ m₅ out₂ out₃ g₂ g₃) where
-              end-list : gOf w₅ ≡ neg l ∷ gOf w₁
-              end-list = b .back ∙ right-list
-
-              pub end-more : length (gOf w) ≤ length (gOf w₅)
-              end-more = omega (arith, s .grows .more, ap length end-list)
-
-              pub noted-fork : {w₆ m₆ : List ℕ} → Holds t n goals w₆ m₆ → gOf w₆ ≡ drop (length (gOf w₅) - length (gOf w)) (gOf w₅)
-                  → Noted t n goals w w₆ m₆ out out₃ g g₃
-              noted-fork h y =
-                  record {
-                    holds = h;
-                    back = y ∙ (rw (← end-list) at (extends-more (s .grows) (neg l))) .first;
-                    pushed = pushed-fork (b .pushed);
-                  }
+        -- the steps of a phase, of the left branch and of the right are all
+        pub emitted-fork : {w₄ w₅ m₅ out₃ : List ℕ} {g₃ : Writer} → gOf w₄ ≡ neg l ∷ gOf w₁ → Emitted t n goals w₄ w₅ m₅ out₂ out₃ g₂ g₃
+            → Emitted t n goals w w₅ m₅ out out₃ g g₃
+        emitted-fork r b = record {
+          holds = b .holds;
+          grows = fork-grows forked r (b .grows);
+          pushed = rw (← fork-whole) (pushed-on (s .pushed) (pushed-on left-pushed (rw r at (b .pushed))));
+        }
 
 -- ---- the whole
 

@@ -18,9 +18,9 @@ use Rattle.gather.specs.declared.Writer.{Writer}
 use Rattle.gather.specs.Kept.{gathered, Space, Pushed}
 use Rattle.searching.specs.Search.{result, Extends}
 use Rattle.counting.specs.Count.{stepsFrom}
-use Rattle.deriving.specs.declared.At.{At}
-use Rattle.deriving.specs.declared.Turn.{Turn}
-use Rattle.deriving.specs.declared.Turn.the-variants.{Closed, Fork}
+use Rattle.emitting.specs.declared.At.{At}
+use Rattle.emitting.specs.declared.Turn.{Turn}
+use Rattle.emitting.specs.declared.Turn.the-variants.{Closed, Fork}
 
 -- 'an R for each false literal of the clause': of its literal l, at position p of clause k
 abbrev pub removal : List ℕ → ℕ → ℕ → ℕ → List Step
@@ -54,10 +54,10 @@ pub record Stepped (t : ℕ → Node) (n : ℕ) (goals w w′ m′ out out′ : 
   pub closes : result t n goals (gOf w′) ≡ impossible
   pub forks : (l : ℕ) → turn ≡ Fork l → move (expand t) goals (gOf w′) ≡ Split l
 
--- a search is done: its steps were pushed, and the literals held are those of the start
-pub record Noted (t : ℕ → Node) (n : ℕ) (goals w w′ m′ out out′ : List ℕ) (g g′ : Writer) : Type 0 where
+-- a search is done: its steps were pushed, and the literals of the start are still held
+pub record Emitted (t : ℕ → Node) (n : ℕ) (goals w w′ m′ out out′ : List ℕ) (g g′ : Writer) : Type 0 where
   pub holds : Holds t n goals w′ m′
-  pub back : gOf w′ ≡ gOf w
+  pub grows : Extends (gOf w) (gOf w′)
   pub pushed : Pushed (stepsFrom t n goals (gOf w)) out g out′ g′
 
 -- the search from G closes, and its steps fit a buffer from its start

@@ -23,7 +23,7 @@ use Rattle.state.specs.Work.{valueCode}
 use Rattle.moves.specs.Reason.{Reasoned}
 use Rattle.searching.proofs.Searches.{tree-conflict, tree-unit, tree-split, fuel}
 use Rattle.counting.specs.Count.{stepsFrom}
-use Rattle.deriving.specs.Trace.{removal, OnClause}
+use Rattle.emitting.specs.Trace.{removal, OnClause}
 
 -- ---- the search from G, by its next move
 
