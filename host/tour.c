@@ -20,10 +20,10 @@ static size_t add(uint8_t kind, size_t a, size_t b)
 
 int main(void)
 {
-    size_t storm = add(2, 0, 0), go_around = add(2, 1, 0);
-    size_t rule = add(5, storm, go_around);             /* a storm implies a go-around */
-    size_t both = add(3, rule, storm);                  /* the rule, and a storm */
-    size_t clash = add(3, both, go_around + 1);         /* .. and no go-around */
+    size_t storm = add(BEV_ATOM, 0, 0), go_around = add(BEV_ATOM, 1, 0);
+    size_t rule = add(BEV_IMP, storm, go_around);       /* a storm implies a go-around */
+    size_t both = add(BEV_AND, rule, storm);            /* the rule, and a storm */
+    size_t clash = add(BEV_AND, both, go_around + 1);   /* .. and no go-around */
     bev_decided d = bev_decide(table, used, both, settings, sizeof settings, work, BEV_WORK);
     printf("%s: storm %d, go-around %d\n", d.possible ? "possible" : "impossible", settings[0], settings[1]);
     d = bev_decide(table, used, clash, settings, sizeof settings, work, BEV_WORK);
@@ -31,7 +31,7 @@ int main(void)
     bev_derived steps = bev_derive(table, used, clash, work, BEV_WORK, derivation, sizeof derivation);
     for (size_t k = 0; k < steps.steps; k++) {
         bev_stepped s = bev_step(derivation, sizeof derivation, k);
-        printf("%c%u%s ", s.rule, s.value, s.rule != 'R' ? "" : s.position ? ".1" : ".0");
+        printf("%c%u%s ", s.rule, s.value, s.rule != BEV_RULE_R ? "" : s.position ? ".1" : ".0");
     }
     bev_checked c = bev_check(table, used, clash, work, BEV_WORK, derivation, sizeof derivation);
     printf("\n%s\n", c.number ? "refused" : "accepted");

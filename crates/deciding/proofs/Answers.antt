@@ -21,13 +21,13 @@ use Rattle.calculus.specs.Order.{possible, impossible, answerOf, settingOf}
 use Rattle.calculus.specs.Decide.{nodesOf, searchOf, settingsOn, Decided as Given, decide}
 use Rattle.index.specs.Index.{indexNode, Built}
 use Rattle.state.specs.Work.{gOf, Ready}
-use Rattle.deciding.specs.Search.{foundOf, Ended}
+use Rattle.searching.specs.Search.{foundOf, Searched}
 use Rattle.deciding.specs.Setting.{Points}
 use Rattle.deciding.specs.Decides.{rowsTest, Prepared, Decides}
 use Rattle.deciding.specs.declared.Decided.{Decided}
 use Rattle.deciding.specs.declared.Decided.the-variants.{Possible, Impossible, Refused}
-use Rattle.deciding.specs.declared.Found.{Found}
-use Rattle.deciding.specs.declared.Found.the-variants.{Model, Closed}
+use Rattle.searching.specs.declared.Found.{Found}
+use Rattle.searching.specs.declared.Found.the-variants.{Model, Closed}
 use Rattle.deciding.proofs.Bridge.{low, never-true, made-true}
 use Rattle.deciding.proofs.Nodes.{nodesIn, size-in, nodes-read, read, same-nodes, node-in, indexed, search-in}
 
@@ -147,7 +147,7 @@ module _ (t : List ℕ) (nodes goal : ℕ) (s w : List ℕ) (all : Bytes t) (p :
     listed = listFrom-same (indexNode x) (nodeAt t) nodes 0 (λ k a h. b .nodes k (omega arith))
 
     -- the search over the index is that over the nodes
-    module _ {w₁ w₂ m₂ : List ℕ} {r : Found} (z : gOf w₁ ≡ []) (f : Ended (indexNode x) nodes (goal ∷ []) w₁ w₂ m₂ r) where
+    module _ {w₁ w₂ m₂ : List ℕ} {r : Found} (z : gOf w₁ ≡ []) (f : Searched (indexNode x) nodes (goal ∷ []) w₁ w₂ m₂ r) where
       whole : foundOf r (gOf w₂) ≡ answerOf (searchOf rs₀ (goal ∷ []))
       whole = search-in t nodes (p .readable) (p .all) all x b goal (p .inside) z f
 

@@ -1,6 +1,5 @@
 -- Laws for the proofs of decide's functions. Assumes nothing.
 pub mod Bridge
 pub mod Nodes
-pub mod Searches
 pub mod Settings
 pub mod Answers

@@ -22,8 +22,8 @@ use Rattle.calculus.specs.Decide.{nodesOf, searchOf}
 use Rattle.index.specs.Index.{indexNode, Built}
 use Rattle.clause.specs.Indexed.{Apart, Indexed}
 use Rattle.state.specs.Work.{gOf}
-use Rattle.deciding.specs.Search.{result, foundOf, Ended}
-use Rattle.deciding.specs.declared.Found.{Found}
+use Rattle.searching.specs.Search.{result, foundOf, Searched}
+use Rattle.searching.specs.declared.Found.{Found}
 use Rattle.deciding.proofs.Bridge.{table-of, apart-of, table-same, apart-same, search-same}
 
 -- the first nodes of a table
@@ -85,7 +85,7 @@ module _ (t : List ℕ) (nodes : ℕ) (readable : tableTest t ≡ fine) (whole :
       indexed size = record { size = size; few = few; table = index-table; apart = index-apart; links = b .links; fill = b .fill }
 
       -- a search over the index, from no literals, ends on what the search over the nodes does
-      pub search-in : (goal : ℕ) {w w′ m′ : List ℕ} {r : Found} → goal < 2 * nodes → gOf w ≡ [] → Ended (indexNode x) nodes (goal ∷ []) w w′ m′ r
+      pub search-in : (goal : ℕ) {w w′ m′ : List ℕ} {r : Found} → goal < 2 * nodes → gOf w ≡ [] → Searched (indexNode x) nodes (goal ∷ []) w w′ m′ r
           → foundOf r (gOf w′) ≡ answerOf (searchOf (nodesIn t nodes) (goal ∷ []))
       search-in goal h z f =
           let n0 : nodes - 0 ≡ nodes = omega arith in

@@ -51,17 +51,17 @@ start-requires c κs =
     let s = c .before .before .before .before .before .before .before .before .before .before in
     (index (c .before .before .before .before .before), (goals-of (s .args .nodes) (s .args .goal) (s .pre .inside), (s .pre .area, search needs)))
 
-slice-aggregate-search-last : tie.Need-slice-aggregate-search-last
-slice-aggregate-search-last c = search needs
+slice-aggregate-search : tie.Need-slice-aggregate-search
+slice-aggregate-search c = search needs
 
-slice-aggregate-search-last-2 : tie.Need-slice-aggregate-search-last-2
-slice-aggregate-search-last-2 c = search needs
+slice-aggregate-search-2 : tie.Need-slice-aggregate-search-2
+slice-aggregate-search-2 c = search needs
 
-slice-aggregate-search-last-3 : tie.Need-slice-aggregate-search-last-3
-slice-aggregate-search-last-3 c = search needs
+slice-aggregate-search-3 : tie.Need-slice-aggregate-search-3
+slice-aggregate-search-3 c = search needs
 
-search-last-requires : tie.Need-search-last-requires
-search-last-requires c κs =
+search-requires : tie.Need-search-requires
+search-requires c κs =
     let s = c .before .before .before .before .before .before .before .before .before .before .before .before .before .before .before .before .before .before in
     (index (c .before .before .before .before .before .before .before .before .before .before .before .before .before), (goals-of (s .args .nodes) (s .args .goal) (s .pre .inside), c .before .before .before .before .before .before .before .start .ensures .0))
 
@@ -78,7 +78,7 @@ set-points-requires : tie.Need-set-points-requires
 set-points-requires c κs =
     let s = c .before .before .before .before .before .before .before .before .before .before .before .before .before .before .before .before .before .before .before .before .before .before .before .before .before .before .before in
     let x = c .before .before .before .before .before .before .before .before .before .before .before .before .before .before .before .before .before .before .before .before .before .before in
-    pointed (s .args .t .now) (s .args .nodes) (s .args .goal) (s .args .settings .now) (s .args .work .now) (bytes (c .before .before .before .before .before .before .before .before .before .before .before .before .before .before .before .before .before .before .before .before .before .before .before .before .before .before)) (s .pre) (x .build .last .1 .1 .0) (size x) (x .build .ensures) (c .before .before .before .before .before .before .before .before .search-last .ensures .holds .ready)
+    pointed (s .args .t .now) (s .args .nodes) (s .args .goal) (s .args .settings .now) (s .args .work .now) (bytes (c .before .before .before .before .before .before .before .before .before .before .before .before .before .before .before .before .before .before .before .before .before .before .before .before .before .before)) (s .pre) (x .build .last .1 .1 .0) (size x) (x .build .ensures) (c .before .before .before .before .before .before .before .before .search .ensures .holds .ready)
 
 same-length : tie.Need-same-length
 same-length c = search needs
@@ -88,7 +88,7 @@ returns c =
     let s = c .before .before .before .before .before .before .before .before .before .before .before .before .before .before .before .before .before .before .before .before .before .before .before .before in
     let x = c .before .before .before .before .before .before .before .before .before .before .before .before .before .before .before .before .before .before .before in
     ends-closed (s .args .t .now) (s .args .nodes) (s .args .goal) (s .args .settings .now) (s .args .work .now) (bytes (c .before .before .before .before .before .before .before .before .before .before .before .before .before .before .before .before .before .before .before .before .before .before .before)) (s .pre) (x .build .last .1 .1 .0) (size x) (x .build .ensures)
-    (c .before .before .before .before .before .before .before .before .before .before .before .before .before .start .ensures .1) (c .before .before .before .before .before .search-last .ensures) (c .enum-told .given .1)
+    (c .before .before .before .before .before .before .before .before .before .before .before .before .before .start .ensures .1) (c .before .before .before .before .before .search .ensures) (c .enum-told .given .1)
 
 same-length-2 : tie.Need-same-length-2
 same-length-2 c = search needs
@@ -101,7 +101,7 @@ returns-2 c =
     let s = c .before .before .before .before .before .before .before .before .before .before .before .before .before .before .before .before .before .before .before .before .before .before .before .before .before .before .before .before .before .before in
     let x = c .before .before .before .before .before .before .before .before .before .before .before .before .before .before .before .before .before .before .before .before .before .before .before .before .before in
     ends-model (s .args .t .now) (s .args .nodes) (s .args .goal) (s .args .settings .now) (s .args .work .now) (bytes (c .before .before .before .before .before .before .before .before .before .before .before .before .before .before .before .before .before .before .before .before .before .before .before .before .before .before .before .before .before)) (s .pre) (x .build .last .1 .1 .0) (size x) (x .build .ensures)
-    (c .before .before .before .before .before .before .before .before .before .before .before .before .before .before .before .before .before .before .before .start .ensures .1) (c .before .before .before .before .before .before .before .before .before .before .before .search-last .ensures) (c .before .before .before .before .before .before .enum-told2 .given .1) (c .before .before .set-points .ensures)
+    (c .before .before .before .before .before .before .before .before .before .before .before .before .before .before .before .before .before .before .before .start .ensures .1) (c .before .before .before .before .before .before .before .before .before .before .before .search .ensures) (c .before .before .before .before .before .before .enum-told2 .given .1) (c .before .before .set-points .ensures)
 
 pub run-spec : {M : Type 1} → statement M
 run-spec =
@@ -114,10 +114,10 @@ run-spec =
     slice-aggregate-start-2
     slice-aggregate-start-3
     start-requires
-    slice-aggregate-search-last
-    slice-aggregate-search-last-2
-    slice-aggregate-search-last-3
-    search-last-requires
+    slice-aggregate-search
+    slice-aggregate-search-2
+    slice-aggregate-search-3
+    search-requires
     enum-told
     enum-told-2
     slice-aggregate-set-points

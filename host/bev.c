@@ -1,0 +1,179 @@
+/* bev: condition tables, their solver and its derivations, from the command line. The library answers; this reads the arguments. */
+#include "bev.h"
+#include <limits.h>
+#include <signal.h>
+#include <string.h>
+
+enum { TAKES_OUT = 1, TAKES_DOT = 2, TAKES_CLEAN = 4 };
+
+struct command {
+    const char *name;
+    const char *arguments;
+    const char *summary;
+    const char *help;
+    int (*run)(const struct words *);
+    int least, most; /* words */
+    int options;
+};
+
+static const struct command commands[] = {
+    { "list", "TABLE", "each node, and whether it can be yes and can be no",
+      "The same bytes as the proved program listing writes: a heading, and a line a node.\n"
+      "A refused table is the one line `refused N at P`; its meaning goes to standard error.\n",
+      run_list, 1, 1, 0 },
+    { "show", "[--dot] TABLE", "each record, and what it says",
+      "A line a node: its number, its record, and what it says in words of its operands.\n"
+      "Literal 2n is node n, literal 2n + 1 its negation.\n"
+      "  --dot   a graph for Graphviz; the edge to a negated operand is dashed\n",
+      run_show, 1, 1, TAKES_DOT },
+    { "add", "TABLE RECORD ..", "adds records, prints the literal of each",
+      "A RECORD is TRUE, ATOM P, AND(A,B), OR(A,B), IMP(A,B) or IFF(A,B), with a point P and literals A, B.\n"
+      "A record that is there already is found. TABLE is made where there is none. The file is replaced\n"
+      "whole once every record is in, and stays as it was on any refusal.\n",
+      run_add, 2, INT_MAX, 0 },
+    { "eval", "TABLE LITERAL SETTINGS", "a literal's truth: yes or no",
+      "SETTINGS is a file of a byte for each of the 1,024 points, 0 no and 1 yes; what follows them is not read.\n",
+      run_eval, 3, 3, 0 },
+    { "decide", "TABLE GOAL [--out FILE]", "whether some setting makes a literal true",
+      "Prints `possible` and the setting, a line for each point that the table names, or `impossible`.\n"
+      "  --out FILE   the setting as 1,024 bytes, for eval; written where the goal is possible\n",
+      run_decide, 2, 2, TAKES_OUT },
+    { "derive", "TABLE GOAL -o FILE", "writes the derivation of an impossible goal",
+      "Prints the number of steps. A goal that is possible has none: refused 30.\n",
+      run_derive, 2, 2, TAKES_OUT },
+    { "check", "TABLE GOAL FILE", "whether a derivation shows that a goal is impossible",
+      "FILE may be by any author. Prints `accepted`, or the refusal with the step where it fails.\n",
+      run_check, 3, 3, 0 },
+    { "steps", "FILE [TABLE GOAL]", "a derivation's steps; with table and goal, why each holds",
+      "The steps on one line, R5.0 for a removal in clause 5 at position 0. With TABLE and GOAL a line a step:\n"
+      "its clause with struck literals in brackets, the literal whose expansion the clause is of, and why the\n"
+      "step holds, indented by the splits that are open. A derivation that fails is shown up to the step where\n"
+      "it does.\n",
+      run_steps, 1, 3, 0 },
+    { "dimacs", "FILE [--clean] [-o TABLE]", "decides a DIMACS file as SAT solvers do",
+      "Prints c, s and v lines. Variable v is point v - 1. Where FILE is refused by 60 or 61, a c line names\n"
+      "the line and the cause.\n"
+      "  -o TABLE   the table that was built; `c goal` names its goal for derive and check\n"
+      "  --clean    mends what the reader turns away and says what it mended: carriage returns, tabs, comments\n"
+      "             in the body, a % end, blank lines and spare spaces before the body\n",
+      run_dimacs, 1, 1, TAKES_OUT | TAKES_CLEAN },
+};
+
+enum { COMMANDS = sizeof commands / sizeof commands[0] };
+
+static const struct command *find_command(const char *name)
+{
+    for (size_t i = 0; i < COMMANDS; i++)
+        if (strcmp(commands[i].name, name) == 0)
+            return &commands[i];
+    return NULL;
+}
+
+static int print_overview(void)
+{
+    puts("usage: bev COMMAND ARGUMENT ..\n\nCondition tables over 1,024 points, their solver and its derivations.\n");
+    for (size_t i = 0; i < COMMANDS; i++)
+        printf("  %-7s%-27s%s\n", commands[i].name, commands[i].arguments, commands[i].summary);
+    puts("\n  help   COMMAND                    more about a command\n"
+         "  --version\n\n"
+         "The file name - is standard input. A refusal is printed as `refused N at P: meaning`.\n"
+         "Exit status: 10 possible, 20 impossible, 0 answered or accepted, 1 refused, 2 wrong use, input or output.");
+    return DONE;
+}
+
+static int print_help(const struct command *c)
+{
+    printf("usage: bev %s %s\n\n%s.\n\n%s", c->name, c->arguments, c->summary, c->help);
+    return DONE;
+}
+
+static int wrong_use(const struct command *c, const char *name, const char *cause)
+{
+    complain(name, cause);
+    fprintf(stderr, c ? "usage: bev %s %s\n" : "try: bev --help\n", c ? c->name : "", c ? c->arguments : "");
+    return FAILED;
+}
+
+/* Takes the option at an argument; how many arguments it has, 0 for none that the command takes. */
+static int take_option(const struct command *c, char **argument, struct words *w)
+{
+    bool out = strcmp(argument[0], "-o") == 0 || strcmp(argument[0], "--out") == 0;
+    if (out && c->options & TAKES_OUT && argument[1] && !w->out) {
+        w->out = argument[1];
+        return 2;
+    }
+    if (strcmp(argument[0], "--dot") == 0 && c->options & TAKES_DOT)
+        w->dot = true;
+    else if (strcmp(argument[0], "--clean") == 0 && c->options & TAKES_CLEAN)
+        w->clean = true;
+    else
+        return 0;
+    return 1;
+}
+
+/* Parts a command's arguments into options and words, which move to the front; NULL, or what is wrong with the argument at `at`. */
+static const char *part_arguments(const struct command *c, char **argument, struct words *w, const char **at)
+{
+    int standard = 0;
+    bool options = true;
+    for (w->word = argument; *argument;) {
+        *at = *argument;
+        if (options && strcmp(*argument, "--") == 0) {
+            options = false;
+            argument++;
+        } else if (options && argument[0][0] == '-' && argument[0][1]) {
+            int n = take_option(c, argument, w);
+            if (n == 0)
+                return "is no option here, or stands twice or without its file";
+            argument += n;
+        } else {
+            standard += strcmp(*argument, "-") == 0;
+            if (standard > 1)
+                return "standard input can be read only once";
+            w->word[w->count++] = *argument++;
+        }
+    }
+    *at = w->out;
+    return w->out && strcmp(w->out, "-") == 0 ? "the output must be a file" : NULL;
+}
+
+static int run_command(const struct command *c, char **arguments)
+{
+    struct words w = { .command = c->name };
+    const char *at = c->name;
+    for (char **a = arguments; *a; a++)
+        if (strcmp(*a, "--help") == 0)
+            return print_help(c);
+    const char *cause = part_arguments(c, arguments, &w, &at);
+    if (cause)
+        return wrong_use(c, at, cause);
+    if (w.count < c->least || w.count > c->most)
+        return wrong_use(c, c->name, w.count < c->least ? "an argument is missing" : "too many arguments");
+    return c->run(&w);
+}
+
+static int help(const char *name)
+{
+    const struct command *c = name ? find_command(name) : NULL;
+    if (name && !c)
+        return wrong_use(NULL, name, "is no command");
+    return c ? print_help(c) : print_overview();
+}
+
+static int run(char **argument)
+{
+    if (strcmp(argument[1], "--help") == 0 || strcmp(argument[1], "-h") == 0 || strcmp(argument[1], "help") == 0)
+        return help(argument[2]);
+    if (strcmp(argument[1], "--version") == 0)
+        return printf("bev %d.%d\n", BEV_VERSION_MAJOR, BEV_VERSION_MINOR) < 0 ? FAILED : DONE;
+    const struct command *c = find_command(argument[1]);
+    return c ? run_command(c, argument + 2) : wrong_use(NULL, argument[1], "is no command");
+}
+
+int main(int argc, char **argv)
+{
+    hold_standard_files();
+    signal(SIGPIPE, SIG_IGN); /* a closed pipe is a write that fails */
+    int status = argc > 1 ? run(argv) : wrong_use(NULL, "COMMAND", "is missing");
+    return status == FAILED || printed() ? status : FAILED;
+}

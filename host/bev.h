@@ -1,0 +1,112 @@
+/* What the parts of the command bev share. */
+#ifndef BEV_COMMAND_H
+#define BEV_COMMAND_H
+
+#include "../include/bevaridhom.h"
+#include <stdbool.h>
+#include <stdio.h>
+#include <sys/types.h>
+
+/* Exit status. */
+enum { DONE = 0, REFUSED = 1, FAILED = 2, POSSIBLE = 10, IMPOSSIBLE = 20 };
+
+/* A command's arguments: its words, and its options. */
+struct words {
+    const char *command;
+    char **word;
+    int count;
+    const char *out; /* -o FILE, --out FILE, or NULL */
+    bool dot;
+    bool clean;
+};
+
+/* ---- files.c ---- */
+
+/* The bytes of an input, and the file they came from. */
+struct bytes {
+    const char *name;
+    uint8_t *at;
+    size_t len;
+    bool regular;
+    dev_t device;
+    ino_t inode;
+};
+
+/* A file on its way: written beside its target, which it replaces when it is committed. */
+struct output {
+    const char *name;
+    char *target;
+    char *beside; /* NULL where the target is no regular file and is written itself */
+    int fd;
+};
+
+void hold_standard_files(void);
+int complain(const char *name, const char *cause);
+int complain_errno(const char *name);
+bool load(const char *path, size_t most, struct bytes *into);
+bool exists(const char *path);
+bool prepare(const char *path, const struct bytes *const inputs[], const uint8_t *at, size_t len, struct output *o);
+int commit(struct output *o, int status);
+bool printed(void);
+
+/* ---- refuse.c ---- */
+
+/* The arguments that a refusal may speak of: a table, a goal or record, another file. */
+struct names {
+    const char *table, *goal, *file;
+};
+
+int refuse(uint16_t number, size_t place, const struct names *of);
+int refuse_listing(uint16_t number, size_t place, const struct names *of);
+
+/* ---- records.c ---- */
+
+#define NODES_MAX 2016
+
+/* The nodes of a table. */
+struct nodes {
+    size_t count;
+    bev_node node[NODES_MAX];
+};
+
+bool load_table(const char *path, struct bytes *into);
+struct nodes *read_nodes(const struct bytes *table, const struct names *of, int *status);
+void print_record(const bev_node *n);
+const char *parse_record(const char *text, uint8_t record[BEV_RECORD]);
+bool parse_number(const char *text, size_t *number);
+
+/* ---- commands ---- */
+
+int run_list(const struct words *w);
+int run_show(const struct words *w);
+int run_add(const struct words *w);
+int run_eval(const struct words *w);
+int run_decide(const struct words *w);
+int run_derive(const struct words *w);
+int run_check(const struct words *w);
+int run_steps(const struct words *w);
+int run_dimacs(const struct words *w);
+
+/* The goal of a command: the literal that a word names, with a message where it names none. */
+bool parse_goal(const char *word, size_t *goal);
+
+/* What decide says of a goal, and the settings. Never refused by 21 or 23. */
+bev_decided decide(const struct bytes *table, size_t goal, uint8_t settings[BEV_POINTS]);
+
+/* ---- cnf.c ---- */
+
+/* What was mended in a DIMACS text, by sort. */
+struct mended {
+    size_t returns, tabs, comments, blanks, spaces, ends;
+};
+
+/* Where a DIMACS text goes wrong: the line, from 1, and the cause; line 0 where it does not. */
+struct fault {
+    size_t line;
+    char cause[120];
+};
+
+uint8_t *clean_cnf(const uint8_t *text, size_t len, size_t *cleaned, struct mended *m);
+struct fault find_fault(const uint8_t *text, size_t len);
+
+#endif

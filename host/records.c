@@ -1,0 +1,107 @@
+/* Tables and their records, read by the library and written as text: TRUE, ATOM 5, AND(0,2). */
+#include "bev.h"
+#include <errno.h>
+#include <stdlib.h>
+#include <string.h>
+
+static const char *const kind_names[] = {
+    [BEV_TRUE] = "TRUE", [BEV_ATOM] = "ATOM", [BEV_AND] = "AND", [BEV_OR] = "OR", [BEV_IMP] = "IMP", [BEV_IFF] = "IFF",
+};
+
+enum { KINDS = sizeof kind_names / sizeof kind_names[0] };
+
+/* The bytes of a table file; of a longer one as many as show that it is too long. */
+bool load_table(const char *path, struct bytes *into)
+{
+    return load(path, BEV_TABLE_MAX + 1, into);
+}
+
+/* The nodes of a table; NULL after a refusal or a message, with its status. */
+struct nodes *read_nodes(const struct bytes *table, const struct names *of, int *status)
+{
+    bev_counted c = bev_count(table->at, table->len);
+    if (c.number) {
+        *status = refuse(c.number, c.place, of);
+        return NULL;
+    }
+    struct nodes *nodes = malloc(sizeof *nodes);
+    if (!nodes) {
+        *status = complain_errno(of->table);
+        return NULL;
+    }
+    nodes->count = c.nodes;
+    for (size_t n = 0; n < c.nodes; n++)
+        nodes->node[n] = bev_record(table->at, table->len, 2 * n);
+    return nodes;
+}
+
+void print_record(const bev_node *n)
+{
+    fputs(kind_names[n->kind], stdout);
+    if (n->kind == BEV_ATOM)
+        printf(" %u", n->a);
+    else if (n->kind != BEV_TRUE)
+        printf("(%u,%u)", n->a, n->b);
+}
+
+/* The number that digits name, up to `most`; where they end, or NULL. */
+static const char *parse_digits(const char *text, size_t most, size_t *number)
+{
+    const char *start = text;
+    for (*number = 0; *text >= '0' && *text <= '9'; text++) {
+        size_t digit = (size_t)(*text - '0');
+        if (*number > (most - digit) / 10)
+            return NULL;
+        *number = 10 * *number + digit;
+    }
+    return text > start ? text : NULL;
+}
+
+bool parse_number(const char *text, size_t *number)
+{
+    const char *end = parse_digits(text, SIZE_MAX, number);
+    return end && *end == '\0';
+}
+
+/* The kind whose name a text starts with, where a character of `ends` or the end follows; 0 for none. */
+static uint8_t parse_kind(const char *text, size_t *len)
+{
+    *len = strspn(text, "ABCDEFGHIJKLMNOPQRSTUVWXYZ");
+    for (uint8_t k = BEV_TRUE; k < KINDS; k++)
+        if (strlen(kind_names[k]) == *len && memcmp(kind_names[k], text, *len) == 0)
+            return k;
+    return 0;
+}
+
+/* The fields of `(a,b)`; where they end, or NULL. A space may follow the comma. */
+static const char *parse_operands(const char *text, size_t *a, size_t *b)
+{
+    text = *text == '(' ? parse_digits(text + 1, UINT16_MAX, a) : NULL;
+    if (!text || *text != ',')
+        return NULL;
+    text = parse_digits(text + 1 + (text[1] == ' '), UINT16_MAX, b);
+    return text && *text == ')' ? text + 1 : NULL;
+}
+
+/* The 8 bytes of a record written as text; NULL, or why it is no record. */
+const char *parse_record(const char *text, uint8_t record[BEV_RECORD])
+{
+    size_t a = 0, b = 0, len;
+    uint8_t kind = parse_kind(text, &len);
+    if (!kind)
+        return "is no record: it starts with none of TRUE, ATOM, AND, OR, IMP, IFF";
+    const char *rest = text + len;
+    if (kind == BEV_ATOM)
+        rest = *rest == ' ' ? parse_digits(rest + 1, UINT16_MAX, &a) : NULL;
+    else if (kind != BEV_TRUE)
+        rest = parse_operands(rest, &a, &b);
+    if (!rest || *rest)
+        return "is no record: they are written TRUE, ATOM 5, AND(0,2), with numbers up to 65,535";
+    memset(record, 0, BEV_RECORD);
+    record[0] = kind;
+    record[2] = (uint8_t)a;
+    record[3] = (uint8_t)(a >> 8);
+    record[4] = (uint8_t)b;
+    record[5] = (uint8_t)(b >> 8);
+    return NULL;
+}

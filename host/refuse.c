@@ -1,0 +1,39 @@
+/* The one place where a refusal is printed. */
+#include "bev.h"
+#include "refusals.h"
+#include <string.h>
+
+static const struct refusal *find(uint16_t number)
+{
+    static const struct refusal unknown = { 0, ABOUT_TABLE, "a refusal that this command does not know", "0", "" };
+    for (size_t i = 0; i < sizeof refusals / sizeof refusals[0]; i++)
+        if (refusals[i].number == number)
+            return &refusals[i];
+    return &unknown;
+}
+
+static const char *subject(const struct refusal *r, const struct names *of)
+{
+    const char *name = r->about == ABOUT_GOAL ? of->goal : r->about == ABOUT_FILE ? of->file : of->table;
+    return strcmp(name, "-") == 0 ? "standard input" : name;
+}
+
+/* Prints a refusal with its meaning, and of which argument it speaks. */
+int refuse(uint16_t number, size_t place, const struct names *of)
+{
+    const struct refusal *r = find(number);
+    printf("refused %u at %zu: %s (%s", number, place, r->meaning, subject(r, of));
+    if (strcmp(r->place, "0") != 0)
+        printf(", %s %zu", r->place, place);
+    puts(")");
+    return REFUSED;
+}
+
+/* Prints a refusal as the proved listing does, and its meaning to the side. */
+int refuse_listing(uint16_t number, size_t place, const struct names *of)
+{
+    const struct refusal *r = find(number);
+    printf("refused %u at %zu\n", number, place);
+    complain(subject(r, of), r->meaning);
+    return REFUSED;
+}

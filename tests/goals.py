@@ -1,0 +1,214 @@
+"""bev decide, derive, check and steps on made tables: the answers against truth tables by brute force, the solver's order and the
+derivation rules in plain Python, and every refusal that a file or a goal can meet."""
+import os
+import random
+import re
+
+from command import ANSWERED, IMPOSSIBLE, POSSIBLE, REFUSED, get, put
+from tables import A, ATOM, TRUE, by_truth_table, checked, derivation, edited, expansion, full_table, parity, search, some_table, table, truths, yes_points
+
+def decision(records, goal, answers=None):
+    """Status, output and settings that decide gives."""
+    model, _ = search(records, goal)
+    if answers:
+        assert (model is not None) == answers[goal // 2][goal % 2], "the order differs from the truth table"
+    if model is None:
+        return IMPOSSIBLE, "impossible\n", None
+    yes = set(yes_points(records, model))
+    assert truths(records, yes)[goal // 2] != (goal % 2 == 1)
+    points = sorted(a for kind, a, _ in records if kind == ATOM)
+    return POSSIBLE, "possible\n" + "".join(f"{'yes' if p in yes else 'no'} {p}\n" for p in points), bytes(p in yes for p in range(1024))
+
+def deciding(bev, folder, rounds):
+    name, out = os.path.join(folder, "t"), os.path.join(folder, "s")
+    rng = random.Random(2)
+    for records in [A, [(TRUE, 0, 0)], [(ATOM, 1023, 0)]] + [some_table(rng, 2 + i % 6, 10 + i) for i in range(rounds)]:
+        put(name, table(records))
+        answers = by_truth_table(records)
+        for goal in range(2 * len(records)):
+            status, text, settings = decision(records, goal, answers)
+            put(out, b"old")
+            bev.answers(status, text, "decide", name, goal, "--out", out)
+            if get(out) != (settings or b"old"):
+                bev.wrong(("decide", goal), "wrong settings", settings)
+            if settings:
+                bev.answers(ANSWERED, "yes\n", "eval", name, goal, out)
+                bev.answers(ANSWERED, "no\n", "eval", name, goal ^ 1, out)
+        for goal in (2 * len(records), 4096, 2 ** 64 - 1):
+            bev.refuses(20, 0, "decide", name, goal, about=goal)
+    records, _ = full_table()
+    put(name, table(records))
+    for goal in (0, 1, 7, 8, 4030, 4031):
+        bev.answers(*decision(records, goal)[:2], "decide", name, goal)
+    bev.answers(*decision(records, 7)[:2], "decide", name, "007")
+    bev.answers(*decision(records, 7)[:2], "decide", "-", "7", stdin=table(records))
+    for data in (b"", table(A)[:511], table(records) + bytes(512), bytes(100000)):
+        put(name, data)
+        bev.refuses(10, 0, "decide", name, 0, about=name)
+    put(name, table(A + [A[3]]))
+    bev.refuses(17, 10, "decide", name, 99, about=f"{name}, node 10")
+
+def evaluating(bev, folder):
+    name, out = os.path.join(folder, "t"), os.path.join(folder, "s")
+    put(name, table(A))
+    for word in range(4):
+        yes = {p for p in range(2) if word >> p & 1}
+        settings = bytes(p in yes for p in range(1024))
+        for data in (settings, settings + b"\x07more"):
+            put(out, data)
+            for literal in range(2 * len(A)):
+                truth = truths(A, yes)[literal // 2] != (literal % 2 == 1)
+                bev.answers(ANSWERED, "yes\n" if truth else "no\n", "eval", name, literal, out)
+    bev.answers(ANSWERED, "no\n", "eval", name, 0, "-", stdin=bytes(1024))
+    bev.refuses(20, 0, "eval", name, 20, out, about=20)
+    for data, number, place in ((b"", 21, 0), (bytes(1023), 21, 0), (bytes(500) + b"\xff" + bytes(523), 22, 500), (bytes(1023) + b"\xff", 22, 1023)):
+        put(out, data)
+        bev.refuses(number, place, "eval", name, 0, out, about=out)
+
+def text(step):
+    rule, position, value = step
+    return f"{rule}{value}" + (f".{position}" if rule == "R" else "")
+
+def explained(records, goal, steps):
+    """What stands before the colon in each line of the steps explained: the indent, the step, and its clause."""
+    held, struck, waiting, lines = [], set(), [], []
+    for rule, p, k in steps:
+        clauses = [([goal], "the goal")] + [(c, f"of {l}") for l in held for c in expansion(records, l)]
+        start = "  " * len(waiting) + text((rule, p, k))
+        if rule == "S":
+            lines.append(f"{start} {k} is undecided")
+            waiting.append((held + [k ^ 1], set(struck)))
+            held = held + [k]
+            continue
+        clause, source = clauses[k]
+        lines.append(start + " {" + ", ".join(f"[{l}]" if (k, q) in struck else str(l) for q, l in enumerate(clause)) + "}, " + source)
+        if rule == "U":
+            held = held + [next(l for q, l in enumerate(clause) if (k, q) not in struck)]
+        elif rule == "R":
+            struck = struck | {(k, p)}
+        elif rule == "C" and waiting:
+            held, struck = waiting.pop()
+    return lines
+
+def spoiled(rng, steps, nodes):
+    """Steps with one left out, doubled, exchanged, or changed."""
+    steps, i = list(steps), rng.randrange(len(steps))
+    way = rng.randrange(5)
+    if way == 0:
+        del steps[i]
+    elif way == 1:
+        steps.insert(i, steps[i])
+    elif way == 2:
+        j = rng.randrange(len(steps))
+        steps[i], steps[j] = steps[j], steps[i]
+    elif way == 3:
+        rule = rng.choice("URECS")
+        steps[i] = (rule, rng.randrange(2) if rule == "R" else 0, rng.choice([steps[i][2], rng.randrange(2 * nodes), 65535]))
+    else:
+        steps.append(rng.choice(steps))
+    return steps
+
+def says(bev, verdict, *words, about):
+    if verdict:
+        bev.refuses(*verdict, *words, about=about)
+    else:
+        bev.answers(ANSWERED, "accepted\n", *words)
+
+def explains(bev, records, goal, steps, t, d):
+    """Both forms of bev steps, for steps that check accepts up to some place."""
+    bev.answers(ANSWERED, " ".join(map(text, steps)) + "\n", "steps", d)
+    verdict = checked(records, goal, steps)
+    status, out, err = bev.run("steps", d, t, goal)
+    good = explained(records, goal, steps[:verdict[1]] if verdict else steps)
+    lines = out.split("\n")[:-1]
+    if verdict:
+        last = lines.pop()
+        shown = lines.pop() if verdict[0] != 47 else "may not stand here"
+        if status != REFUSED or not last.startswith("refused %d at %d: " % verdict) or not shown.endswith("may not stand here"):
+            bev.wrong(("steps", goal), (status, out), verdict)
+    elif status != ANSWERED:
+        bev.wrong(("steps", goal), status, ANSWERED)
+    if err or [line.split(":")[0] for line in lines] != good:
+        bev.wrong(("steps", goal), out + err, good)
+
+def checking(bev, folder, rounds):
+    t, d = os.path.join(folder, "t"), os.path.join(folder, "d")
+    rng = random.Random(3)
+    for records in [A] + [some_table(rng, 3 + i % 4, 20 + i) for i in range(rounds)]:
+        put(t, table(records))
+        for goal in range(2 * len(records)):
+            steps = search(records, goal)[1]
+            if not steps:
+                continue
+            assert checked(records, goal, steps) is None
+            for tried in [steps] + [spoiled(rng, steps, len(records)) for _ in range(4)]:
+                if tried:
+                    put(d, derivation(tried))
+                    says(bev, checked(records, goal, tried), "check", t, goal, d, about=f"{d}, step ")
+                    explains(bev, records, goal, tried, t, d)
+    forms(bev, t, d)
+
+def forms(bev, t, d):
+    """Rows 40 to 44, and the longest derivations."""
+    put(t, table(A))
+    good = derivation(search(A, 18)[1])
+    long = derivation([("S", 0, 0)] * 300)
+    for data, want in [(good + bytes(512), (42, 0)), (good[:100] + b"\1" + good[101:], (41, 0)), (long[:-2] + b"xx", (41, 2)), (b"", (40, 0)), (good[:511], (40, 0)),
+                       (good + b"x", (40, 0)), (edited(good, 0, 70), (42, 0)), (edited(good, 1, 127), (42, 0)), (edited(good, 300, 1), (43, 0)),
+                       (edited(good, 4, 84), (44, 0)), (edited(good, 5, 1), (44, 0)), (edited(good, 4 + 4 * 4 + 1, 2), (44, 4)), (edited(long, 512 * 2 + 2, 1), (42, 2)),
+                       (bytes(33554432), (42, 0)), (bytes(33554433), (40, 0)), (bytes(33554944), (40, 0))]:
+        put(d, data)
+        bev.refuses(*want, "check", t, 18, d, about=d)
+        bev.refuses(*want, "steps", d, about=d)
+        bev.refuses(*want, "steps", d, t, 18, about=d)
+    for data in (long[:512], long):
+        put(d, data)
+        bev.refuses(45, 1, "check", t, 18, d, about=f"{d}, step 1")
+    put(d, good)
+    bev.refuses(20, 0, "check", t, 20, d, about=20)
+    bev.refuses(20, 0, "steps", d, t, 20, about=20)
+    bev.answers(ANSWERED, "accepted\n", "check", t, 18, "-", stdin=good)
+    bev.answers(ANSWERED, "accepted\n", "check", "-", 18, d, stdin=table(A))
+
+def deriving(bev, folder, rounds, points):
+    t, d = os.path.join(folder, "t"), os.path.join(folder, "d")
+    rng = random.Random(4)
+    for records in [A, parity(6)] + [some_table(rng, 3 + i % 4, 20 + i) for i in range(rounds)]:
+        put(t, table(records))
+        for goal in range(2 * len(records)):
+            steps = search(records, goal)[1]
+            put(d, b"old" * 1000)
+            if steps:
+                bev.answers(ANSWERED, f"{len(steps)} steps\n", "derive", t, goal, "-o", d)
+                bev.answers(ANSWERED, "accepted\n", "check", t, goal, d)
+            else:
+                bev.refuses(30, 0, "derive", t, goal, "-o", d, about=goal)
+            if get(d) != (derivation(steps) if steps else b"old" * 1000):
+                bev.wrong(("derive", goal), "a wrong file", "the derivation")
+    bev.refuses(20, 0, "derive", t, 2 * len(records), "-o", d)
+    longest(bev, t, d, points)
+
+def longest(bev, t, d, points):
+    """The most points whose parity has a derivation of at most 65,536 blocks, and one more."""
+    for n, fits in ((points, True), (18, False)):
+        records = parity(n)
+        goal = 2 * len(records) - 2
+        put(t, table(records))
+        os.remove(d)
+        if not fits:
+            bev.refuses(31, 0, "derive", t, goal, "-o", d, about=goal)
+            if os.path.exists(d):
+                bev.wrong(("derive", goal), "a file", "none")
+            put(d, b"")
+            continue
+        status, out, _ = bev.run("derive", t, goal, "-o", d)
+        steps = int(re.fullmatch(r"(\d+) steps\n", out)[1])
+        if status != ANSWERED or os.path.getsize(d) != (steps + 125) // 126 * 512:
+            bev.wrong(("derive", goal), os.path.getsize(d), steps)
+        bev.answers(ANSWERED, "accepted\n", "check", t, goal, d)
+
+def test(bev, folder, rounds, points):
+    deciding(bev, folder, rounds)
+    evaluating(bev, folder)
+    checking(bev, folder, rounds)
+    deriving(bev, folder, rounds, points)
