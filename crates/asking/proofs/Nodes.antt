@@ -13,7 +13,7 @@ use Rattle.scope.specs.Calls.{tableCount, noNode}
 use Rattle.scope.proofs.Lists.{length-listFrom, getD-listFrom}
 use Rattle.codec.specs.Valid.{Bytes}
 use Rattle.codec.proofs.Tables.{few-records}
-use Rattle.repeats.specs.Chains.{placeOf}
+use Rattle.record.specs.Place.{placeOf}
 use Rattle.table.proofs.Rows.{counted, record-within}
 use Rattle.calculus.specs.Expansion.{expand}
 use Rattle.calculus.specs.Order.{tree}

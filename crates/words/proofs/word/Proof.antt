@@ -1,10 +1,8 @@
 use Prim.Native.Nat.{_+_}
 use native.Mathlib.Omega.{arith}
 use borrow.Author.Needs.{needs}
-use Rattle.checksum.proofs.word.Statement.{statement}
-use Rattle.checksum.proofs.word.Tie as tie
-use Rattle.checksum.proofs.word.Reads as reads
-use Rattle.checksum.proofs.word.Lts as lts
+use Rattle.words.proofs.word.Statement.{statement}
+use Rattle.words.proofs.word.Tie as tie
 
 -- src/lib.rt:38:6
 shared-slice-read-result : tie.Need-shared-slice-read-result

@@ -1,10 +1,10 @@
 -- Laws of the count of the numbers that pass a test. Assumes nothing.
-use mathlib.Core.Path.{_≡_, refl, ap, _∙_}
+use mathlib.Core.Path.{_≡_, refl, ap}
 use mathlib.Core.Bool.{Bool, true, false}
 use Prim.Native.Nat.{ℕ, zero, suc, _+_, _<_, _≤_}
 use native.Mathlib.Omega.{arith}
 use native.Mathlib.Decide.{ℕ-discrete}
-use Rattle.scope.specs.Count.{one, tally}
+use Rattle.calculus.specs.Count.{one, tally}
 
 -- tests that agree give one count
 pub tally-same : (p q : ℕ → Bool) (m : ℕ) → ((j : ℕ) → j < m → p j ≡ q j) → tally p m ≡ tally q m
@@ -49,20 +49,6 @@ pub tally-most : (p : ℕ → Bool) (m : ℕ) → tally p m ≤ m
 unfolding tally
 tally-most p zero = omega arith
 tally-most p (suc m) = omega (arith, one-most (p m), tally-most p m)
-
--- a number that passes is counted
-pub tally-some : (p : ℕ → Bool) (m k : ℕ) → k < m → p k ≡ true → 0 < tally p m
-unfolding tally
-tally-some p zero k h e = absurd (omega arith)
-tally-some p (suc m) k h e = go (ℕ-discrete m k) (tally-some p m k)
-  where
-    go : Dec (m ≡ k) → (k < m → p k ≡ true → 0 < tally p m) → 0 < one (p m) + tally p m
-    go (yes q) r =
-        let a : one (p m) ≡ 1 = ap (λ (x : ℕ). one (p x)) q ∙ ap one e in
-        omega (arith, a)
-    go (no q) r =
-        let b = r (omega (arith, q)) e in
-        omega (arith, b)
 
 -- all pass, or none does
 pub tally-all : (p : ℕ → Bool) (m : ℕ) → ((j : ℕ) → j < m → p j ≡ true) → tally p m ≡ m
