@@ -1,12 +1,12 @@
 -- The used part of a buffer, and the parts of it that are lent and come back. Assumes nothing.
-use mathlib.Core.Path.{_≡_, _∙_, ap, sym, refl}
-use mathlib.Core.List.{List, _∷_, _++_}
+use mathlib.Core.Path.{_≡_, _∙_, sym}
+use mathlib.Core.List.{List, _++_}
 use Prim.Native.Nat.{ℕ, _+_, _-_, _<_, _≤_}
 use native.Mathlib.Omega.{arith}
-use lib.ListN.{length, take, drop, getD, length-take}
+use lib.ListN.{length, take, drop, getD}
 use lib.Seq.{length-take-le, drop-drop, getD-take, getD-drop}
-use borrow.Rule.Slice.PartMut.{midOf, postOf, putMid}
-use borrow.Author.Tests.{eq-eqb, ne-eqb}
+use borrow.Rule.Slice.PartMut.{midOf, putMid}
+use borrow.Author.Tests.{ne-eqb}
 use Rattle.scope.specs.Outcome.{answer}
 use Rattle.scope.specs.Calls.{decodeUsed, tableCount}
 use Rattle.adding.specs.Added.{usedCount}

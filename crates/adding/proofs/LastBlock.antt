@@ -1,9 +1,9 @@
 -- The last block of the used part of a buffer, with one record more: the table with its node more. Assumes nothing.
-use mathlib.Core.Path.{_≡_, _∙_, ap, sym, refl}
+use mathlib.Core.Path.{_≡_, _∙_, ap, sym}
 use mathlib.Core.List.{List, [], _∷_, _++_, append-assoc}
 use Prim.Native.Nat.{ℕ, _+_, _-_, _*_, _/_, _%_, _<_, _≤_}
 use native.Mathlib.Omega.{arith}
-use lib.ListN.{length, take, drop, getD, length-take}
+use lib.ListN.{length, take, drop, getD}
 use lib.Seq.{length-take-le, take-take, drop-at, getD-take, getD-drop}
 use lib.Dec.{lit<}
 use Rattle.scope.specs.declared.Node.{Node}

@@ -1,5 +1,5 @@
 -- Where `add_node` ends: the node found, 51, 52, the last block grown, a new block. Assumes nothing.
-use mathlib.Core.Path.{_≡_, _∙_, ap, sym, refl}
+use mathlib.Core.Path.{_≡_, _∙_, ap, sym}
 use mathlib.Core.List.{List, [], _∷_, _++_, append-assoc}
 use Prim.Native.Nat.{ℕ, _+_, _-_, _*_, _/_, _%_, _<_, _≤_}
 use native.Mathlib.Omega.{arith}
@@ -18,7 +18,7 @@ use Rattle.codec.proofs.Tables.{length-encode}
 use Rattle.codec.proofs.Grows.{table-new-block}
 use Rattle.codec.proofs.Adds.{more}
 use Rattle.writer.specs.Grown.{grown}
-use Rattle.repeats.specs.Chains.{placeOf}
+use Rattle.record.specs.Place.{placeOf}
 use Rattle.adding.specs.declared.Added.the-variants.{At, Refused}
 use Rattle.adding.specs.Added.{usedNodes, Ready, AddsTo}
 use Rattle.adding.proofs.LastBlock.{count-low, grown-table}

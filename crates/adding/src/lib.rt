@@ -1,7 +1,7 @@
 // The builder: adds a record to a table, or finds the one that is already there.
 ghost use mathlib.Core.Path.{_≡_};
 ghost use mathlib.Core.List.{_++_};
-ghost use Prim.Native.Nat.{ℕ, _+_, _*_, _-_, _/_, _%_, _<_, _≤_};
+ghost use Prim.Native.Nat.{_+_, _*_, _-_, _<_, _≤_};
 ghost use lib.ListN.{length, take, drop, getD};
 ghost use Rattle.scope.specs.Block.{blockOf};
 ghost use Rattle.scope.specs.Table.{nodeBytes};

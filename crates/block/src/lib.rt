@@ -1,7 +1,6 @@
 // The tests of a block, shared by tables and derivations: check, heading, padding.
 ghost use mathlib.Core.Path.{_≡_};
-ghost use mathlib.Core.Bool.{Bool};
-ghost use Prim.Native.Nat.{_+_, _*_, _-_, _<_, _≤_};
+ghost use Prim.Native.Nat.{_-_, _≤_};
 ghost use lib.ListN.{length};
 ghost use Rattle.scope.specs.Outcome.{verdictOf};
 ghost use Rattle.scope.specs.Block.{checkOk, headOk, zeros, blockTest};
@@ -16,7 +15,7 @@ fn check_ok(b: &[u8]) -> bool
     ensures { λ r. ⌜ r ≡ checkOk (now (b .entry)) ⌝ }
 {
     let c = checksum::check_of(b);
-    let d = checksum::word(b, 510);
+    let d = words::word(b, 510);
     c == d
 }
 
@@ -28,7 +27,7 @@ fn head_ok(b: &[u8], index: usize, last: bool, format: Format) -> bool
     if b[0] != format.letter {
         return false;
     }
-    let stated = checksum::word(b, 2);
+    let stated = words::word(b, 2);
     if (stated as usize) != index {
         return false;
     }

@@ -7,9 +7,9 @@ use native.Mathlib.Omega.{arith}
 use lib.Dec.{eqb}
 use lib.ListN.{length}
 use borrow.Author.Tests.{eqb-false}
-use Rattle.scope.specs.Count.{tally}
+use Rattle.calculus.specs.Count.{tally}
 use Rattle.scope.proofs.Tests.{or-left, or-right}
-use Rattle.scope.proofs.Tally.{tally-less, tally-all}
+use Rattle.calculus.proofs.Tally.{tally-less, tally-all}
 use Rattle.calculus.specs.Expansion.{neg}
 use Rattle.calculus.specs.Order.{mem}
 use Rattle.calculus.specs.Model.{Fresh, Good}

@@ -1,6 +1,7 @@
 -- The theory of the search: what its moves say, that it ends, and that its answers are right. Assumes nothing.
 pub mod Lists
 pub mod Literals
+pub mod Tally
 pub mod Count
 pub mod Sizes
 pub mod Moves
@@ -11,3 +12,4 @@ pub mod Truth
 pub mod Sound
 pub mod Complete
 pub mod Setting
+pub mod Asked

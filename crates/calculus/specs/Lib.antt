@@ -3,4 +3,4 @@ pub mod Expansion
 pub mod Order
 pub mod Model
 pub mod Decide
-pub mod Samples
+pub mod Count

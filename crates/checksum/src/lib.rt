@@ -1,8 +1,8 @@
-// The check of a block, and the 16-bit numbers in it.
+// The check of a block.
 ghost use mathlib.Core.Path.{_≡_};
 ghost use Prim.Native.Nat.{_+_, _≤_};
 ghost use lib.ListN.{length};
-ghost use Rattle.scope.specs.Block.{wordAt, weight, weighted, checkOf};
+ghost use Rattle.scope.specs.Block.{weight, weighted, checkOf};
 ghost use Rattle.scope.specs.Table.{listFrom};
 
 // The weights of bytes 0 to 509: 1, and each next one is 3 times the one before, modulo 65,521.
@@ -518,14 +518,6 @@ const WEIGHTS: [u16; 510] = [
     18534,
     55602,
 ];
-
-// The 16-bit number at a position, low byte first.
-pub fn word(b: &[u8], at: usize) -> u16
-    requires { ⌜ at + 2 ≤ length (now b) ⌝ }
-    ensures { λ r. ⌜ r ≡ wordAt (now (b .entry)) at ⌝ }
-{
-    (b[at] as u16) + 256 * (b[at + 1] as u16)
-}
 
 // The weighed sum of 255 bytes from a position on, which is below 2 ^ 32.
 fn half(b: &[u8], w: &[u16], from: usize) -> u32

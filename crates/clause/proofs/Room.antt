@@ -7,9 +7,9 @@ use native.Mathlib.Omega.{arith}
 use native.Mathlib.Decide.{ℕ-discrete}
 use lib.Dec.{eqb, ltb}
 use borrow.Author.Tests.{eqb-true, ne-eqb}
-use Rattle.scope.specs.Count.{one, tally}
+use Rattle.calculus.specs.Count.{one, tally}
 use Rattle.scope.specs.declared.Node.{Node}
-use Rattle.scope.proofs.Tally.{tally-most, tally-none}
+use Rattle.calculus.proofs.Tally.{tally-most, tally-none}
 use Rattle.calculus.specs.Expansion.{neg}
 use Rattle.calculus.specs.Order.{mem}
 use Rattle.calculus.specs.Model.{All, Good}

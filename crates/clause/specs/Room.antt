@@ -2,7 +2,7 @@
 use mathlib.Core.List.{List, [], _∷_}
 use Prim.Native.Nat.{ℕ, _+_, _*_, _/_}
 use lib.Dec.{eqb}
-use Rattle.scope.specs.Count.{tally}
+use Rattle.calculus.specs.Count.{tally}
 use Rattle.scope.specs.declared.Node.{Node}
 use Rattle.index.specs.Index.{opNode}
 

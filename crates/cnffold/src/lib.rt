@@ -1,7 +1,7 @@
 // The records of a DIMACS file's table, added one after another: points, false, a clause's ORs, the ANDs.
 ghost use mathlib.Core.Path.{_≡_};
 ghost use Prim.Native.Nat.{_<_, _≤_};
-ghost use lib.ListN.{length, take};
+ghost use lib.ListN.{take};
 ghost use Rattle.cnf.specs.Fold.{opposite, put, points, no-literal, orClause, andJoin, empty};
 ghost use Rattle.cnffold.specs.Built.{state, Built, Small};
 use adding::Added;

@@ -1,6 +1,6 @@
 // The reader of DIMACS files: the text is tested whole, then its table is built in a buffer, clause by clause.
 ghost use mathlib.Core.Path.{_≡_};
-ghost use Prim.Native.Nat.{ℕ, _-_, _<_, _≤_};
+ghost use Prim.Native.Nat.{ℕ, _<_};
 ghost use lib.ListN.{length, drop};
 ghost use Rattle.cnf.specs.Fold.{andAll, goalOf, build};
 ghost use Rattle.cnftext.specs.Scanned.{clausesIn, Body};

@@ -1,7 +1,6 @@
 // The text of a DIMACS file, tested and not kept: comments, the heading, and whether the body's clauses are as many as it says.
 ghost use mathlib.Core.Path.{_≡_};
-ghost use mathlib.Core.List.{List, [], _∷_};
-ghost use Prim.Native.Nat.{ℕ, _≤_, _<_};
+ghost use Prim.Native.Nat.{_≤_};
 ghost use lib.ListN.{length, drop};
 ghost use Rattle.cnf.specs.Text.{startsWith};
 ghost use Rattle.cnftext.specs.Scanned.{Passed, Digits, Counts, Heads, Tallies, turnedAway, Scans};

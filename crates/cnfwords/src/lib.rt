@@ -1,9 +1,8 @@
 // The words of a DIMACS text's body, one after another: each is 0, a literal, or malformed.
 ghost use mathlib.Core.Path.{_≡_};
-ghost use mathlib.Core.List.{[], _∷_};
 ghost use Prim.Native.Nat.{_≤_, _<_};
-ghost use lib.ListN.{length, drop};
-ghost use Rattle.cnf.specs.Text.{digit, separator, words, wordOf};
+ghost use lib.ListN.{length};
+ghost use Rattle.cnf.specs.Text.{digit, separator, wordOf};
 ghost use Rattle.cnfwords.specs.Words.{numberOf, said, Skipped, Parted, TokenAt};
 use cnf::Word;
 

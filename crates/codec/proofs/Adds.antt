@@ -1,5 +1,6 @@
--- Add: the table reads back with the node in it (`add-reads-back`), the same record again answers the same (`add-again`), and
--- the records of a readable table, added in turn, rebuild it byte for byte (`rebuilds`). Assumes nothing.
+-- Add: the table reads back with the node in it (`add-reads-back`), so does a list of adds (`adds-read-back`), the same record again
+-- answers the same (`add-again`), and the records of a readable table, added in turn, rebuild it byte for byte, node n answering 2n
+-- (`rebuilds`). Assumes nothing.
 use mathlib.Core.Path.{_≡_, _∙_, ap, sym, refl, subst}
 use mathlib.Core.List.{List, [], _∷_, _++_, append-assoc, append-nil, map}
 use mathlib.Core.Bool.{true}
@@ -11,16 +12,16 @@ use lib.Seq.{getD-append-seam}
 use borrow.Author.Tests.{leb-true, ltb-true, ltb-false, le-leb, lt-ltb, le-ltb}
 use Rattle.scope.specs.declared.Node.{Node}
 use Rattle.scope.specs.Outcome.{Outcome, answer, require, _>>_, _>>=_}
-use Rattle.scope.specs.Table.{nodeBytes, nodeOf, readRecord, orderOk, decode, encode}
+use Rattle.scope.specs.Table.{nodeBytes, nodeOf, readRecord, orderOk, listFrom, decode, encode}
 use Rattle.scope.specs.Calls.{noNode, decodeUsed, exchanged, indexOf, Added, written, addNew, addNode, add}
 use Rattle.scope.proofs.Tests.{bound}
-use Rattle.codec.specs.Valid.{Bytes, Valid, ReadsBack, addAll}
+use Rattle.codec.specs.Valid.{Bytes, Valid, withNode, ReadsBack, Built, andThen, addAll, Records, nodeGiven, withAll, AllBack}
 use Rattle.codec.proofs.Rows.{row, by-test}
 use Rattle.codec.proofs.Bytes.{bytes-append, bytes-drop, bytes-take}
 use Rattle.codec.proofs.Records.{nodeOf-bytes, reads, record-bytes, later}
 use Rattle.codec.proofs.Tables.{read-encodes, read-valid, length-encode, encode-reads, encode-bytes}
-use Rattle.codec.proofs.Nodes.{index-none, index-last, index-at, valid-more, valid-front, with-found, with-more}
-use Rattle.codec.proofs.Used.{encode-none, used-reads, used-encodes, encode-used, written-used, written-beyond, written-length, written-over}
+use Rattle.codec.proofs.Nodes.{index-none, index-last, index-at, valid-more, valid-front, with-found, with-more, with-in, all-keep}
+use Rattle.codec.proofs.Used.{encode-none, used-reads, table-used, used-encodes, encode-used, written-used, written-beyond, written-length, written-over}
 use Rattle.codec.proofs.Exchanges.{exchanged-length, exchanged-bytes, in-order}
 
 -- the node that add answers has its operands in the fixed order
@@ -169,6 +170,27 @@ module _ (buf : List ℕ) (used : ℕ) (r : List ℕ) (all : Bytes buf) (eight :
       (omega (arith, index-last x rs new))
       ∙ rw (index-last x rs new)))
 
+-- a list of adds: the table reads back with their nodes, each once, and every answer is the literal of its node
+pub adds-read-back : (given : List (List ℕ)) (buf : List ℕ) (used : ℕ) (rs : List Node) (b : Built) → Bytes buf → Records given
+    → decodeUsed (take used buf) ≡ answer rs → addAll buf used given ≡ answer b → AllBack rs given b
+unfolding addAll withAll
+adds-read-back [] buf used rs b all eight d e =
+    let q : record { literals = []; used = used; bytes = buf } ≡ b = cc in
+    rw (← q) (record { table = d; literals = refl })
+adds-read-back (r ∷ given) buf used rs b all eight d e =
+    let (out, a, rest) = bound (add buf used r) (λ out. addAll (out .bytes) (out .used) given >>= λ b. answer (andThen out b)) e in
+    let (last, ls, q) = bound (addAll (out .bytes) (out .used) given) (λ b. answer (andThen out b)) rest in
+    let (x, node, back) = add-reads-back buf used r all (eight .0) (eight .1) rs out d a in
+    let is : nodeGiven r ≡ x = reads (exchanged r) (length rs) node .node in
+    let bytes = add-bytes buf used r all (eight .0) (eight .1) out a in
+    let now : decodeUsed (take (out .used) (out .bytes)) ≡ answer (withNode rs (nodeGiven r)) =
+    rw is (table-used (take (out .used) (out .bytes)) (withNode rs x) (bytes-take (out .used) (out .bytes) bytes) (back .table)) in
+    let more = adds-read-back given (out .bytes) (out .used) (withNode rs (nodeGiven r)) last bytes (eight .2) now ls in
+    let stays = all-keep given (withNode rs (nodeGiven r)) (nodeGiven r) (with-in rs (nodeGiven r)) in
+    let first : out .literal ≡ 2 * indexOf (nodeGiven r) (withAll (withNode rs (nodeGiven r)) given) = rw (stays, is) (back .literal) in
+    let p : andThen out last ≡ b = cc in
+    rw (← p) (record { table = more .table; literals = λ i. first i ∷ more .literals i })
+
 -- rebuilding
 module _ (o : List ℕ) where
   -- one record of valid nodes, added to those before it
@@ -192,8 +214,12 @@ module _ (o : List ℕ) where
       (omega (arith, written-length (encode ps) o less))
 
   rebuild : (qs ps : List Node) → Valid (ps ++ qs) → length (encode (ps ++ qs)) ≤ length o
-      → addAll (written (encode ps) o) (length (encode ps)) (map nodeBytes qs) ≡ answer (record { used = length (encode (ps ++ qs)); bytes = written (encode (ps ++ qs)) o })
-  unfolding addAll
+      → addAll (written (encode ps) o) (length (encode ps)) (map nodeBytes qs) ≡ answer (record {
+        literals = listFrom (λ n. 2 * n) (length ps) (length qs);
+        used = length (encode (ps ++ qs));
+        bytes = written (encode (ps ++ qs)) o;
+      })
+  unfolding addAll listFrom
   rebuild [] ps valid fits = rw append-nil
   rebuild (q ∷ qs) ps valid fits =
       let whole : ps ++ q ∷ qs ≡ ps ++ q ∷ [] ++ qs = sym (append-assoc ps (q ∷ []) qs) in
@@ -201,18 +227,18 @@ module _ (o : List ℕ) where
       omega (arith, length-encode (ps ++ q ∷ []), length-encode (ps ++ q ∷ qs), length-append ps (q ∷ []), length-append ps (q ∷ qs)) in
       let over : written (encode (ps ++ q ∷ [])) (written (encode ps) o) ≡ written (encode (ps ++ q ∷ [])) o =
       written-over (encode ps) (encode (ps ++ q ∷ [])) o (omega (arith, length-encode ps, length-encode (ps ++ q ∷ []), length-append ps (q ∷ []))) in
-      rw (add-next ps q qs valid less, over, whole)
-      (rebuild qs (ps ++ q ∷ []) (rw whole at valid) (rw whole at fits))
+      let size : length (ps ++ q ∷ []) ≡ suc (length ps) = omega (arith, length-append ps (q ∷ [])) in
+      rw (add-next ps q qs valid less, over, whole, rebuild qs (ps ++ q ∷ []) (rw whole at valid) (rw whole at fits), size)
 
   pub rebuilds : (t : List ℕ) (rs : List Node) → Bytes t → decode t ≡ answer rs → length t ≤ length o
-      → addAll o 0 (map nodeBytes rs) ≡ answer (record { used = length t; bytes = written t o })
+      → addAll o 0 (map nodeBytes rs) ≡ answer (record { literals = listFrom (λ n. 2 * n) 0 (length rs); used = length t; bytes = written t o })
   rebuilds t rs all e fits =
       let table : t ≡ encode rs = read-encodes t rs all e in
       rw table (rw encode-none at (rebuild rs [] (read-valid t rs all e) (rw table at fits)))
 
   -- into a buffer of the table's length: the table itself
   pub rebuilds-table : (t : List ℕ) (rs : List Node) → Bytes t → decode t ≡ answer rs → length o ≡ length t
-      → addAll o 0 (map nodeBytes rs) ≡ answer (record { used = length t; bytes = t })
+      → addAll o 0 (map nodeBytes rs) ≡ answer (record { literals = listFrom (λ n. 2 * n) 0 (length rs); used = length t; bytes = t })
   rebuilds-table t rs all e same =
       let none : drop (length t) o ≡ [] = drop-of-length-le o {i = length t} (omega arith) in
       rebuilds t rs all e (omega arith) ∙ rw (none, append-nil)

@@ -1,17 +1,18 @@
 -- Where a node stands in a list, and valid lists that are one node longer, or shorter. Assumes nothing.
-use mathlib.Core.Path.{_≡_, ap, refl}
+use mathlib.Core.Path.{_≡_, _∙_, ap, refl}
 use mathlib.Core.List.{List, [], _∷_, _++_}
 use mathlib.Core.Bool.{false}
 use Prim.Native.Nat.{ℕ, zero, suc, _+_, _<_, _≤_}
 use native.Mathlib.Omega.{arith}
 use lib.ListN.{length, getD, length-append, List·getD-append}
 use lib.Seq.{getD-append-seam}
-use borrow.Author.Tests.{lt-ltb, le-ltb}
+use lib.Dec.{ltb}
+use borrow.Author.Tests.{lt-ltb, le-ltb, ltb-true, ltb-false}
 use Rattle.scope.specs.declared.Node.{Node}
 use Rattle.scope.specs.Outcome.{answer}
 use Rattle.scope.specs.Table.{nodeBytes, readRecord, sameNode}
 use Rattle.scope.specs.Calls.{noNode, indexOf}
-use Rattle.codec.specs.Valid.{Valid, withNode}
+use Rattle.codec.specs.Valid.{Valid, withNode, nodeGiven, withAll}
 use Rattle.codec.proofs.Rows.{by-test}
 use Rattle.codec.proofs.Records.{same-is, same-self}
 use Rattle.codec.proofs.Files.{by-last}
@@ -52,6 +53,18 @@ module _ (x : Node) where
       (λ e. rw e (same-is y x e))
       (λ e. let more : suc (indexOf x rs) < suc (length rs) = rw e at h in rw e (index-at rs (omega arith)))
 
+  -- .. also where another one joins behind
+  index-front : (rs : List Node) (y : Node) → indexOf x rs < length rs → indexOf x (rs ++ y ∷ []) ≡ indexOf x rs
+  unfolding indexOf
+  index-front [] y h = absurd (omega arith)
+  index-front (z ∷ rs) y h =
+      by-test (sameNode z x)
+      (λ e. rw e)
+      (λ e. let more : suc (indexOf x rs) < suc (length rs) = rw e at h in rw e (ap suc (index-front rs y (omega arith))))
+
+by-found : {P : Type 0} (i n : ℕ) → (i < n → P) → (n ≤ i → P) → P
+by-found i n f g = by-test (ltb i n) (λ e. f (ltb-true i n e)) (λ e. g (ltb-false i n e))
+
 -- the nodes after an add: the same, or one more
 module _ (rs : List Node) (x : Node) where
   pub with-found : indexOf x rs < length rs → withNode rs x ≡ rs
@@ -61,6 +74,27 @@ module _ (rs : List Node) (x : Node) where
   pub with-more : length rs ≤ indexOf x rs → withNode rs x ≡ rs ++ x ∷ []
   unfolding withNode
   with-more new = rw (le-ltb (indexOf x rs) (length rs) new)
+
+  -- the node stands there
+  pub with-in : indexOf x (withNode rs x) < length (withNode rs x)
+  with-in =
+      by-found (indexOf x rs) (length rs)
+      (λ here. rw (with-found here) here)
+      (λ new. rw (with-more new, index-last x rs new, length-append) (omega arith))
+
+  -- where a node was found it stays
+  pub with-keeps : (y : Node) → indexOf y rs < length rs → (indexOf y (withNode rs x) ≡ indexOf y rs) × (indexOf y (withNode rs x) < length (withNode rs x))
+  with-keeps y h =
+      by-found (indexOf x rs) (length rs)
+      (λ here. rw (with-found here) (refl, h))
+      (λ new. rw (with-more new, index-front y rs x h, length-append) (refl, omega arith))
+
+pub all-keep : (given : List (List ℕ)) (rs : List Node) (y : Node) → indexOf y rs < length rs → indexOf y (withAll rs given) ≡ indexOf y rs
+unfolding withAll
+all-keep [] rs y h = refl
+all-keep (r ∷ given) rs y h =
+    let k = with-keeps rs (nodeGiven r) y h in
+    all-keep given (withNode rs (nodeGiven r)) y (k .1) ∙ k .0
 
 -- valid lists: the last node of a longer one
 snoc-last : (rs : List Node) (x : Node) (n : ℕ) → n ≡ length rs → getD (rs ++ x ∷ []) n noNode ≡ x

@@ -26,6 +26,12 @@ pub used-reads : (t : List ℕ) → 0 < length t → decodeUsed t ≡ decode t
 unfolding decodeUsed
 used-reads t h = rw (ne-eqb (length t) 0 (λ q. omega arith))
 
+pub table-used : (t : List ℕ) (rs : List Node) → Bytes t → decode t ≡ answer rs → decodeUsed t ≡ answer rs
+table-used t rs all e =
+    let table : t ≡ encode rs = read-encodes t rs all e in
+    let some = read-valid t rs all e .some in
+    used-reads t (rw table (omega (arith, length-encode rs))) ∙ e
+
 used-none : decodeUsed [] ≡ answer []
 unfolding decodeUsed
 used-none = refl

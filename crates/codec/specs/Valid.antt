@@ -1,6 +1,6 @@
 -- Bytes, formats whose blocks hold whole records, valid lists of nodes, and tables built by add. Assumes nothing.
 use mathlib.Core.Path.{_≡_}
-use mathlib.Core.List.{List, [], _∷_, _++_, flatMap}
+use mathlib.Core.List.{List, [], _∷_, _++_, flatMap, map}
 use mathlib.Core.Bool.{false, cond}
 use Prim.Native.Nat.{ℕ, _*_, _/_, _<_, _≤_}
 use lib.Dec.{ltb}
@@ -9,8 +9,8 @@ use Rattle.scope.specs.declared.Format.{Format}
 use Rattle.scope.specs.declared.Node.{Node}
 use Rattle.scope.specs.Outcome.{Outcome, answer, _>>=_}
 use Rattle.scope.specs.Block.{blocksOf}
-use Rattle.scope.specs.Table.{nodeBytes, readRecord, sameNode, decode}
-use Rattle.scope.specs.Calls.{noNode, indexOf, Added, add}
+use Rattle.scope.specs.Table.{nodeBytes, nodeOf, readRecord, sameNode, decode}
+use Rattle.scope.specs.Calls.{noNode, decodeUsed, exchanged, indexOf, Added, add}
 
 -- every element is a byte (beyond the end `getD` answers 0)
 abbrev pub Bytes : List ℕ → Type 0
@@ -47,12 +47,36 @@ pub record ReadsBack (buf : List ℕ) (rs : List Node) (x : Node) (out : Added) 
   pub node : getD (withNode rs x) (out .literal / 2) noNode ≡ x
   pub beyond : drop (out .used) (out .bytes) ≡ drop (out .used) buf
 
--- what adding records leaves: the used length and the buffer's bytes
+-- what adding records leaves: the literal that each add answered, the used length, and the buffer's bytes
 pub record Built : Type 0 where
+  pub literals : List ℕ
   pub used : ℕ
   pub bytes : List ℕ
 
+-- .. with an add before it
+abbrev pub andThen : Added → Built → Built
+andThen out b = record { literals = out .literal ∷ b .literals; used = b .used; bytes = b .bytes }
+
 -- records added one after another
 unfoldable pub addAll : List ℕ → ℕ → List (List ℕ) → Outcome Built
-addAll buf used [] = answer (record { used = used; bytes = buf })
-addAll buf used (r ∷ rs) = add buf used r >>= λ out. addAll (out .bytes) (out .used) rs
+addAll buf used [] = answer (record { literals = []; used = used; bytes = buf })
+addAll buf used (r ∷ rs) = add buf used r >>= λ out. addAll (out .bytes) (out .used) rs >>= λ b. answer (andThen out b)
+
+-- records of exactly 8 bytes
+abbrev pub Records : List (List ℕ) → Type 0
+Records [] = Unit {0}
+Records (r ∷ rs) = (length r ≡ 8) × Bytes r × Records rs
+
+-- the node of a record that add is given
+abbrev pub nodeGiven : List ℕ → Node
+nodeGiven r = nodeOf (exchanged r)
+
+-- nodes with those of records that were added, each once
+unfoldable pub withAll : List Node → List (List ℕ) → List Node
+withAll rs [] = rs
+withAll rs (r ∷ more) = withAll (withNode rs (nodeGiven r)) more
+
+-- after records were added to the nodes rs: the table reads as rs with their nodes, and each answer was the literal of its node
+pub record AllBack (rs : List Node) (given : List (List ℕ)) (b : Built) : Type 0 where
+  pub table : decodeUsed (take (b .used) (b .bytes)) ≡ answer (withAll rs given)
+  pub literals : b .literals ≡ map (λ r. 2 * indexOf (nodeGiven r) (withAll rs given)) given

@@ -6,7 +6,7 @@ use Prim.Native.Nat.{ℕ, zero, suc, _+_, _-_, _<_, _≤_}
 use native.Mathlib.Omega.{arith}
 use native.Mathlib.Decide.{decLt}
 use lib.Dec.{eqb}
-use lib.ListN.{length, getD, drop, length-append}
+use lib.ListN.{length, getD, length-append}
 use borrow.Author.Tests.{ne-eqb, lt-ltb, le-ltb}
 use Rattle.scope.specs.declared.Node.{Node}
 use Rattle.calculus.specs.Expansion.{neg, expand}
@@ -25,11 +25,11 @@ use Rattle.clause.specs.Stored.{literals}
 use Rattle.state.specs.Work.{gOf}
 use Rattle.state.specs.Holds.{Holds}
 use Rattle.moves.specs.Reason.{Reasoned}
-use Rattle.deciding.specs.Search.{Turned, Ended, Searched}
-use Rattle.deciding.specs.declared.Stop.the-variants.{Closed as Shut, Model as Ends, Fork}
-use Rattle.deciding.specs.declared.Found.the-variants.{Model, Closed as AllClosed}
-use Rattle.deciding.proofs.Searches.{tree-conflict, tree-unit, tree-split, fuel, Run, run-starts, run-conflict, run-done, run-split, run-room, run-unit, shut-open, shut-fork, open-fork, model-closed, stopped-shut, stopped-closed, stopped-model, left-model, left-turned, right-list, right-ended, end-more, right-closed}
-use Rattle.counting.specs.Count.{atMost, stepCount, Sized, Advanced, foundBy, Tallied, Counted}
+use Rattle.searching.specs.Search.{Searched}
+use Rattle.searching.specs.declared.Stop.the-variants.{Closed as Shut, Model as Ends, Fork}
+use Rattle.searching.specs.declared.Found.the-variants.{Model}
+use Rattle.searching.proofs.Searches.{tree-conflict, tree-unit, tree-split, fuel, Run, run-starts, run-conflict, run-done, run-split, run-room, run-unit, shut-open, shut-fork, open-fork, stopped-closed, stopped-model, left-model, right-searched}
+use Rattle.counting.specs.Count.{atMost, stepCount, Sized, Advanced, foundBy, Tallied}
 use Rattle.counting.specs.declared.Told.{Told}
 use Rattle.counting.specs.declared.Tally.{Tally}
 use Rattle.counting.specs.declared.Tally.the-variants.{Open, Closed}
@@ -218,39 +218,19 @@ module _ {t : ℕ → Node} {n : ℕ} {goals w m w′ m′ : List ℕ} {cap s co
 -- ---- the search
 
 -- a model: there are no steps
-tallied-open : {t : ℕ → Node} {n : ℕ} {goals w w′ m′ : List ℕ} {cap s : ℕ} → Ended t n goals w w′ m′ Model → Tallied t n goals w w′ m′ cap s Open
+tallied-open : {t : ℕ → Node} {n : ℕ} {goals w w′ m′ : List ℕ} {cap s : ℕ} → Searched t n goals w w′ m′ Model → Tallied t n goals w w′ m′ cap s Open
 tallied-open h = record {
-  ended = h;
+  searched = h;
   counted = λ c q. absurd (let z : _≡_ {A = ℕ} 0 1 = cc in omega arith);
 }
 
--- every branch closes
-tallied-closed : {t : ℕ → Node} {n : ℕ} {goals w w′ m′ : List ℕ} {cap s k : ℕ} → Ended t n goals w w′ m′ AllClosed
-    → k ≡ atMost cap (s + stepCount t n goals (gOf w)) → Tallied t n goals w w′ m′ cap s (Closed k)
-tallied-closed {k = k} h e = record {
-  ended = h;
-  counted = λ c q. let z : c ≡ k = cc in z ∙ e;
-}
-
--- the literals held, beside the count
-pub counted-open : {t : ℕ → Node} {n : ℕ} {goals w w′ m′ : List ℕ} {cap s : ℕ} → Tallied t n goals w w′ m′ cap s Open → Counted t n goals w w′ m′ cap s Open
-counted-open h = record { tallied = h; back = λ q. model-closed q }
-
-counted-closed : {t : ℕ → Node} {n : ℕ} {goals w w′ m′ : List ℕ} {cap s k : ℕ} → Searched t n goals w w′ m′ AllClosed
-    → k ≡ atMost cap (s + stepCount t n goals (gOf w)) → Counted t n goals w w′ m′ cap s (Closed k)
-counted-closed h e = record { tallied = tallied-closed (h .ended) e; back = h .back }
-
-searched : {t : ℕ → Node} {n : ℕ} {goals w w′ m′ : List ℕ} {cap s : ℕ} {r : Tally} → Counted t n goals w w′ m′ cap s r → Searched t n goals w w′ m′ (foundBy r)
-searched c = record { ended = c .tallied .ended; back = c .back }
-
 module _ {t : ℕ → Node} {n : ℕ} {goals w w₁ m₁ : List ℕ} {cap s : ℕ} {told : Told} (a : Advanced t n goals w w₁ m₁ cap s told) where
   -- the units end on a conflict
-  pub ended-shut : told .stop ≡ Shut → Tallied t n goals w w₁ m₁ cap s (Closed (told .count))
-  ended-shut e = tallied-closed (stopped-shut (a .settled) e (a .settled .holds)) (a .closes e)
-
-  pub ended-closed : {w₂ m₂ : List ℕ} → told .stop ≡ Shut → Holds t n goals w₂ m₂ → gOf w₂ ≡ drop (length (gOf w₁) - length (gOf w)) (gOf w₁)
-      → Counted t n goals w w₂ m₂ cap s (Closed (told .count))
-  ended-closed e h q = counted-closed (stopped-closed (a .settled) e h q) (a .closes e)
+  pub ended-closed : told .stop ≡ Shut → Tallied t n goals w w₁ m₁ cap s (Closed (told .count))
+  ended-closed e = record {
+    searched = stopped-closed (a .settled) e;
+    counted = λ c q. let z : c ≡ told .count = cc in z ∙ a .closes e;
+  }
 
   -- or on a model
   pub ended-open : told .stop ≡ Ends → Tallied t n goals w w₁ m₁ cap s Open
@@ -258,48 +238,27 @@ module _ {t : ℕ → Node} {n : ℕ} {goals w w₁ m₁ : List ℕ} {cap s : �
 
   -- or on a split: the left branch
   module _ (T : Table n t) (B : Below n goals) {l : ℕ} (e : told .stop ≡ Fork l) {w₂ w₃ m₃ : List ℕ} {left : Tally} (q : gOf w₂ ≡ l ∷ gOf w₁)
-      (b : Counted t n goals w₂ w₃ m₃ cap (told .count) left) where
+      (b : Tallied t n goals w₂ w₃ m₃ cap (told .count) left) where
     pub left-open : left ≡ Open → Tallied t n goals w w₃ m₃ cap s Open
-    left-open p = tallied-open (left-model (a .settled) T B e q (searched b) (ap foundBy p))
+    left-open p = tallied-open (left-model (a .settled) T B e q (b .searched) (ap foundBy p))
 
     module _ {c : ℕ} (p : left ≡ Closed c) where
       left-count : c ≡ atMost cap (told .count + stepCount t n goals (l ∷ gOf w₁))
-      left-count = b .tallied .counted c p ∙ ap (λ (G : List ℕ). atMost cap (told .count + stepCount t n goals G)) q
+      left-count = b .counted c p ∙ ap (λ (G : List ℕ). atMost cap (told .count + stepCount t n goals G)) q
 
       pub left-low : c ≤ cap
       left-low = omega (arith, left-count, most-low cap (told .count + stepCount t n goals (l ∷ gOf w₁)))
 
-      pub left-done : Turned n l (gOf w₃)
-      left-done = left-turned (a .settled) T B e q (searched b) (ap foundBy p)
-
-      -- the right branch
-      module _ (w₄ : List ℕ) (d : gOf w₄ ≡ neg l ∷ drop 1 (gOf w₃)) where
-        pub right-held : gOf w₄ ≡ neg l ∷ gOf w₁
-        right-held = right-list (a .settled) T B e q (searched b) (ap foundBy p) w₄ d
-
-        -- what it comes to is what the whole comes to
-        pub right-tallied : {w₅ m₅ : List ℕ} {right : Tally} → Tallied t n goals w₄ w₅ m₅ cap c right → Tallied t n goals w w₅ m₅ cap s right
-        right-tallied f =
-            let x = stepCount t n goals (l ∷ gOf w₁) in
-            let y = stepCount t n goals (neg l ∷ gOf w₁) in
-            let sum : told .count + x + y ≡ told .count + (x + y) = omega arith in
-            record {
-              ended = right-ended (a .settled) T B e q (searched b) (ap foundBy p) w₄ d (f .ended);
-              counted = λ k z.
-                  f .counted k z ∙ ap (λ (G : List ℕ). atMost cap (c + stepCount t n goals G)) right-held
-                  ∙ ap (λ (i : ℕ). atMost cap (i + y)) left-count ∙ most-more cap (told .count + x) y ∙ ap (atMost cap) sum ∙ a .forks l e;
-            }
-
-        module _ {w₅ m₅ : List ℕ} {right : Tally} (f : Counted t n goals w₄ w₅ m₅ cap c right) where
-          pub right-open : right ≡ Open → Tallied t n goals w w₅ m₅ cap s Open
-          right-open z = rw z at (right-tallied (f .tallied))
-
-          module _ {k : ℕ} (z : right ≡ Closed k) where
-            pub right-more : length (gOf w) ≤ length (gOf w₅)
-            right-more = end-more (a .settled) T B e q (searched b) (ap foundBy p) w₄ d (searched f) (ap foundBy z)
-
-            pub right-done : {w₆ m₆ : List ℕ} → Holds t n goals w₆ m₆ → gOf w₆ ≡ drop (length (gOf w₅) - length (gOf w)) (gOf w₅)
-                → Counted t n goals w w₆ m₆ cap s (Closed k)
-            right-done h y =
-                counted-closed (right-closed (a .settled) T B e q (searched b) (ap foundBy p) w₄ d (searched f) (ap foundBy z) h y)
-                (right-tallied (f .tallied) .counted k z)
+      -- the right branch: what it comes to is what the whole comes to
+      pub right-tallied : {w₄ w₅ m₅ : List ℕ} {right : Tally} → gOf w₄ ≡ neg l ∷ gOf w₁ → Tallied t n goals w₄ w₅ m₅ cap c right
+          → Tallied t n goals w w₅ m₅ cap s right
+      right-tallied d f =
+          let x = stepCount t n goals (l ∷ gOf w₁) in
+          let y = stepCount t n goals (neg l ∷ gOf w₁) in
+          let sum : told .count + x + y ≡ told .count + (x + y) = omega arith in
+          record {
+            searched = right-searched (a .settled) T B e q (b .searched) (ap foundBy p) d (f .searched);
+            counted = λ k z.
+                f .counted k z ∙ ap (λ (G : List ℕ). atMost cap (c + stepCount t n goals G)) d
+                ∙ ap (λ (i : ℕ). atMost cap (i + y)) left-count ∙ most-more cap (told .count + x) y ∙ ap (atMost cap) sum ∙ a .forks l e;
+          }

@@ -13,10 +13,10 @@ use Rattle.calculus.specs.declared.Move.the-variants.{Conflict, Unit as Single}
 use Rattle.rules.specs.declared.Step.{Step}
 use Rattle.rules.specs.Derivation.{stepsOf}
 use Rattle.state.specs.Work.{gOf}
-use Rattle.deciding.specs.Search.{Settled, Ended}
-use Rattle.deciding.specs.declared.Stop.the-variants.{Closed as Shut, Fork}
-use Rattle.deciding.specs.declared.Found.{Found}
-use Rattle.deciding.specs.declared.Found.the-variants.{Model, Closed as AllClosed}
+use Rattle.searching.specs.Search.{Settled, Searched}
+use Rattle.searching.specs.declared.Stop.the-variants.{Closed as Shut, Fork}
+use Rattle.searching.specs.declared.Found.{Found}
+use Rattle.searching.specs.declared.Found.the-variants.{Model, Closed as AllClosed}
 use Rattle.counting.specs.declared.Told.{Told}
 use Rattle.counting.specs.declared.Tally.{Tally}
 use Rattle.counting.specs.declared.Tally.the-variants.{Open, Closed}
@@ -55,11 +55,6 @@ foundBy (Closed c) = AllClosed
 -- the search is done, s steps being counted before it
 pub record Tallied (t : ℕ → Node) (n : ℕ) (goals w w′ m′ : List ℕ) (cap s : ℕ) (r : Tally) : Type 0 where
   -- open: a model, which is held; closed: 'all branches closed'
-  pub ended : Ended t n goals w w′ m′ (foundBy r)
+  pub searched : Searched t n goals w w′ m′ (foundBy r)
   -- 'It answers the step count'
   pub counted : (c : ℕ) → r ≡ Closed c → c ≡ atMost cap (s + stepCount t n goals (gOf w))
-
--- .. and where all branches closed, the literals held are those of the start
-pub record Counted (t : ℕ → Node) (n : ℕ) (goals w w′ m′ : List ℕ) (cap s : ℕ) (r : Tally) : Type 0 where
-  pub tallied : Tallied t n goals w w′ m′ cap s r
-  pub back : foundBy r ≡ AllClosed → gOf w′ ≡ gOf w

@@ -1,7 +1,7 @@
 // How many steps the derivation in the solver's order has, up to a limit. The search runs as decide's does and writes nothing; where a
 // model is found there is no derivation. The count stops at its limit, and the search goes on.
 use calculus::Move;
-use deciding::Stop;
+use searching::Stop;
 ghost use mathlib.Core.Path.{_≡_};
 ghost use Prim.Native.Nat.{_+_, _≤_};
 ghost use Rattle.calculus.specs.Model.{Goals};
@@ -9,7 +9,7 @@ ghost use Rattle.index.specs.Index.{indexNode};
 ghost use Rattle.clause.specs.Indexed.{Indexed};
 ghost use Rattle.state.specs.Work.{gOf};
 ghost use Rattle.state.specs.Holds.{Holds};
-ghost use Rattle.counting.specs.Count.{atMost, Sized, Advanced, Tallied, Counted};
+ghost use Rattle.counting.specs.Count.{atMost, Sized, Advanced, Tallied};
 
 // Where the units end, and the count up to there.
 struct Told {
@@ -93,55 +93,8 @@ fn units(
     }
 }
 
-// The search from the literals held, s steps being counted: a model, which stays, or the count with that of all its steps, and the
-// literals held are those of the start.
-fn count(
-    x: &[u16],
-    n: usize,
-    goals: &[u16],
-    work: &mut [u16],
-    masks: &mut [u64],
-    cap: usize,
-    s: usize,
-) -> Tally
-    requires { ⌜ Indexed (now x) n ⌝ }
-    requires { ⌜ Goals n (now goals) ⌝ }
-    requires { ⌜ Holds (indexNode (now x)) n (now goals) (now work) (now masks) ⌝ }
-    requires { ⌜ s ≤ cap ⌝ }
-    ensures { λ r. ⌜ Counted (indexNode (now (x .entry))) n (now (goals .entry)) (now (work .entry)) (now (work .exit)) (now (masks .exit)) cap s r ⌝ }
-{
-    let held = state::count(work);
-    let told = units(x, n, goals, work, masks, cap, s);
-    let stop = told.stop;
-    match stop {
-        Stop::Closed => {
-            deciding::undo_to(x, n, goals, work, masks, held);
-            Tally::Closed(told.count)
-        }
-        Stop::Model => Tally::Open,
-        Stop::Fork(l) => {
-            solver::assume(x, n, goals, work, masks, l);
-            let left = count(x, n, goals, work, masks, cap, told.count);
-            match left {
-                Tally::Open => Tally::Open,
-                Tally::Closed(c) => {
-                    deciding::turn(x, n, goals, work, masks, l);
-                    let right = count(x, n, goals, work, masks, cap, c);
-                    match right {
-                        Tally::Open => Tally::Open,
-                        Tally::Closed(d) => {
-                            deciding::undo_to(x, n, goals, work, masks, held);
-                            Tally::Closed(d)
-                        }
-                    }
-                }
-            }
-        }
-    }
-}
-
-// The search where no split is open: a model, which stays, or the count, and nothing is taken back.
-pub fn count_last(
+// The search from the literals held, which stay held, s steps being counted: a model, or the count with that of all its steps.
+pub fn count(
     x: &[u16],
     n: usize,
     goals: &[u16],
@@ -162,13 +115,15 @@ pub fn count_last(
         Stop::Closed => Tally::Closed(told.count),
         Stop::Model => Tally::Open,
         Stop::Fork(l) => {
+            let held = state::count(work);
             solver::assume(x, n, goals, work, masks, l);
             let left = count(x, n, goals, work, masks, cap, told.count);
             match left {
                 Tally::Open => Tally::Open,
                 Tally::Closed(c) => {
-                    deciding::turn(x, n, goals, work, masks, l);
-                    count_last(x, n, goals, work, masks, cap, c)
+                    searching::undo_to(x, n, goals, work, masks, held);
+                    solver::assume(x, n, goals, work, masks, clause::negated(l));
+                    count(x, n, goals, work, masks, cap, c)
                 }
             }
         }

@@ -1,4 +1,3 @@
 -- What decide's functions leave, and decide's own contract. Assumes nothing.
-pub mod Search
 pub mod Setting
 pub mod Decides

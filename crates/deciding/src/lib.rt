@@ -1,159 +1,25 @@
-// Decide: whether some setting makes a goal true, and such a setting. The search is recursive: a call for each branch of a split, so
-// the number of undecided nodes falls at each call; the work area is carried along and taken back where a branch closes.
-use calculus::Move;
+// Decide: whether some setting makes a goal true, and such a setting.
 use scope::Refusal;
-use scope::Verdict;
+use searching::Found;
 use table::Counted;
 ghost use mathlib.Core.Path.{_≡_};
-ghost use mathlib.Core.List.{_∷_, _++_};
-ghost use Prim.Native.Nat.{_-_, _<_, _≤_};
+ghost use mathlib.Core.List.{_++_};
+ghost use Prim.Native.Nat.{_<_, _≤_};
 ghost use lib.ListN.{length, drop};
-ghost use Rattle.scope.specs.Outcome.{verdictOf};
 ghost use Rattle.scope.specs.Table.{listFrom};
-ghost use Rattle.calculus.specs.Expansion.{neg};
 ghost use Rattle.calculus.specs.Order.{settingOf};
 ghost use Rattle.calculus.specs.Model.{Goals};
 ghost use Rattle.index.specs.Index.{indexNode};
-ghost use Rattle.clause.specs.Indexed.{Indexed};
+ghost use Rattle.index.specs.Indexed.{Indexed};
 ghost use Rattle.state.specs.Work.{gOf};
-ghost use Rattle.state.specs.Holds.{Holds};
-ghost use Rattle.deciding.specs.Search.{Settled, Turned, Ended, Searched};
 ghost use Rattle.deciding.specs.Setting.{Cleared, Points, Marked};
-ghost use Rattle.deciding.specs.Decides.{rowsTest, Prepared, Decides};
-
-// Where the units end: at a conflict, at a model, or at a split on a literal.
-pub enum Stop {
-    Closed,
-    Model,
-    Fork(u16),
-}
-
-// What a search finds: a model, or that every branch closes.
-pub enum Found {
-    Model,
-    Closed,
-}
+ghost use Rattle.deciding.specs.Decides.{Room, Solved, Decides};
 
 // What decide answers.
 pub enum Decided {
     Possible,
     Impossible,
     Refused(Refusal),
-}
-
-// The units join, one after another, up to another move.
-fn propagate(x: &[u16], n: usize, goals: &[u16], work: &mut [u16], masks: &mut [u64]) -> Stop
-    requires { ⌜ Indexed (now x) n ⌝ }
-    requires { ⌜ Goals n (now goals) ⌝ }
-    requires { ⌜ Holds (indexNode (now x)) n (now goals) (now work) (now masks) ⌝ }
-    ensures { λ r. ⌜ Settled (indexNode (now (x .entry))) n (now (goals .entry)) (now (work .entry)) (now (work .exit)) (now (masks .exit)) r ⌝ }
-{
-    loop {
-        let m = moves::next_move(x, n, goals, work, masks);
-        match m {
-            Move::Conflict(_) => {
-                return Stop::Closed;
-            }
-            Move::Unit(_, l) => {
-                solver::assume(x, n, goals, work, masks, l);
-            }
-            Move::Done => {
-                return Stop::Model;
-            }
-            Move::Split(l) => {
-                return Stop::Fork(l);
-            }
-        }
-    }
-}
-
-// The literals that joined after the first `held` are assumed no more.
-pub fn undo_to(x: &[u16], n: usize, goals: &[u16], work: &mut [u16], masks: &mut [u64], held: u16)
-    requires { ⌜ Indexed (now x) n ⌝ }
-    requires { ⌜ Goals n (now goals) ⌝ }
-    requires { ⌜ Holds (indexNode (now x)) n (now goals) (now work) (now masks) ⌝ }
-    requires { ⌜ held ≤ length (gOf (now work)) ⌝ }
-    ensures { λ _. ⌜ Holds (indexNode (now (x .entry))) n (now (goals .entry)) (now (work .exit)) (now (masks .exit)) ⌝ }
-    ensures { λ _. ⌜ gOf (now (work .exit)) ≡ drop (length (gOf (now (work .entry))) - held) (gOf (now (work .entry))) ⌝ }
-{
-    while held < state::count(work) {
-        solver::undo(x, n, goals, work, masks);
-    }
-}
-
-// The newest literal, l, is assumed no more, and its negation is.
-pub fn turn(x: &[u16], n: usize, goals: &[u16], work: &mut [u16], masks: &mut [u64], l: u16)
-    requires { ⌜ Indexed (now x) n ⌝ }
-    requires { ⌜ Goals n (now goals) ⌝ }
-    requires { ⌜ Holds (indexNode (now x)) n (now goals) (now work) (now masks) ⌝ }
-    requires { ⌜ Turned n l (gOf (now work)) ⌝ }
-    ensures { λ _. ⌜ Holds (indexNode (now (x .entry))) n (now (goals .entry)) (now (work .exit)) (now (masks .exit)) ⌝ }
-    ensures { λ _. ⌜ gOf (now (work .exit)) ≡ neg l ∷ drop 1 (gOf (now (work .entry))) ⌝ }
-{
-    let held = state::count(work) - 1;
-    undo_to(x, n, goals, work, masks, held);
-    solver::assume(x, n, goals, work, masks, clause::negated(l));
-}
-
-// The search from the literals held: a model, which stays, or every branch closes, and the literals held are those of the start.
-fn search(x: &[u16], n: usize, goals: &[u16], work: &mut [u16], masks: &mut [u64]) -> Found
-    requires { ⌜ Indexed (now x) n ⌝ }
-    requires { ⌜ Goals n (now goals) ⌝ }
-    requires { ⌜ Holds (indexNode (now x)) n (now goals) (now work) (now masks) ⌝ }
-    ensures { λ r. ⌜ Searched (indexNode (now (x .entry))) n (now (goals .entry)) (now (work .entry)) (now (work .exit)) (now (masks .exit)) r ⌝ }
-{
-    let held = state::count(work);
-    let stop = propagate(x, n, goals, work, masks);
-    match stop {
-        Stop::Closed => {
-            undo_to(x, n, goals, work, masks, held);
-            Found::Closed
-        }
-        Stop::Model => Found::Model,
-        Stop::Fork(l) => {
-            solver::assume(x, n, goals, work, masks, l);
-            let left = search(x, n, goals, work, masks);
-            match left {
-                Found::Model => Found::Model,
-                Found::Closed => {
-                    turn(x, n, goals, work, masks, l);
-                    let right = search(x, n, goals, work, masks);
-                    match right {
-                        Found::Model => Found::Model,
-                        Found::Closed => {
-                            undo_to(x, n, goals, work, masks, held);
-                            Found::Closed
-                        }
-                    }
-                }
-            }
-        }
-    }
-}
-
-// The search where no split is open: a model, which stays, or every branch closes, and nothing is taken back.
-fn search_last(x: &[u16], n: usize, goals: &[u16], work: &mut [u16], masks: &mut [u64]) -> Found
-    requires { ⌜ Indexed (now x) n ⌝ }
-    requires { ⌜ Goals n (now goals) ⌝ }
-    requires { ⌜ Holds (indexNode (now x)) n (now goals) (now work) (now masks) ⌝ }
-    ensures { λ r. ⌜ Ended (indexNode (now (x .entry))) n (now (goals .entry)) (now (work .entry)) (now (work .exit)) (now (masks .exit)) r ⌝ }
-{
-    let stop = propagate(x, n, goals, work, masks);
-    match stop {
-        Stop::Closed => Found::Closed,
-        Stop::Model => Found::Model,
-        Stop::Fork(l) => {
-            solver::assume(x, n, goals, work, masks, l);
-            let left = search(x, n, goals, work, masks);
-            match left {
-                Found::Model => Found::Model,
-                Found::Closed => {
-                    turn(x, n, goals, work, masks, l);
-                    search_last(x, n, goals, work, masks)
-                }
-            }
-        }
-    }
 }
 
 // All points no.
@@ -197,47 +63,20 @@ fn set_points(x: &[u16], n: usize, work: &[u16], settings: &mut [u8])
     }
 }
 
-// Rows 20, 21 and 23.
-fn rows(nodes: usize, goal: usize, points: usize, area: usize) -> Verdict
-    requires { ⌜ nodes ≤ 2016 ⌝ }
-    ensures { λ r. ⌜ verdictOf r ≡ rowsTest nodes goal points area ⌝ }
+// The search of goals over an index, from the start: whether there is a model; if so, the settings become its own.
+fn solve(x: &[u16], n: usize, goals: &[u16], settings: &mut [u8], work: &mut [u16]) -> Decided
+    requires { ⌜ Indexed (now x) n ⌝ }
+    requires { ⌜ Goals n (now goals) ⌝ }
+    requires { ⌜ Room (now x) n (now settings) (now work) ⌝ }
+    ensures { λ r. ⌜ Solved (indexNode (now (x .entry))) n (now (goals .entry)) (now (settings .entry)) (now (settings .exit)) r ⌝ }
 {
-    if 2 * nodes <= goal {
-        return Verdict::Refused(Refusal {
-            number: 20,
-            place: 0,
-        });
-    }
-    if points < 1024 {
-        return Verdict::Refused(Refusal {
-            number: 21,
-            place: 0,
-        });
-    }
-    if area < 32768 {
-        return Verdict::Refused(Refusal {
-            number: 23,
-            place: 0,
-        });
-    }
-    Verdict::Fine
-}
-
-// The search of a goal, where no row refuses.
-fn run(t: &[u8], nodes: usize, goal: usize, settings: &mut [u8], work: &mut [u16]) -> Decided
-    requires { ⌜ Prepared (now t) nodes goal (now settings) (now work) ⌝ }
-    ensures { λ r. ⌜ Decides (now (t .entry)) goal (now (settings .entry)) (now (work .entry)) (now (settings .exit)) (now (work .exit)) r ⌝ }
-{
-    let mut x = [0u16; 16128];
-    index::build(t, nodes, &mut x);
-    let goals = [goal as u16; 1];
     let mut masks = [0u64; 392];
-    solver::start(&x, nodes, &goals, work, &mut masks);
-    let found = search_last(&x, nodes, &goals, work, &mut masks);
+    solver::start(x, n, goals, work, &mut masks);
+    let found = searching::search(x, n, goals, work, &mut masks);
     match found {
         Found::Closed => Decided::Impossible,
         Found::Model => {
-            set_points(&x, nodes, work, settings);
+            set_points(x, n, work, settings);
             Decided::Possible
         }
     }
@@ -247,15 +86,12 @@ fn run(t: &[u8], nodes: usize, goal: usize, settings: &mut [u8], work: &mut [u16
 pub fn decide(t: &[u8], goal: usize, settings: &mut [u8], work: &mut [u16]) -> Decided
     ensures { λ r. ⌜ Decides (now (t .entry)) goal (now (settings .entry)) (now (work .entry)) (now (settings .exit)) (now (work .exit)) r ⌝ }
 {
-    let c = table::count(t);
-    match c {
+    let l = asking::literal(goal);
+    let goals = [l; 1];
+    let mut x = [0u16; 16128];
+    let a = asking::ask(t, &goals, 1024, settings.len(), work.len(), &mut x);
+    match a {
         Counted::Refused(r) => Decided::Refused(r),
-        Counted::Nodes(nodes) => {
-            let v = rows(nodes, goal, settings.len(), work.len());
-            match v {
-                Verdict::Refused(r) => Decided::Refused(r),
-                Verdict::Fine => run(t, nodes, goal, settings, work),
-            }
-        }
+        Counted::Nodes(n) => solve(&x, n, &goals, settings, work),
     }
 }

@@ -27,13 +27,13 @@ use Rattle.rules.specs.Derive.{derivationOf, isImpossible, Derived as Given, de
 use Rattle.steps.proofs.Encode.{length-encode-steps}
 use Rattle.index.specs.Index.{indexNode, Built}
 use Rattle.state.specs.Work.{gOf}
-use Rattle.deciding.specs.Search.{result, foundOf}
+use Rattle.searching.specs.Search.{result, foundOf}
 use Rattle.deciding.proofs.Nodes.{nodesIn, size-in, nodes-read, read, node-in, index-table, search-in}
 use Rattle.counting.specs.Count.{atMost, stepsFrom, foundBy, Tallied}
 use Rattle.counting.specs.declared.Tally.{Tally}
 use Rattle.counting.specs.declared.Tally.the-variants.{Open, Closed as Shut}
 use Rattle.counting.proofs.Counts.{most-under, most-over}
-use Rattle.deriving.specs.Trace.{Fits, written as bytesWritten}
+use Rattle.emitting.specs.Trace.{Fits, written as bytesWritten}
 use Rattle.deriving.specs.Derives.{rowsTest, Prepared, Derives}
 use Rattle.deriving.specs.declared.Derived.the-variants.{Steps, Refused}
 use Rattle.deriving.proofs.Same.{derivation-same}
@@ -172,7 +172,7 @@ module _ (t : List ℕ) (nodes goal : ℕ) (w d : List ℕ) (p : Prepared t node
           (c : Tallied (indexNode x) nodes (goal ∷ []) w₁ w₂ m₂ (most + 1) 0 r) where
         -- what the count found is what the search over the nodes ends on
         found : foundOf (foundBy r) (gOf w₂) ≡ answerOf (searchOf rs₀ (goal ∷ []))
-        found = search-in t nodes (p .readable) (p .all) all x b goal (p .inside) z (c .ended)
+        found = search-in t nodes (p .readable) (p .all) all x b goal (p .inside) z (c .searched)
 
         pub ends-open : r ≡ Open → Derives t goal w d w₂ d (Refused (record { number = 30; place = 0 }))
         ends-open e =
@@ -198,7 +198,7 @@ module _ (t : List ℕ) (nodes goal : ℕ) (w d : List ℕ) (p : Prepared t node
 
             pub fits : Fits (indexNode x) nodes (goal ∷ []) (gOf w₃) d
             fits =
-                let v : impossible ≡ result (indexNode x) nodes (goal ∷ []) (gOf w₁) = rw e at (c .ended .answered) in
+                let v : impossible ≡ result (indexNode x) nodes (goal ∷ []) (gOf w₁) = rw e at (c .searched .answered) in
                 record {
                   closes = ap (result (indexNode x) nodes (goal ∷ [])) (y ∙ sym z) ∙ sym v;
                   lent = omega (arith, ap length (steps-in (gOf w₃) y), exact, h, m);

@@ -1,6 +1,4 @@
 -- Laws for the proofs of derive's functions. Assumes nothing.
-pub mod Steps
-pub mod Runs
 pub mod Same
 pub mod Means
 pub mod Answers

@@ -1,3 +1,2 @@
--- What derive's functions leave, and derive's own contract. Assumes nothing.
-pub mod Trace
+-- Derive's contract. Assumes nothing.
 pub mod Derives

@@ -3,7 +3,7 @@
 ghost use mathlib.Core.Path.{_≡_};
 ghost use Prim.Native.Nat.{ℕ, _+_, _*_, _<_, _≤_};
 ghost use lib.ListN.{length};
-ghost use Rattle.repeats.specs.Chains.{placeOf};
+ghost use Rattle.record.specs.Place.{placeOf};
 ghost use Rattle.index.specs.Index.{indexSize, mostNodes, indexNode, opNode, Linked, Entered, Loaded, Built};
 
 // The layout: node m has its kind at 4 m, then a, b and ALWAYS; from HEADS on each node's link to its last slot; from NEXT on each
@@ -68,7 +68,7 @@ fn load_node(t: &[u8], x: &mut [u16], m: usize)
     requires { ⌜ Loaded (now t) m (now x) ⌝ }
     ensures { λ _. ⌜ Loaded (now (t .entry)) (m + 1) (now (x .exit)) ⌝ }
 {
-    let at = repeats::place(m);
+    let at = record::place(m);
     let end = at + 8;
     let node = record::fields(&t[at..end]);
     x[4 * m] = node.kind as u16;

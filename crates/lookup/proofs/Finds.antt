@@ -1,16 +1,16 @@
 -- Laws of `indexOf` over the nodes of a table, for a loop that compares one after another: what is left at n, past n others, is
 -- the answer. Assumes nothing.
-use mathlib.Core.Path.{_≡_, _∙_, sym, refl}
-use mathlib.Core.List.{List, [], _∷_, _++_}
+use mathlib.Core.Path.{_≡_, _∙_, sym}
+use mathlib.Core.List.{List, [], _∷_}
 use mathlib.Core.Bool.{true, false}
 use Prim.Native.Nat.{ℕ, _+_, _-_, _<_, _≤_}
 use native.Mathlib.Omega.{arith}
-use lib.ListN.{length, getD, set, take, drop, length-drop}
+use lib.ListN.{length, getD, take, drop, length-drop}
 use lib.Seq.{sets, sets-eq, take-all}
 use borrow.Author.Tests.{eq-eqb, ne-eqb}
 use lib.Dec.{eqb}
 use Rattle.scope.specs.declared.Node.{Node}
-use Rattle.scope.specs.Table.{tables, sameNode, listFrom}
+use Rattle.scope.specs.Table.{sameNode, listFrom}
 use Rattle.scope.specs.Calls.{indexOf}
 use Rattle.scope.proofs.Lists.{listFrom-turn, listFrom-done}
 use Rattle.codec.proofs.Bytes.{listed}

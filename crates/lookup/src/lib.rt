@@ -1,12 +1,12 @@
 // What add does with a record before any byte changes: exchange operands in the wrong order, and look for the node.
 ghost use mathlib.Core.Path.{_≡_};
-ghost use mathlib.Core.Bool.{Bool, _||_};
+ghost use mathlib.Core.Bool.{_||_};
 ghost use lib.Dec.{eqb};
 ghost use Prim.Native.Nat.{ℕ, _+_, _<_, _≤_};
 ghost use lib.ListN.{length};
 ghost use Rattle.scope.specs.Table.{sameNode, nodeAt, listFrom};
 ghost use Rattle.scope.specs.Calls.{wrongOrder, exchanged, indexOf};
-ghost use Rattle.repeats.specs.Chains.{placeOf};
+ghost use Rattle.record.specs.Place.{placeOf};
 use scope::Node;
 
 // AND, OR and IFF: the kinds whose operands have an order.
@@ -28,8 +28,8 @@ fn wrong_order(r: [u8; 8]) -> bool
     if !has_order(r[0]) {
         return false;
     }
-    let a = checksum::word(&r, 2);
-    let b = checksum::word(&r, 4);
+    let a = words::word(&r, 2);
+    let b = words::word(&r, 4);
     b / 2 < a / 2
 }
 
@@ -68,7 +68,7 @@ pub fn find(t: &[u8], nodes: usize, x: Node) -> usize
 {
     let mut n = 0;
     while n < nodes {
-        let at = repeats::place(n);
+        let at = record::place(n);
         let end = at + 8;
         if same(record::fields(&t[at..end]), x) {
             return n;

@@ -1,10 +1,10 @@
-// Reading the record of a node.
+// Records: where they stand in a table, and reading one.
 ghost use mathlib.Core.Path.{_≡_};
-ghost use mathlib.Core.Bool.{Bool};
-ghost use Prim.Native.Nat.{_+_, _*_, _/_, _%_, _<_, _≤_};
+ghost use Prim.Native.Nat.{_<_};
 ghost use lib.ListN.{length};
 ghost use Rattle.scope.specs.Outcome.{verdictOf};
 ghost use Rattle.scope.specs.Table.{nodeOf, formOk, rangeOk, orderOk, readRecord};
+ghost use Rattle.record.specs.Place.{placeOf};
 ghost use Rattle.record.specs.Read.{readOf, readVerdict};
 use scope::Node;
 use scope::Refusal;
@@ -69,13 +69,21 @@ fn order_ok(x: Node) -> bool
     x.a / 2 < x.b / 2
 }
 
+// Where the record of node n starts.
+pub fn place(n: usize) -> usize
+    requires { ⌜ n < 65536 ⌝ }
+    ensures { λ r. ⌜ r ≡ placeOf n ⌝ }
+{
+    512 * (n / 63) + (4 + 8 * (n % 63))
+}
+
 // The fields of a record.
 pub fn fields(r: &[u8]) -> Node
     requires { ⌜ length (now r) ≡ 8 ⌝ }
     ensures { λ x. ⌜ x ≡ nodeOf (now (r .entry)) ⌝ }
 {
-    let a = checksum::word(r, 2);
-    let b = checksum::word(r, 4);
+    let a = words::word(r, 2);
+    let b = words::word(r, 4);
     Node { kind: r[0], a, b }
 }
 
@@ -85,7 +93,7 @@ pub fn read_record(r: &[u8], n: usize) -> NodeRead
     ensures { λ v. ⌜ readOf v ≡ readRecord (now (r .entry)) n ⌝ }
 {
     let x = fields(r);
-    let six = checksum::word(r, 6);
+    let six = words::word(r, 6);
     if !form_ok(x, r[1], six) {
         return NodeRead::Refused(Refusal {
             number: 14,

@@ -14,7 +14,8 @@ use Rattle.scope.specs.Table.{nodeOf, nodeAt, sameNode, anyBelow, repeats}
 use Rattle.scope.proofs.Tests.{and-left, and-right}
 use Rattle.codec.specs.Valid.{Bytes}
 use Rattle.codec.proofs.Bytes.{bytes-take, bytes-drop}
-use Rattle.repeats.specs.Chains.{placeOf, keyOf}
+use Rattle.record.specs.Place.{placeOf}
+use Rattle.repeats.specs.Chains.{keyOf}
 
 -- later records stand later
 pub place-mono : (m n : ℕ) → m ≤ n → placeOf m ≤ placeOf n

@@ -1,16 +1,12 @@
--- Where records stand, their keys, and the chains by which a repeat is found. Assumes nothing.
+-- Keys of records, and the chains by which a repeat is found. Assumes nothing.
 use mathlib.Core.Path.{_≡_}
 use mathlib.Core.List.{List, [], _∷_}
 use mathlib.Core.Bool.{cond}
-use Prim.Native.Nat.{ℕ, zero, suc, _+_, _*_, _/_, _%_, _≤_}
+use Prim.Native.Nat.{ℕ, zero, suc, _+_, _*_, _%_, _≤_}
 use lib.Dec.{eqb}
 use lib.ListN.{length, getD}
 use Rattle.scope.specs.declared.Node.{Node}
 use Rattle.scope.specs.Table.{nodeAt}
-
--- where the record of node n starts
-abbrev pub placeOf : ℕ → ℕ
-placeOf n = 512 * (n / 63) + (4 + 8 * (n % 63))
 
 -- a node's fields as one number
 abbrev pub keyOf : Node → ℕ

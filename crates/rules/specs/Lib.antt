@@ -3,4 +3,3 @@ pub mod Steps
 pub mod Rules
 pub mod Derivation
 pub mod Derive
-pub mod Samples

@@ -1,11 +1,11 @@
 -- Laws of `first`, for a loop that tests one index after another: what is left at i, up to e, is the answer.
 -- Assumes nothing.
-use mathlib.Core.Path.{_≡_, _∙_, ap, sym, refl, subst}
+use mathlib.Core.Path.{_≡_, _∙_, ap, refl}
 use Prim.Native.Nat.{ℕ, zero, suc, _+_, _-_, _<_, _≤_}
 use native.Mathlib.Nat.{add-zero, add-suc, suc-add, le-of-suc-le-suc, not-suc-le-zero}
 use native.Mathlib.Numerals.{add-one}
 use native.Mathlib.Omega.{arith}
-use Rattle.scope.specs.Outcome.{Outcome, answer, refused, fine, first, _>>_}
+use Rattle.scope.specs.Outcome.{Outcome, refused, fine, first, _>>_}
 use Rattle.scope.proofs.Tests.{then-first, then-next}
 
 module _ (f : ℕ → Outcome (Unit {0})) (i e : ℕ) where

@@ -2,6 +2,5 @@
 pub mod First
 pub mod Tests
 pub mod Lists
-pub mod Tally
 pub mod Records
 pub mod Seals

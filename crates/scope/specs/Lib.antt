@@ -4,5 +4,3 @@ pub mod Block
 pub mod Table
 pub mod Truth
 pub mod Calls
-pub mod Samples
-pub mod Count

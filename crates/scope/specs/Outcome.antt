@@ -1,7 +1,6 @@
 -- 01, 'Where each call says no': what a call answers. Assumes nothing.
 use mathlib.Core.Bool.{Bool, true, false}
 use Prim.Native.Nat.{ℕ, zero, suc}
-use Rattle.scope.specs.declared.Refusal.{Refusal}
 use Rattle.scope.specs.declared.Verdict.{Verdict}
 use Rattle.scope.specs.declared.Verdict.the-variants.{Fine, Refused}
 

@@ -1,12 +1,12 @@
 -- 01, 'The table': records, and which tables are readable. Assumes nothing.
 use mathlib.Core.List.{List, [], _∷_, _++_}
 use mathlib.Core.Bool.{Bool, true, false, cond, not, _&&_, _||_}
-use Prim.Native.Nat.{ℕ, zero, suc, _+_, _-_, _*_, _/_, _%_}
+use Prim.Native.Nat.{ℕ, zero, suc, _+_, _*_, _/_, _%_}
 use lib.Dec.{eqb, leb, ltb}
-use lib.ListN.{length, getD, take, drop}
+use lib.ListN.{length, getD}
 use Rattle.scope.specs.declared.Format.{Format}
 use Rattle.scope.specs.declared.Node.{Node}
-use Rattle.scope.specs.Outcome.{Outcome, answer, refused, require, first, _>>_, _>>=_}
+use Rattle.scope.specs.Outcome.{Outcome, answer, require, first, _>>_}
 use Rattle.scope.specs.Block.{wordAt, wordBytes, blockTest, blockAt, recordAt, recordsIn, fileOf}
 
 -- '70 for a table'; '63 records of 8 bytes in a full one'; the refusals of a block are 11 to 13

@@ -10,7 +10,7 @@ use lib.Dec.{eqb, ltb}
 use lib.ListN.{getD, length}
 use borrow.Author.Tests.{eq-eqb, ne-eqb, ltb-false}
 use Rattle.scope.specs.declared.Node.{Node}
-use Rattle.scope.specs.Count.{one, tally}
+use Rattle.calculus.specs.Count.{one, tally}
 use Rattle.calculus.specs.Expansion.{expand}
 use Rattle.calculus.specs.Model.{Table, Good}
 use Rattle.trail.proofs.Trails.{trail-suc, trail-same, literal-below, count-most}

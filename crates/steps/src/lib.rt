@@ -59,7 +59,7 @@ pub fn step_read(r: &[u8]) -> Step
     requires { ⌜ length (now r) ≡ 4 ⌝ }
     ensures { λ s. ⌜ s ≡ stepOf (now (r .entry)) ⌝ }
 {
-    let value = checksum::word(r, 2);
+    let value = words::word(r, 2);
     Step {
         rule: r[0],
         position: r[1],

@@ -1,8 +1,8 @@
 -- The rows of a table as its loops meet them: a record's, a block's, then the answers of the calls. Assumes nothing.
-use mathlib.Core.Path.{_≡_, _∙_, ap, sym, refl}
+use mathlib.Core.Path.{_≡_, _∙_, ap, sym}
 use mathlib.Core.List.{List}
-use mathlib.Core.Bool.{Bool, true, false, not, _||_}
-use Prim.Native.Nat.{ℕ, suc, _+_, _-_, _*_, _/_, _%_, _<_, _≤_}
+use mathlib.Core.Bool.{true, false}
+use Prim.Native.Nat.{ℕ, suc, _+_, _-_, _*_, _/_, _<_, _≤_}
 use native.Mathlib.Nat.{add-sub-cancel-left, zero-add}
 use native.Mathlib.Omega.{arith}
 use lib.Dec.{eqb, ltb, lit<, lit≤}
@@ -12,8 +12,7 @@ use Rattle.scope.specs.declared.Format.{Format}
 use Rattle.scope.specs.declared.Node.{Node}
 use Rattle.scope.specs.declared.Refusal.{Refusal}
 use Rattle.scope.specs.declared.Verdict.{Verdict}
-use Rattle.scope.specs.declared.Verdict.the-variants.{Fine, Refused}
-use Rattle.scope.specs.Outcome.{Outcome, answer, refused, fine, verdictOf, first, require, _>>_, _>>=_}
+use Rattle.scope.specs.Outcome.{Outcome, answer, refused, fine, verdictOf, first, require, _>>_}
 use Rattle.scope.specs.Block.{blockTest, blockAt, recordAt, recordsIn}
 use Rattle.scope.specs.Table.{tables, nodeAt, readRecord, repeats, recordTest, lengthOk, blockRows, tableTest, listFrom, decode}
 use Rattle.scope.specs.Calls.{tableCount, tableRecord, noNode}
@@ -26,8 +25,9 @@ use Rattle.record.specs.declared.NodeRead.the-variants.{Refused as Unread}
 use Rattle.record.specs.Read.{readOf, readVerdict}
 use Rattle.codec.specs.Valid.{Bytes}
 use Rattle.codec.proofs.Blocks.{passed}
-use Rattle.codec.proofs.Tables.{answers, length-ok, few-records, block-of, record-reads}
-use Rattle.repeats.specs.Chains.{placeOf, Chains}
+use Rattle.codec.proofs.Tables.{answers, length-ok, block-of}
+use Rattle.record.specs.Place.{placeOf}
+use Rattle.repeats.specs.Chains.{Chains}
 use Rattle.table.specs.Counted.{Tested}
 
 -- a refusal is the verdict of the tests, and nothing is said of the chains

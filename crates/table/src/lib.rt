@@ -1,14 +1,14 @@
 // Reading a table: the first refusal of 10 to 17, the node count, the record of a literal's node.
 ghost use mathlib.Core.Path.{_≡_};
-ghost use mathlib.Core.Bool.{Bool};
-ghost use Prim.Native.Nat.{ℕ, _+_, _*_, _-_, _/_, _<_, _≤_};
+ghost use Prim.Native.Nat.{ℕ, _+_, _*_, _-_, _<_, _≤_};
 ghost use lib.ListN.{length, getD};
 ghost use Rattle.scope.specs.Outcome.{verdictOf, first};
 ghost use Rattle.scope.specs.Block.{blockAt};
-ghost use Rattle.scope.specs.Table.{tables, nodeAt, lengthOk, recordTest, blockRows, tableTest};
+ghost use Rattle.scope.specs.Table.{tables, lengthOk, recordTest, blockRows, tableTest};
 ghost use Rattle.scope.specs.Calls.{tableCount, tableRecord};
 ghost use Rattle.record.specs.Read.{readOf};
-ghost use Rattle.repeats.specs.Chains.{placeOf, Chains};
+ghost use Rattle.record.specs.Place.{placeOf};
+ghost use Rattle.repeats.specs.Chains.{Chains};
 ghost use Rattle.table.specs.Counted.{countedOf, Tested};
 use record::NodeRead;
 use scope::Format;
@@ -51,13 +51,13 @@ fn record_verdict(t: &[u8], head: &mut [u16], next: &mut [u16], n: usize) -> Ver
     requires { ⌜ (n < 2016) × (placeOf n + 8 ≤ length (now t)) × Chains (now t) (now head) (now next) n ⌝ }
     ensures { λ r. ⌜ Tested (now (t .entry)) (now (head .exit)) (now (next .exit)) r (recordTest (now (t .entry)) n) (n + 1) ⌝ }
 {
-    let at = repeats::place(n);
+    let at = record::place(n);
     let end = at + 8;
     let r = record::read_record(&t[at..end], n);
-    let NodeRead::Found(_) = r else {
+    let NodeRead::Found(x) = r else {
         return record::pass(r);
     };
-    if repeats::enter(t, head, next, n) {
+    if repeats::enter(t, head, next, n, x) {
         return Verdict::Refused(Refusal {
             number: 17,
             place: n,
@@ -150,7 +150,7 @@ pub fn record_of(t: &[u8], literal: usize) -> NodeRead
                     place: 0,
                 });
             }
-            let at = repeats::place(literal / 2);
+            let at = record::place(literal / 2);
             let end = at + 8;
             record::read_record(&t[at..end], literal / 2)
         }

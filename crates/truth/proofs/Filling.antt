@@ -17,7 +17,7 @@ use Rattle.scope.specs.Truth.{litTruth, joined, nodeTruth, truthsFrom}
 use Rattle.scope.proofs.Lists.{listFrom-more}
 use Rattle.codec.specs.Valid.{Bytes}
 use Rattle.codec.proofs.Tables.{few-records, record-reads}
-use Rattle.repeats.specs.Chains.{placeOf}
+use Rattle.record.specs.Place.{placeOf}
 use Rattle.table.proofs.Rows.{record-within}
 use Rattle.truth.specs.Evaluated.{Low, Evaluable}
 use Rattle.truth.proofs.Truths.{truths-more, lit-take}

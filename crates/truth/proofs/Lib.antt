@@ -1,5 +1,6 @@
 -- Laws of truth under a setting, and of finding it node by node, for the proofs of the functions. Assumes nothing.
 pub mod Truths
 pub mod Low
+pub mod Settings
 pub mod Filling
 pub mod Answers

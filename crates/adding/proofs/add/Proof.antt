@@ -1,12 +1,12 @@
 -- `adding::add` meets its contract: each return is the row that its tests led to. Assumes nothing.
 use mathlib.Core.Path.{_≡_, _∙_, ap, sym, refl}
 use mathlib.Core.List.{List}
-use Prim.Native.Nat.{ℕ, _≤_}
+use Prim.Native.Nat.{ℕ}
 use lib.ListN.{length, take, getD}
 use mir.Val.{Fits}
 use mir.Syntax.{w8}
 use Rattle.scope.specs.Outcome.{answer}
-use Rattle.scope.specs.Table.{nodeBytes, readRecord}
+use Rattle.scope.specs.Table.{readRecord}
 use Rattle.scope.specs.Calls.{exchanged}
 use Rattle.record.specs.Read.{readOf}
 use Rattle.table.specs.Counted.{countedOf}
@@ -16,18 +16,19 @@ use Rattle.codec.proofs.Records.{reads, record-bytes}
 use Rattle.adding.specs.declared.Added.the-variants.{Refused}
 use Rattle.adding.specs.Added.{countPassed, readPassed, usedCount, usedNodes}
 use Rattle.adding.proofs.Rows.{refuses, row-9, used-rows, record-rows, add-is, used-nodes, used-count, ready}
-use native.Mathlib.Omega.{arith}
 use borrow.Author.Needs.{needs}
 use Rattle.adding.proofs.add.Statement.{statement}
 use Rattle.adding.proofs.add.Tie as tie
 
 -- past the count: the used part reads, and its nodes are as many
-counted : (c : tie.After-known-told) → usedCount (take (c .before .before .before .before .before .before .before .args .used) (c .before .before .before .before .before .before .before .args .buf .now)) ≡ answer (c .before .c .given .0 .0)
+counted : (c : tie.After-known-told) → let at-c = c .before in let start = at-c .before .before .before .before .before .before in
+    usedCount (take (start .args .used) (start .args .buf .now)) ≡ answer (at-c .c .given .0 .0)
 counted c = sym (c .before .before .before .used-nodes .ensures) ∙ ap countedOf (c .before .c .given .1)
 
 -- past the reading of the record: what was read
 given : (c : tie.After-read-record)
-    → readRecord (exchanged (c .before .before .before .before .before .before .before .before .before .before .args .r)) (length (usedNodes (c .before .before .before .before .before .before .before .before .before .before .args .buf .now) (c .before .before .before .before .before .before .before .before .before .before .args .used) (c .before .before .before .before .c .given .0 .0))) ≡ readOf (c .read-record .result)
+    → let at-c = c .before .before .before .before in let start = at-c .before .before .before .before .before .before in
+    readRecord (exchanged (start .args .r)) (length (usedNodes (start .args .buf .now) (start .args .used) (at-c .c .given .0 .0))) ≡ readOf (c .read-record .result)
 given c =
     let a = c .before .before .before .before .before .before .before .before .before .before .args in
     let n : ℕ = c .before .before .before .before .c .given .0 .0 in
@@ -55,8 +56,12 @@ same-length c = search needs
 
 returns-2 : tie.Need-returns-2
 returns-2 c =
+    let at-used-nodes = c .before .before .before in
+    let at-if1 = at-used-nodes .before .before in
+    let start = at-if1 .before .before in
     let told = c .before .enum-told .given .1 in
-    refuses (c .before .before .before .before .before .before .before .args .buf .now) _ _ (c .pass-count .result) (c .pass-count .ensures ∙ ap countPassed told) (used-rows _ _ _ (c .before .before .before .before .before .if1 .left) (sym (c .before .before .before .used-nodes .ensures) ∙ ap countedOf told))
+    refuses (start .args .buf .now) _ _ (c .pass-count .result) (c .pass-count .ensures ∙ ap countPassed told)
+    (used-rows _ _ _ (at-if1 .if1 .left) (sym (at-used-nodes .used-nodes .ensures) ∙ ap countedOf told))
 
 exchange-requires : tie.Need-exchange-requires
 exchange-requires c κs = search needs
@@ -81,21 +86,33 @@ same-length-2 c = search needs
 
 returns-3 : tie.Need-returns-3
 returns-3 c =
-    let a = c .before .before .before .before .before .before .before .before .before .before .before .before .before .args in
-    let known = c .before .before .before .before .before .before in
+    let at-rest = c .before .before .before in
+    let at-rest-2 = at-rest .before .before .before in
+    let at-if1 = at-rest-2 .before .before .before .before .before in
+    let start = at-if1 .before .before in
+    let a = start .args in
+    let known = at-rest-2 in
     let told = c .before .enum-told2 .given .1 in
     refuses (a .buf .now) (a .used) (a .r) (c .pass-read .result) (c .pass-read .ensures ∙ ap readPassed told)
-    (record-rows (a .buf .now) (a .used) (a .r) (c .before .before .before .before .before .before .before .before .before .before .before .if1 .left) _ (used-nodes (a .buf .now) (a .used) _ (counted known)) (given (c .before .before .before) ∙ ap readOf told))
+    (record-rows (a .buf .now) (a .used) (a .r) (at-if1 .if1 .left) _ (used-nodes (a .buf .now) (a .used) _ (counted known)) (given (at-rest) ∙ ap readOf told))
 
 add-node-requires : tie.Need-add-node-requires
 add-node-requires c κs =
-    let a = c .before .before .before .before .before .before .before .before .before .before .before .before .before .before .args in
-    let y : List ℕ = c .before .before .before .before .before .before .exchange .result in
-    let n : ℕ = c .before .before .before .before .before .before .before .before .c .given .0 .0 in
-    let all : Bytes (a .buf .now) = λ i. c .before .before .before .before .before .before .before .before .before .before .before .before .before .slice-known .given i .fits in
+    let at-v = c .before .before in
+    let at-read-record = at-v .before .before in
+    let at-exchange = at-read-record .before .before in
+    let at-rest = at-exchange .before in
+    let at-c = at-rest .before in
+    let at-if1 = at-c .before .before .before .before in
+    let at-slice-known = at-if1 .before in
+    let start = at-slice-known .before in
+    let a = start .args in
+    let y : List ℕ = at-exchange .exchange .result in
+    let n : ℕ = at-c .c .given .0 .0 in
+    let all : Bytes (a .buf .now) = λ i. at-slice-known .slice-known .given i .fits in
     let bytes : Bytes y = λ i. let f : Fits w8 (getD y i 0) = search needs in f .fits in
-    let x = sym (c .before .before .before .before .read-record .ensures) ∙ ap readOf (c .before .before .v .given .1) in (
-      ready (a .buf .now) (a .used) n (counted (c .before .before .before .before .before .before .before)) (c .before .before .before .before .before .before .before .before .before .before .before .before .if1 .left) (bytes-take (a .used) (a .buf .now) all),
+    let x = sym (at-read-record .read-record .ensures) ∙ ap readOf (at-v .v .given .1) in (
+      ready (a .buf .now) (a .used) n (counted (at-rest)) (at-if1 .if1 .left) (bytes-take (a .used) (a .buf .now) all),
       record-bytes y n (search needs) bytes (reads y n x),
     )
 
@@ -104,10 +121,16 @@ same-length-3 c = search needs
 
 returns-4 : tie.Need-returns-4
 returns-4 c =
-    let a = c .before .before .before .before .before .before .before .before .before .before .before .before .before .before .before .before .before .args in
-    let known = c .before .before .before .before .before .before .before .before .before .before in
-    let e = add-is (a .buf .now) (a .used) (a .r) (c .before .before .before .before .before .before .before .before .before .before .before .before .before .before .before .if1 .left) _ (used-nodes (a .buf .now) (a .used) _ (counted known)) (given (c .before .before .before .before .before .before .before) ∙ ap readOf (c .before .before .before .before .before .v .given .1)) in
-    let done = c .before .before .add-node .ensures in
+    let at-add-node = c .before .before in
+    let at-v = at-add-node .before .before .before in
+    let at-rest = at-v .before .before in
+    let at-rest-2 = at-rest .before .before .before in
+    let at-if1 = at-rest-2 .before .before .before .before .before in
+    let start = at-if1 .before .before in
+    let a = start .args in
+    let known = at-rest-2 in
+    let e = add-is (a .buf .now) (a .used) (a .r) (at-if1 .if1 .left) _ (used-nodes (a .buf .now) (a .used) _ (counted known)) (given (at-rest) ∙ ap readOf (at-v .v .given .1)) in
+    let done = at-add-node .add-node .ensures in
     rw e (done .answered, done .bytes)
 
 pub add-spec : {M : Type 1} → statement M

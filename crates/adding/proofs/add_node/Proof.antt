@@ -1,11 +1,8 @@
 -- `adding::add_node` meets its contract: each return is the place of `Results` that its tests led to. Assumes nothing.
-use mathlib.Core.Path.{_≡_, _∙_, ap, sym, refl}
-use mathlib.Core.List.{List, _++_}
-use Prim.Native.Nat.{ℕ, _+_, _*_, _-_, _/_, _%_, _<_, _≤_}
-use lib.ListN.{length, take, drop}
+use mathlib.Core.Path.{_≡_, _∙_, sym}
+use Prim.Native.Nat.{_+_, _*_, _-_, _/_, _%_, _<_, _≤_}
+use lib.ListN.{length}
 use lib.Seq.{length-take-le}
-use Rattle.scope.specs.Block.{blockOf}
-use Rattle.writer.specs.Grown.{grown}
 use Rattle.adding.proofs.Results.{used-is, record-within, finds, over-nodes, over-buffer, writes, opened, last-count, extended}
 use native.Mathlib.Omega.{arith}
 use borrow.Author.Needs.{needs}
@@ -57,13 +54,19 @@ same-length-3 c = search needs
 
 returns-3 : tie.Need-returns-3
 returns-3 c =
-    let a = c .before .before .before .before .before .before .before .before .before .before .args in
-    let p = c .before .before .before .before .before .before .before .before .before .before .pre in
-    let few : a .nodes < 2016 = omega (arith, c .before .before .before .before .before .if2 .left, p .0 .few) in
-    let some : 0 < a .nodes % 63 = omega (arith, c .before .before .before .before .if3 .taken) in
+    let at-grow-last = c .before .before in
+    let at-if3 = at-grow-last .before .before in
+    let at-if2 = at-if3 .before in
+    let at-if1 = at-if2 .before in
+    let at-find = at-if1 .before in
+    let start = at-find .before .before .before in
+    let a = start .args in
+    let p = start .pre in
+    let few : a .nodes < 2016 = omega (arith, at-if2 .if2 .left, p .0 .few) in
+    let some : 0 < a .nodes % 63 = omega (arith, at-if3 .if3 .taken) in
     let end : a .used ≡ 512 * ((a .nodes + 63) / 63) = omega (arith, used-is _ _ _ (p .0), some) in
-    writes _ _ _ (p .0) (a .x) _ (c .before .before .before .before .before .before .before .find .ensures) (c .before .before .before .before .before .before .if1 .left) few (rw (← end) (p .0 .within)) _ (a .used) end
-    (c .before .before .grow-last .ensures ∙ rw (p .1) (extended _ _ _ (p .0) (a .x) some))
+    writes _ _ _ (p .0) (a .x) _ (at-find .find .ensures) (at-if1 .if1 .left) few (rw (← end) (p .0 .within)) _ (a .used) end
+    (at-grow-last .grow-last .ensures ∙ rw (p .1) (extended _ _ _ (p .0) (a .x) some))
 
 sub-if4 : tie.Need-sub-if4
 sub-if4 c = search needs
@@ -73,10 +76,14 @@ same-length-4 c = search needs
 
 returns-4 : tie.Need-returns-4
 returns-4 c =
-    let a = c .before .before .before .before .before .before .before .args in
-    let p = c .before .before .before .before .before .before .before .pre in
-    let few : a .nodes < 2016 = omega (arith, c .before .before .if2 .left, p .0 .few) in
-    over-buffer _ _ _ (p .0) (a .x) _ (c .before .before .before .before .find .ensures) (c .before .before .before .if1 .left) few (omega (arith, c .if4 .taken, used-is _ _ _ (p .0), c .before .if3 .left))
+    let at-if2 = c .before .before in
+    let at-if1 = at-if2 .before in
+    let at-find = at-if1 .before in
+    let start = at-find .before .before .before in
+    let a = start .args in
+    let p = start .pre in
+    let few : a .nodes < 2016 = omega (arith, at-if2 .if2 .left, p .0 .few) in
+    over-buffer _ _ _ (p .0) (a .x) _ (at-find .find .ensures) (at-if1 .if1 .left) few (omega (arith, c .if4 .taken, used-is _ _ _ (p .0), c .before .if3 .left))
 
 open-block-requires : tie.Need-open-block-requires
 open-block-requires c κs =
@@ -94,13 +101,20 @@ same-length-5 c = search needs
 
 returns-5 : tie.Need-returns-5
 returns-5 c =
-    let a = c .before .before .before .before .before .before .before .before .before .before .before .args in
-    let p = c .before .before .before .before .before .before .before .before .before .before .before .pre in
-    let few : a .nodes < 2016 = omega (arith, c .before .before .before .before .before .before .if2 .left, p .0 .few) in
-    let end : a .used + 512 ≡ 512 * ((a .nodes + 63) / 63) = omega (arith, used-is _ _ _ (p .0), c .before .before .before .before .before .if3 .left) in
-    let fits : 512 * ((a .nodes + 63) / 63) ≤ length (a .buf .now) = omega (arith, c .before .before .before .before .if4 .left, p .0 .within, end) in
-    writes _ _ _ (p .0) (a .x) _ (c .before .before .before .before .before .before .before .before .find .ensures) (c .before .before .before .before .before .before .before .if1 .left) few fits _ (a .used + 512) end
-    (c .before .before .open-block .ensures ∙ rw (p .1) (opened _ _ _ (p .0) (a .x) (omega (arith, c .before .before .before .before .before .if3 .left))))
+    let at-open-block = c .before .before in
+    let at-if4 = at-open-block .before .before in
+    let at-if3 = at-if4 .before in
+    let at-if2 = at-if3 .before in
+    let at-if1 = at-if2 .before in
+    let at-find = at-if1 .before in
+    let start = at-find .before .before .before in
+    let a = start .args in
+    let p = start .pre in
+    let few : a .nodes < 2016 = omega (arith, at-if2 .if2 .left, p .0 .few) in
+    let end : a .used + 512 ≡ 512 * ((a .nodes + 63) / 63) = omega (arith, used-is _ _ _ (p .0), at-if3 .if3 .left) in
+    let fits : 512 * ((a .nodes + 63) / 63) ≤ length (a .buf .now) = omega (arith, at-if4 .if4 .left, p .0 .within, end) in
+    writes _ _ _ (p .0) (a .x) _ (at-find .find .ensures) (at-if1 .if1 .left) few fits _ (a .used + 512) end
+    (at-open-block .open-block .ensures ∙ rw (p .1) (opened _ _ _ (p .0) (a .x) (omega (arith, at-if3 .if3 .left))))
 
 pub add-node-spec : {M : Type 1} → statement M
 add-node-spec =

@@ -40,8 +40,10 @@ same-length c = search needs
 
 returns : tie.Need-returns
 returns c =
-    let a = c .before .before .before .before .before .before .args in
-    mid-back (λ (l : List ℕ). grown l (4 + 8 * a .held) (a .t4)) (a .buf .now) (a .used - 512) (a .used) 512 (omega (arith, c .before .before .before .before .before .before .pre .0)) (c .before .before .grow-block .ensures)
+    let at-grow-block = c .before .before in
+    let start = at-grow-block .before .before .before .before in
+    let a = start .args in
+    mid-back (λ (l : List ℕ). grown l (4 + 8 * a .held) (a .t4)) (a .buf .now) (a .used - 512) (a .used) 512 (omega (arith, start .pre .0)) (at-grow-block .grow-block .ensures)
 
 pub grow-last-spec : {M : Type 1} → statement M
 grow-last-spec =

@@ -1,7 +1,6 @@
 -- `adding::pass_count` meets its contract. Assumes nothing.
 use mathlib.Core.Path.{ap, sym}
 use Rattle.adding.specs.Added.{countPassed}
-use native.Mathlib.Omega.{arith}
 use borrow.Author.Needs.{needs}
 use Rattle.adding.proofs.pass_count.Statement.{statement}
 use Rattle.adding.proofs.pass_count.Tie as tie

@@ -1,7 +1,6 @@
 -- `adding::pass_read` meets its contract. Assumes nothing.
 use mathlib.Core.Path.{ap, sym}
 use Rattle.adding.specs.Added.{readPassed}
-use native.Mathlib.Omega.{arith}
 use borrow.Author.Needs.{needs}
 use Rattle.adding.proofs.pass_read.Statement.{statement}
 use Rattle.adding.proofs.pass_read.Tie as tie

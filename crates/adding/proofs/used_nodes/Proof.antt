@@ -1,8 +1,7 @@
 -- `adding::used_nodes` meets its contract. Assumes nothing.
-use mathlib.Core.Path.{_≡_, _∙_, ap, sym}
+use mathlib.Core.Path.{_∙_, sym}
 use lib.Seq.{length-take-le}
 use Rattle.adding.proofs.Buffers.{none-used, some-used}
-use native.Mathlib.Omega.{arith}
 use borrow.Author.Needs.{needs}
 use Rattle.adding.proofs.used_nodes.Statement.{statement}
 use Rattle.adding.proofs.used_nodes.Tie as tie

@@ -20,7 +20,10 @@ same-length : tie.Need-same-length
 same-length c = search needs
 
 returns : tie.Need-returns
-returns c = built-as (sym (false-is (c .before .before .before .before .before .before .before .args .used) (c .before .before .before .before .before .before .before .args .buf .now))) (built-stops (c .before .before .before .before .put .ensures) _ _ (c .enum-told .given .1))
+returns c =
+    let at-put = c .before .before .before .before in
+    let start = at-put .before .before .before in
+    built-as (sym (false-is (start .args .used) (start .args .buf .now))) (built-stops (at-put .put .ensures) _ _ (c .enum-told .given .1))
 
 opposite-requires : tie.Need-opposite-requires
 opposite-requires c κs = c .before .before .before .before .before .put .ensures .small _ (c .before .a .given .1)

@@ -35,8 +35,11 @@ same-length c = search needs
 
 returns : tie.Need-returns Inv-loop μ-loop
 returns c =
-    let inv = c .before .before .before .before .before .before .before .loop .inv in
-    built-as (sym (point-next _ _ _ (c .before .before .before .before .before .before .loop-test .taken)) ∙ inv .3) (built-stops (c .before .before .before .before .put .ensures) _ _ (c .enum-told .given .1))
+    let at-put = c .before .before .before .before in
+    let at-loop-test = at-put .before .before in
+    let at-loop = at-loop-test .before in
+    let inv = at-loop .loop .inv in
+    built-as (sym (point-next _ _ _ (at-loop-test .loop-test .taken)) ∙ inv .3) (built-stops (at-put .put .ensures) _ _ (c .enum-told .given .1))
 
 add-p : tie.Need-add-p Inv-loop μ-loop
 add-p c = search needs

@@ -23,8 +23,13 @@ same-length c = search needs
 
 returns-2 : tie.Need-returns-2
 returns-2 c =
-    let a = c .before .before .before .before .before .before .before .before .args in
-    built-as (and-opposite (a .goal) (a .literal) (a .used) (a .buf .now) (c .before .before .before .before .before .before .if1 .left) (c .before .before .before .before .if2 .taken ∙ c .before .before .before .before .before .opposite .ensures)) (c .before .before .add-false .ensures)
+    let at-add-false = c .before .before in
+    let at-if2 = at-add-false .before .before in
+    let at-opposite = at-if2 .before in
+    let at-if1 = at-opposite .before in
+    let start = at-if1 .before .before in
+    let a = start .args in
+    built-as (and-opposite (a .goal) (a .literal) (a .used) (a .buf .now) (at-if1 .if1 .left) (at-if2 .if2 .taken ∙ at-opposite .opposite .ensures)) (at-add-false .add-false .ensures)
 
 put-requires : tie.Need-put-requires
 put-requires c κs = (omega arith, c .before .before .before .before .before .pre .0, c .before .before .before .before .before .pre .1)
@@ -34,8 +39,13 @@ same-length-2 c = search needs
 
 returns-3 : tie.Need-returns-3
 returns-3 c =
-    let a = c .before .before .before .before .before .before .before .before .args in
-    built-as (and-put (a .goal) (a .literal) (a .used) (a .buf .now) (c .before .before .before .before .before .before .if1 .left) (λ q. c .before .before .before .before .if2 .left (q ∙ sym (c .before .before .before .before .before .opposite .ensures)))) (c .before .before .put .ensures)
+    let at-put = c .before .before in
+    let at-if2 = at-put .before .before in
+    let at-opposite = at-if2 .before in
+    let at-if1 = at-opposite .before in
+    let start = at-if1 .before .before in
+    let a = start .args in
+    built-as (and-put (a .goal) (a .literal) (a .used) (a .buf .now) (at-if1 .if1 .left) (λ q. at-if2 .if2 .left (q ∙ sym (at-opposite .opposite .ensures)))) (at-put .put .ensures)
 
 pub and-join-spec : {M : Type 1} → statement M
 and-join-spec =

@@ -51,7 +51,11 @@ cast-put : tie.Need-cast-put Inv-loop μ-loop
 cast-put c = omega (arith, c .before .before .before .before .before .before .before .before .pre .each _ (c .before .before .loop-test .taken))
 
 put-requires : tie.Need-put-requires Inv-loop μ-loop
-put-requires c κs = (omega arith, c .before .before .before .loop .inv .1, omega (arith, c .before .before .before .before .before .before .before .before .pre .each _ (c .before .before .loop-test .taken)))
+put-requires c κs =
+    let at-loop-test = c .before .before in
+    let at-loop = at-loop-test .before in
+    let start = at-loop .before .before .before .before .before in
+    (omega arith, at-loop .loop .inv .1, omega (arith, start .pre .each _ (at-loop-test .loop-test .taken)))
 
 enum-known-a : tie.Need-enum-known-a Inv-loop μ-loop
 enum-known-a c = search needs
@@ -64,9 +68,13 @@ same-length-2 c = search needs
 
 returns-2 : tie.Need-returns-2 Inv-loop μ-loop
 returns-2 c =
-    let inv = c .before .before .before .before .before .before .before .before .loop .inv in
-    let a = c .before .before .before .before .before .before .before .before .before .before .before .before .before .args in
-    built-as (sym (or-next (a .held .now) (a .count) _ (c .before .before .before .before .before .before .before .before .before .before .before .before .before .pre .within) _ (c .before .before .before .before .before .before .before .loop-test .taken)) ∙ inv .3) (built-stops (c .before .before .before .before .put .ensures) _ _ (c .enum-told .given .1))
+    let at-put = c .before .before .before .before in
+    let at-loop-test = at-put .before .before .before in
+    let at-loop = at-loop-test .before in
+    let start = at-loop .before .before .before .before .before in
+    let inv = at-loop .loop .inv in
+    let a = start .args in
+    built-as (sym (or-next (a .held .now) (a .count) _ (start .pre .within) _ (at-loop-test .loop-test .taken)) ∙ inv .3) (built-stops (at-put .put .ensures) _ _ (c .enum-told .given .1))
 
 add-i : tie.Need-add-i Inv-loop μ-loop
 add-i c = search needs
@@ -76,13 +84,17 @@ loop-less c = search needs
 
 loop-again : tie.Need-loop-again Inv-loop μ-loop
 loop-again c =
-    let inv = c .before .before .before .before .before .before .before .before .before .loop .inv in
-    let a = c .before .before .before .before .before .before .before .before .before .before .before .before .before .before .args in
+    let at-put = c .before .before .before .before .before in
+    let at-loop-test = at-put .before .before .before in
+    let at-loop = at-loop-test .before in
+    let start = at-loop .before .before .before .before .before in
+    let inv = at-loop .loop .inv in
+    let a = start .args in
     let told = c .before .a .given .1 in (
       search needs,
-      c .before .before .before .before .before .put .ensures .small _ told,
+      at-put .put .ensures .small _ told,
       search needs,
-      sym (built-next (c .before .before .before .before .before .put .ensures) _ told) ∙ sym (or-next (a .held .now) (a .count) _ (c .before .before .before .before .before .before .before .before .before .before .before .before .before .before .pre .within) _ (c .before .before .before .before .before .before .before .before .loop-test .taken)) ∙ inv .3,
+      sym (built-next (at-put .put .ensures) _ told) ∙ sym (or-next (a .held .now) (a .count) _ (start .pre .within) _ (at-loop-test .loop-test .taken)) ∙ inv .3,
     )
 
 same-length-3 : tie.Need-same-length-3 Inv-loop μ-loop

@@ -21,10 +21,14 @@ same-length c = search needs
 
 returns : tie.Need-returns
 returns c =
-    let a = c .before .before .before .before .before .before .before .before .before .before .args in
-    let g = c .before .before .before .before .before .before .gather .ensures in
+    let at-put = c .before .before in
+    let at-if1 = at-put .before .before in
+    let at-gather = at-if1 .before .before in
+    let start = at-gather .before .before .before .before in
+    let a = start .args in
+    let g = at-gather .gather .ensures in
     record {
-      built = λ l. built-as (clause-both (a .used) (a .buf .now) l (clauseAt (a .vars) (a .text .now) (a .at)) (sym (g .both) ∙ c .before .before .before .before .if1 .taken)) (c .before .before .put .ensures);
+      built = λ l. built-as (clause-both (a .used) (a .buf .now) l (clauseAt (a .vars) (a .text .now) (a .at)) (sym (g .both) ∙ at-if1 .if1 .taken)) (at-put .put .ensures);
       moves = g .moves;
     }
 
@@ -39,10 +43,14 @@ same-length-2 c = search needs
 
 returns-2 : tie.Need-returns-2
 returns-2 c =
-    let a = c .before .before .before .before .before .before .before .before .before .before .before .args in
-    let g = c .before .before .before .before .before .before .before .gather .ensures in
+    let at-or-clause = c .before .before in
+    let at-if1 = at-or-clause .before .before .before in
+    let at-gather = at-if1 .before .before in
+    let start = at-gather .before .before .before .before in
+    let a = start .args in
+    let g = at-gather .gather .ensures in
     record {
-      built = λ l. built-as (clause-or (a .used) (a .buf .now) l (clauseAt (a .vars) (a .text .now) (a .at)) (g .list) (sym (g .both) ∙ c .before .before .before .before .before .if1 .left)) (c .before .before .or-clause .ensures);
+      built = λ l. built-as (clause-or (a .used) (a .buf .now) l (clauseAt (a .vars) (a .text .now) (a .at)) (g .list) (sym (g .both) ∙ at-if1 .if1 .left)) (at-or-clause .or-clause .ensures);
       moves = g .moves;
     }
 

@@ -15,8 +15,11 @@ same-length c = search needs
 
 returns : tie.Need-returns
 returns c =
-    let a = c .before .before .before .before .before .before .before .before .args in
-    λ l. built-as (goal-none (c .before .before .before .before .before .before .before .before .pre) (a .used) (a .buf .now) l (c .before .before .before .before .if1 .taken)) (c .before .before .put .ensures)
+    let at-put = c .before .before in
+    let at-if1 = at-put .before .before in
+    let start = at-if1 .before .before .before .before in
+    let a = start .args in
+    λ l. built-as (goal-none (start .pre) (a .used) (a .buf .now) l (at-if1 .if1 .taken)) (at-put .put .ensures)
 
 add-clause-requires : tie.Need-add-clause-requires
 add-clause-requires c κs = body-clause (c .before .before .before .before .before .pre) (c .before .if1 .left)
@@ -32,24 +35,36 @@ same-length-2 c = search needs
 
 returns-2 : tie.Need-returns-2
 returns-2 c =
-    let a = c .before .before .before .before .before .before .before .before .before .before .args in
-    λ l. built-as (goal-some (c .before .before .before .before .before .before .before .before .before .before .pre) (c .before .before .before .before .before .before .if1 .left) (state l (a .used) (a .buf .now))) (built-stops (c .before .before .before .before .add-clause .ensures .built l) _ _ (c .enum-told .given .1))
+    let at-add-clause = c .before .before .before .before in
+    let at-if1 = at-add-clause .before .before in
+    let start = at-if1 .before .before .before .before in
+    let a = start .args in
+    λ l. built-as (goal-some (start .pre) (at-if1 .if1 .left) (state l (a .used) (a .buf .now))) (built-stops (at-add-clause .add-clause .ensures .built l) _ _ (c .enum-told .given .1))
 
 sub-and-all : tie.Need-sub-and-all
 sub-and-all c = omega (arith, c .before .before .before .before .before .before .before .before .if1 .left)
 
 and-all-requires : tie.Need-and-all-requires
 and-all-requires c κs =
-    let j = c .before .before .before .before .before .before .before .add-clause .ensures in
-    (rest-places (c .before .before .before .before .before .before .before .before .before .before .before .before .before .pre) (c .before .before .before .before .before .before .before .before .before .if1 .left) (j .moves), j .built 0 .small _ (c .before .before .before .a .given .1))
+    let at-a = c .before .before .before in
+    let at-add-clause = at-a .before .before .before .before in
+    let at-if1 = at-add-clause .before .before in
+    let start = at-if1 .before .before .before .before in
+    let j = at-add-clause .add-clause .ensures in
+    (rest-places (start .pre) (at-if1 .if1 .left) (j .moves), j .built 0 .small _ (at-a .a .given .1))
 
 same-length-3 : tie.Need-same-length-3
 same-length-3 c = search needs
 
 returns-3 : tie.Need-returns-3
 returns-3 c =
-    let j = c .before .before .before .before .before .before .before .before .before .before .add-clause .ensures in
-    λ l. built-as (goal-joined (c .before .before .before .before .before .before .before .before .before .before .before .before .before .before .before .before .pre) (c .before .before .before .before .before .before .before .before .before .before .before .before .if1 .left) (j .moves) j (c .before .before .before .before .before .before .a .given .1) l) (c .before .before .and-all .ensures)
+    let at-and-all = c .before .before in
+    let at-a = at-and-all .before .before .before .before in
+    let at-add-clause = at-a .before .before .before .before in
+    let at-if1 = at-add-clause .before .before in
+    let start = at-if1 .before .before .before .before in
+    let j = at-add-clause .add-clause .ensures in
+    λ l. built-as (goal-joined (start .pre) (at-if1 .if1 .left) (j .moves) j (at-a .a .given .1) l) (at-and-all .and-all .ensures)
 
 pub add-goal-spec : {M : Type 1} → statement M
 add-goal-spec =

@@ -27,7 +27,10 @@ loop-holds : tie.Need-loop-holds Inv-loop μ-loop
 loop-holds c = (search needs, c .before .before .pre .1, refl, left-all (c .before .before .pre .0), refl)
 
 add-clause-requires : tie.Need-add-clause-requires Inv-loop μ-loop
-add-clause-requires c κs = left-body (c .before .before .loop .inv .3) (c .before .before .before .before .before .pre .0 .few) (omega (arith, c .before .loop-test .taken, c .before .before .before .before .before .pre .0 .count))
+add-clause-requires c κs =
+    let at-loop = c .before .before in
+    let start = at-loop .before .before .before in
+    left-body (at-loop .loop .inv .3) (start .pre .0 .few) (omega (arith, c .before .loop-test .taken, start .pre .0 .count))
 
 enum-known-a : tie.Need-enum-known-a Inv-loop μ-loop
 enum-known-a c = search needs
@@ -40,17 +43,26 @@ same-length c = search needs
 
 returns : tie.Need-returns Inv-loop μ-loop
 returns c =
-    let p = c .before .before .before .before .before .before .before .before .before .before .pre .0 in
-    let inv = c .before .before .before .before .before .before .before .loop .inv in
-    let t = turn (c .before .before .before .before .before .before .before .loop .literal) (inv .3) (p .few) (p .count) (c .before .before .before .before .before .before .loop-test .taken) (inv .4) (c .before .before .before .before .add-clause .ensures) in
+    let at-add-clause = c .before .before .before .before in
+    let at-loop-test = at-add-clause .before .before in
+    let at-loop = at-loop-test .before in
+    let start = at-loop .before .before .before in
+    let p = start .pre .0 in
+    let inv = at-loop .loop .inv in
+    let t = turn (at-loop .loop .literal) (inv .3) (p .few) (p .count) (at-loop-test .loop-test .taken) (inv .4) (at-add-clause .add-clause .ensures) in
     built-as (t .step) (built-stops (t .built) _ _ (c .enum-told .given .1))
 
 and-join-requires : tie.Need-and-join-requires Inv-loop μ-loop
 and-join-requires c κs =
-    let p = c .before .before .before .before .before .before .before .before .before .before .before .before .pre .0 in
-    let inv = c .before .before .before .before .before .before .before .before .before .loop .inv in
-    let t = turn (c .before .before .before .before .before .before .before .before .before .loop .literal) (inv .3) (p .few) (p .count) (c .before .before .before .before .before .before .before .before .loop-test .taken) (inv .4) (c .before .before .before .before .before .before .add-clause .ensures) in
-    (inv .1, t .built .small _ (c .before .before .a .given .1))
+    let at-a = c .before .before in
+    let at-add-clause = at-a .before .before .before .before in
+    let at-loop-test = at-add-clause .before .before in
+    let at-loop = at-loop-test .before in
+    let start = at-loop .before .before .before in
+    let p = start .pre .0 in
+    let inv = at-loop .loop .inv in
+    let t = turn (at-loop .loop .literal) (inv .3) (p .few) (p .count) (at-loop-test .loop-test .taken) (inv .4) (at-add-clause .add-clause .ensures) in
+    (inv .1, t .built .small _ (at-a .a .given .1))
 
 enum-known-r : tie.Need-enum-known-r Inv-loop μ-loop
 enum-known-r c = search needs
@@ -63,10 +75,16 @@ same-length-2 c = search needs
 
 returns-2 : tie.Need-returns-2 Inv-loop μ-loop
 returns-2 c =
-    let p = c .before .before .before .before .before .before .before .before .before .before .before .before .before .before .before .before .before .pre .0 in
-    let inv = c .before .before .before .before .before .before .before .before .before .before .before .before .before .before .loop .inv in
-    let t = turn (c .before .before .before .before .before .before .before .before .before .before .before .before .before .before .loop .literal) (inv .3) (p .few) (p .count) (c .before .before .before .before .before .before .before .before .before .before .before .before .before .loop-test .taken) (inv .4) (c .before .before .before .before .before .before .before .before .before .before .before .add-clause .ensures) in
-    built-as (sym (built-next (t .built) _ (c .before .before .before .before .before .before .before .a .given .1)) ∙ t .step) (built-stops (c .before .before .before .before .and-join .ensures) _ _ (c .enum-told2 .given .1))
+    let at-and-join = c .before .before .before .before in
+    let at-a = at-and-join .before .before .before in
+    let at-add-clause = at-a .before .before .before .before in
+    let at-loop-test = at-add-clause .before .before in
+    let at-loop = at-loop-test .before in
+    let start = at-loop .before .before .before in
+    let p = start .pre .0 in
+    let inv = at-loop .loop .inv in
+    let t = turn (at-loop .loop .literal) (inv .3) (p .few) (p .count) (at-loop-test .loop-test .taken) (inv .4) (at-add-clause .add-clause .ensures) in
+    built-as (sym (built-next (t .built) _ (at-a .a .given .1)) ∙ t .step) (built-stops (at-and-join .and-join .ensures) _ _ (c .enum-told2 .given .1))
 
 add-k : tie.Need-add-k Inv-loop μ-loop
 add-k c = search needs
@@ -76,14 +94,20 @@ loop-less c = search needs
 
 loop-again : tie.Need-loop-again Inv-loop μ-loop
 loop-again c =
-    let p = c .before .before .before .before .before .before .before .before .before .before .before .before .before .before .before .before .before .before .pre .0 in
-    let inv = c .before .before .before .before .before .before .before .before .before .before .before .before .before .before .before .loop .inv in
-    let t = turn (c .before .before .before .before .before .before .before .before .before .before .before .before .before .before .before .loop .literal) (inv .3) (p .few) (p .count) (c .before .before .before .before .before .before .before .before .before .before .before .before .before .before .loop-test .taken) (inv .4) (c .before .before .before .before .before .before .before .before .before .before .before .before .add-clause .ensures) in (
+    let at-and-join = c .before .before .before .before .before in
+    let at-a = at-and-join .before .before .before in
+    let at-add-clause = at-a .before .before .before .before in
+    let at-loop-test = at-add-clause .before .before in
+    let at-loop = at-loop-test .before in
+    let start = at-loop .before .before .before in
+    let p = start .pre .0 in
+    let inv = at-loop .loop .inv in
+    let t = turn (at-loop .loop .literal) (inv .3) (p .few) (p .count) (at-loop-test .loop-test .taken) (inv .4) (at-add-clause .add-clause .ensures) in (
       search needs,
-      c .before .before .before .before .before .and-join .ensures .small _ (c .before .r .given .1),
+      at-and-join .and-join .ensures .small _ (c .before .r .given .1),
       search needs,
-      left-next (inv .3) (c .before .before .before .before .before .before .before .before .before .before .before .before .add-clause .ensures .moves),
-      sym (built-next (c .before .before .before .before .before .and-join .ensures) _ (c .before .r .given .1)) ∙ sym (built-next (t .built) _ (c .before .before .before .before .before .before .before .before .a .given .1)) ∙ t .step,
+      left-next (inv .3) (at-add-clause .add-clause .ensures .moves),
+      sym (built-next (at-and-join .and-join .ensures) _ (c .before .r .given .1)) ∙ sym (built-next (t .built) _ (at-a .a .given .1)) ∙ t .step,
     )
 
 same-length-3 : tie.Need-same-length-3 Inv-loop μ-loop

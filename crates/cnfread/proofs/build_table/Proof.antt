@@ -32,8 +32,12 @@ same-length-2 c = search needs
 
 returns-2 : tie.Need-returns-2
 returns-2 c =
-    let a = c .before .before .before .before .before .before .before .before .before .before .before .before .before .args in
-    built-as (sym (built-next (c .before .before .before .before .before .before .before .before .before .add-points .ensures) _ (c .before .before .before .before .before .p .given .1)) ∙ build-is (a .buf .now) (fileIn (a .h) (a .text .now))) (c .before .before .add-goal .ensures _)
+    let at-add-goal = c .before .before in
+    let at-p = at-add-goal .before .before .before in
+    let at-add-points = at-p .before .before .before .before in
+    let start = at-add-points .before .before .before .before in
+    let a = start .args in
+    built-as (sym (built-next (at-add-points .add-points .ensures) _ (at-p .p .given .1)) ∙ build-is (a .buf .now) (fileIn (a .h) (a .text .now))) (at-add-goal .add-goal .ensures _)
 
 pub build-table-spec : {M : Type 1} → statement M
 build-table-spec =

@@ -88,30 +88,45 @@ slice-aggregate-keep c = search needs
 
 keep-requires : tie.Need-keep-requires Inv-loop μ-loop
 keep-requires c κs =
-    let a = c .before .before .before .before .before .before .before .before .before .before .before .args in
-    let u = c .before .before .before .before .before .before .before .before .loop .inv .0 in
-    let b = c .before .before .before .before .before .before .before .before .before .before .before .pre .0 in
-    let t = token-told (a .vars) (a .text .now) (c .before .before .before .before .before .before .before .before .loop .i) (c .before .before .before .before .before .t2 .given .1) (c .before .before .before .before .before .before .before .next-token .ensures) in
+    let at-t2 = c .before .before .before .before .before in
+    let at-next-token = at-t2 .before .before in
+    let at-loop = at-next-token .before in
+    let start = at-loop .before .before .before in
+    let a = start .args in
+    let u = at-loop .loop .inv .0 in
+    let b = start .pre .0 in
+    let t = token-told (a .vars) (a .text .now) (at-loop .loop .i) (at-t2 .t2 .given .1) (at-next-token .next-token .ensures) in
     (u .keeps, literal-low (b .few) t)
 
 loop-less : tie.Need-loop-less Inv-loop μ-loop
 loop-less c =
-    let a = c .before .before .before .before .before .before .before .before .before .before .before .before .before .before .before .args in
-    let u = c .before .before .before .before .before .before .before .before .before .before .before .before .loop .inv .0 in
-    let b = c .before .before .before .before .before .before .before .before .before .before .before .before .before .before .before .pre .0 in
-    let t = token-told (a .vars) (a .text .now) (c .before .before .before .before .before .before .before .before .before .before .before .before .loop .i) (c .before .before .before .before .before .before .before .before .before .t2 .given .1) (c .before .before .before .before .before .before .before .before .before .before .before .next-token .ensures) in
+    let at-t2 = c .before .before .before .before .before .before .before .before .before in
+    let at-next-token = at-t2 .before .before in
+    let at-loop = at-next-token .before in
+    let start = at-loop .before .before .before in
+    let a = start .args in
+    let u = at-loop .loop .inv .0 in
+    let b = start .pre .0 in
+    let t = token-told (a .vars) (a .text .now) (at-loop .loop .i) (at-t2 .t2 .given .1) (at-next-token .next-token .ensures) in
     omega (arith, t .later, t .within)
 
 loop-again : tie.Need-loop-again Inv-loop μ-loop
 loop-again c =
-    let a = c .before .before .before .before .before .before .before .before .before .before .before .before .before .before .before .args in
-    let u = c .before .before .before .before .before .before .before .before .before .before .before .before .loop .inv .0 in
-    let b = c .before .before .before .before .before .before .before .before .before .before .before .before .before .before .before .pre .0 in
-    let t = token-told (a .vars) (a .text .now) (c .before .before .before .before .before .before .before .before .before .before .before .before .loop .i) (c .before .before .before .before .before .before .before .before .before .t2 .given .1) (c .before .before .before .before .before .before .before .before .before .before .before .next-token .ensures) in
+    let at-keep = c .before .before .before in
+    let at-if1 = at-keep .before .before .before in
+    let at-opposite = at-if1 .before in
+    let at-t2 = at-opposite .before .before in
+    let at-next-token = at-t2 .before .before in
+    let at-loop = at-next-token .before in
+    let start = at-loop .before .before .before in
+    let a = start .args in
+    let u = at-loop .loop .inv .0 in
+    let b = start .pre .0 in
+    let t = token-told (a .vars) (a .text .now) (at-loop .loop .i) (at-t2 .t2 .given .1) (at-next-token .next-token .ensures) in
     let low = literal-low (b .few) t in
-    let o = c .before .before .before .before .before .before .before .opposite .ensures in (
-      under-literal u t (c .before .before .before .keep .ensures)
-          (⊎-elim (λ w. both-found u low o (w .0 .taken) (w .1)) (λ w. both-stays u low o (w .0 .left) (w .1)) (c .before .before .before .before .before .before .if1 .came)),
+    let o = at-opposite .opposite .ensures in (
+      under-literal u t (at-keep .keep .ensures)
+          (⊎-elim (λ w. both-found u low o (w .0 .taken) (w .1)) (λ w. both-stays u low o (w .0 .left) (w .1)) (at-if1 .if1 .came)),
       search needs,
     )
 

@@ -30,19 +30,33 @@ returns : tie.Need-returns
 returns c = no-number _ (c .before .before .before .before .digits-end .ensures) (sym (c .before .before .numeral .ensures) ∙ c .enum-told .given .1)
 
 returns-2 : tie.Need-returns-2
-returns-2 c = nothing-follows _ (c .before .before .before .before .before .before .digits-end .ensures) (sym (c .before .before .before .before .numeral .ensures) ∙ c .before .before .n .given .1) (c .if1 .taken)
+returns-2 c =
+    let at-n = c .before .before in
+    let at-numeral = at-n .before .before in
+    let at-digits-end = at-numeral .before .before in
+    nothing-follows _ (at-digits-end .digits-end .ensures) (sym (at-numeral .numeral .ensures) ∙ at-n .n .given .1) (c .if1 .taken)
 
 shared-slice-read-if2 : tie.Need-shared-slice-read-if2
 shared-slice-read-if2 c = search needs
 
 returns-3 : tie.Need-returns-3
-returns-3 c = other-follows _ (c .before .before .before .before .before .before .before .before .digits-end .ensures) (sym (c .before .before .before .before .before .before .numeral .ensures) ∙ c .before .before .before .before .n .given .1) (c .before .before .if1 .left) (c .if2 .taken)
+returns-3 c =
+    let at-if1 = c .before .before in
+    let at-n = at-if1 .before .before in
+    let at-numeral = at-n .before .before in
+    let at-digits-end = at-numeral .before .before in
+    other-follows _ (at-digits-end .digits-end .ensures) (sym (at-numeral .numeral .ensures) ∙ at-n .n .given .1) (at-if1 .if1 .left) (c .if2 .taken)
 
 add-t8 : tie.Need-add-t8
 add-t8 c = search needs
 
 returns-4 : tie.Need-returns-4
-returns-4 c = this-follows _ (c .before .before .before .before .before .before .before .before .digits-end .ensures) (sym (c .before .before .before .before .before .before .numeral .ensures) ∙ c .before .before .before .before .n .given .1) (c .before .before .if1 .left) (c .if2 .left)
+returns-4 c =
+    let at-if1 = c .before .before in
+    let at-n = at-if1 .before .before in
+    let at-numeral = at-n .before .before in
+    let at-digits-end = at-numeral .before .before in
+    this-follows _ (at-digits-end .digits-end .ensures) (sym (at-numeral .numeral .ensures) ∙ at-n .n .given .1) (at-if1 .if1 .left) (c .if2 .left)
 
 pub heading-number-spec : {M : Type 1} → statement M
 heading-number-spec =

@@ -28,7 +28,12 @@ enum-told : tie.Need-enum-told
 enum-told c = search needs
 
 returns-2 : tie.Need-returns-2
-returns-2 c = no-variables _ _ (c .before .before .before .before .before .before .before .pre) (sym (c .before .before .before .before .starts .ensures) ∙ not-false _ (c .before .before .before .if1 .left)) (c .before .before .heading-number .ensures) (c .enum-told .given .1)
+returns-2 c =
+    let at-heading-number = c .before .before in
+    let at-if1 = at-heading-number .before in
+    let at-starts = at-if1 .before in
+    let start = at-starts .before .before .before in
+    no-variables _ _ (start .pre) (sym (at-starts .starts .ensures) ∙ not-false _ (at-if1 .if1 .left)) (at-heading-number .heading-number .ensures) (c .enum-told .given .1)
 
 heading-number-requires-2 : tie.Need-heading-number-requires-2
 heading-number-requires-2 c κs = c .before .before .before .heading-number .ensures .within _ _ (c .before .v .given .1)
@@ -40,13 +45,39 @@ enum-told-2 : tie.Need-enum-told-2
 enum-told-2 c = search needs
 
 returns-3 : tie.Need-returns-3
-returns-3 c = no-clauses _ _ (c .before .before .before .before .before .before .before .before .before .before .before .pre) (sym (c .before .before .before .before .before .before .before .before .starts .ensures) ∙ not-false _ (c .before .before .before .before .before .before .before .if1 .left)) (c .before .before .before .before .before .before .heading-number .ensures) (c .before .before .before .before .v .given .1) (c .before .before .heading-number2 .ensures) (c .enum-told2 .given .1)
+returns-3 c =
+    let at-heading-number2 = c .before .before in
+    let at-v = at-heading-number2 .before .before in
+    let at-heading-number = at-v .before .before in
+    let at-if1 = at-heading-number .before in
+    let at-starts = at-if1 .before in
+    let start = at-starts .before .before .before in
+    no-clauses _ _ (start .pre) (sym (at-starts .starts .ensures) ∙ not-false _ (at-if1 .if1 .left)) (at-heading-number .heading-number .ensures)
+    (at-v .v .given .1) (at-heading-number2 .heading-number2 .ensures) (c .enum-told2 .given .1)
 
 returns-4 : tie.Need-returns-4
-returns-4 c = too-many _ _ (c .before .before .before .before .before .before .before .before .before .before .before .before .before .pre) (sym (c .before .before .before .before .before .before .before .before .before .before .starts .ensures) ∙ not-false _ (c .before .before .before .before .before .before .before .before .before .if1 .left)) (c .before .before .before .before .before .before .before .before .heading-number .ensures) (c .before .before .before .before .before .before .v .given .1) (c .before .before .before .before .heading-number2 .ensures) (c .before .before .c .given .1) (c .if2 .taken)
+returns-4 c =
+    let at-c = c .before .before in
+    let at-heading-number2 = at-c .before .before in
+    let at-v = at-heading-number2 .before .before in
+    let at-heading-number = at-v .before .before in
+    let at-if1 = at-heading-number .before in
+    let at-starts = at-if1 .before in
+    let start = at-starts .before .before .before in
+    too-many _ _ (start .pre) (sym (at-starts .starts .ensures) ∙ not-false _ (at-if1 .if1 .left)) (at-heading-number .heading-number .ensures)
+    (at-v .v .given .1) (at-heading-number2 .heading-number2 .ensures) (at-c .c .given .1) (c .if2 .taken)
 
 returns-5 : tie.Need-returns-5
-returns-5 c = headed _ _ (c .before .before .before .before .before .before .before .before .before .before .before .before .before .pre) (sym (c .before .before .before .before .before .before .before .before .before .before .starts .ensures) ∙ not-false _ (c .before .before .before .before .before .before .before .before .before .if1 .left)) (c .before .before .before .before .before .before .before .before .heading-number .ensures) (c .before .before .before .before .before .before .v .given .1) (c .before .before .before .before .heading-number2 .ensures) (c .before .before .c .given .1) (c .if2 .left)
+returns-5 c =
+    let at-c = c .before .before in
+    let at-heading-number2 = at-c .before .before in
+    let at-v = at-heading-number2 .before .before in
+    let at-heading-number = at-v .before .before in
+    let at-if1 = at-heading-number .before in
+    let at-starts = at-if1 .before in
+    let start = at-starts .before .before .before in
+    headed _ _ (start .pre) (sym (at-starts .starts .ensures) ∙ not-false _ (at-if1 .if1 .left)) (at-heading-number .heading-number .ensures)
+    (at-v .v .given .1) (at-heading-number2 .heading-number2 .ensures) (at-c .c .given .1) (c .if2 .left)
 
 pub read-heading-spec : {M : Type 1} → statement M
 read-heading-spec =

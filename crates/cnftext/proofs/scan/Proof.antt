@@ -35,16 +35,35 @@ turned-requires-2 : tie.Need-turned-requires-2
 turned-requires-2 c κs = search needs
 
 returns-2 : tie.Need-returns-2
-returns-2 c = rw (c .turned2 .ensures) (no-body (c .before .before .before .before .before .before .before .before .comments-end .ensures) (c .before .before .before .before .before .before .before .read-heading .ensures) (c .before .before .before .before .before .h .given .1) (c .before .before .before .count-clauses .ensures) (c .before .enum-told2 .given .1))
+returns-2 c =
+    let at-count-clauses = c .before .before .before in
+    let at-h = at-count-clauses .before .before in
+    let at-read-heading = at-h .before .before in
+    let at-comments-end = at-read-heading .before in
+    rw (c .turned2 .ensures)
+    (no-body (at-comments-end .comments-end .ensures) (at-read-heading .read-heading .ensures) (at-h .h .given .1) (at-count-clauses .count-clauses .ensures) (c .before .enum-told2 .given .1))
 
 turned-requires-3 : tie.Need-turned-requires-3
 turned-requires-3 c κs = search needs
 
 returns-3 : tie.Need-returns-3
-returns-3 c = rw (c .turned3 .ensures) (other-count (c .before .before .before .before .before .before .before .before .before .before .before .comments-end .ensures) (c .before .before .before .before .before .before .before .before .before .before .read-heading .ensures) (c .before .before .before .before .before .before .before .before .h .given .1) (c .before .before .before .before .before .before .count-clauses .ensures) (c .before .before .before .before .n .given .1) (c .before .if1 .taken))
+returns-3 c =
+    let at-n = c .before .before .before .before in
+    let at-count-clauses = at-n .before .before in
+    let at-h = at-count-clauses .before .before in
+    let at-read-heading = at-h .before .before in
+    let at-comments-end = at-read-heading .before in
+    rw (c .turned3 .ensures)
+    (other-count (at-comments-end .comments-end .ensures) (at-read-heading .read-heading .ensures) (at-h .h .given .1) (at-count-clauses .count-clauses .ensures) (at-n .n .given .1) (c .before .if1 .taken))
 
 returns-4 : tie.Need-returns-4
-returns-4 c = right-count (c .before .before .before .before .before .before .before .before .before .before .comments-end .ensures) (c .before .before .before .before .before .before .before .before .before .read-heading .ensures) (c .before .before .before .before .before .before .before .h .given .1) (c .before .before .before .before .before .count-clauses .ensures) (c .before .before .before .n .given .1) (c .if1 .left)
+returns-4 c =
+    let at-n = c .before .before .before in
+    let at-count-clauses = at-n .before .before in
+    let at-h = at-count-clauses .before .before in
+    let at-read-heading = at-h .before .before in
+    let at-comments-end = at-read-heading .before in
+    right-count (at-comments-end .comments-end .ensures) (at-read-heading .read-heading .ensures) (at-h .h .given .1) (at-count-clauses .count-clauses .ensures) (at-n .n .given .1) (c .if1 .left)
 
 pub scan-spec : {M : Type 1} → statement M
 scan-spec =

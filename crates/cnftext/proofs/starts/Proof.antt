@@ -35,7 +35,11 @@ shared-slice-read-if2-2 : tie.Need-shared-slice-read-if2-2 Inv-loop μ-loop
 shared-slice-read-if2-2 c = search needs
 
 returns-2 : tie.Need-returns-2 Inv-loop μ-loop
-returns-2 c = sym (starts-other _ _ _ _ (c .before .before .before .before .loop-test .taken) (omega (arith, c .before .before .before .if1 .left)) (c .if2 .taken)) ∙ c .before .before .before .before .before .loop .inv .1
+returns-2 c =
+    let at-if1 = c .before .before .before in
+    let at-loop-test = at-if1 .before in
+    let at-loop = at-loop-test .before in
+    sym (starts-other _ _ _ _ (at-loop-test .loop-test .taken) (omega (arith, at-if1 .if1 .left)) (c .if2 .taken)) ∙ at-loop .loop .inv .1
 
 add-k : tie.Need-add-k Inv-loop μ-loop
 add-k c = search needs
@@ -44,7 +48,11 @@ loop-less : tie.Need-loop-less Inv-loop μ-loop
 loop-less c = search needs
 
 loop-again : tie.Need-loop-again Inv-loop μ-loop
-loop-again c = (search needs, sym (starts-same _ _ _ _ (c .before .before .before .before .loop-test .taken) (omega (arith, c .before .before .before .if1 .left)) (c .if2 .left)) ∙ c .before .before .before .before .before .loop .inv .1)
+loop-again c =
+    let at-if1 = c .before .before .before in
+    let at-loop-test = at-if1 .before in
+    let at-loop = at-loop-test .before in
+    (search needs, sym (starts-same _ _ _ _ (at-loop-test .loop-test .taken) (omega (arith, at-if1 .if1 .left)) (c .if2 .left)) ∙ at-loop .loop .inv .1)
 
 returns-3 : tie.Need-returns-3 Inv-loop μ-loop
 returns-3 c = sym (starts-all _ _ _ _ (c .loop-test .left)) ∙ c .before .loop .inv .1

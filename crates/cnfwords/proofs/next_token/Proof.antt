@@ -41,13 +41,28 @@ enum-known-w : tie.Need-enum-known-w
 enum-known-w c = search needs
 
 returns-2 : tie.Need-returns-2
-returns-2 c = (_, next-word (c .before .before .before .before .before .before .skip .ensures) (c .before .before .before .before .word-end .ensures) (c .before .before .before .before .before .if1 .left) _ _ (sym (c .before .before .word .ensures) ∙ c .enum-told .given .1))
+returns-2 c =
+    let at-word = c .before .before in
+    let at-word-end = at-word .before .before in
+    let at-if1 = at-word-end .before in
+    let at-skip = at-if1 .before in
+    (_, next-word (at-skip .skip .ensures) (at-word-end .word-end .ensures) (at-if1 .if1 .left) _ _ (sym (at-word .word .ensures) ∙ c .enum-told .given .1))
 
 returns-3 : tie.Need-returns-3
-returns-3 c = next-word (c .before .before .before .before .before .before .skip .ensures) (c .before .before .before .before .word-end .ensures) (c .before .before .before .before .before .if1 .left) _ _ (sym (c .before .before .word .ensures) ∙ c .enum-told2 .given .1)
+returns-3 c =
+    let at-word = c .before .before in
+    let at-word-end = at-word .before .before in
+    let at-if1 = at-word-end .before in
+    let at-skip = at-if1 .before in
+    next-word (at-skip .skip .ensures) (at-word-end .word-end .ensures) (at-if1 .if1 .left) _ _ (sym (at-word .word .ensures) ∙ c .enum-told2 .given .1)
 
 returns-4 : tie.Need-returns-4
-returns-4 c = next-word (c .before .before .before .before .before .before .before .skip .ensures) (c .before .before .before .before .before .word-end .ensures) (c .before .before .before .before .before .before .if1 .left) _ _ (sym (c .before .before .before .word .ensures) ∙ c .before .w .given .1)
+returns-4 c =
+    let at-word = c .before .before .before in
+    let at-word-end = at-word .before .before in
+    let at-if1 = at-word-end .before in
+    let at-skip = at-if1 .before in
+    next-word (at-skip .skip .ensures) (at-word-end .word-end .ensures) (at-if1 .if1 .left) _ _ (sym (at-word .word .ensures) ∙ c .before .w .given .1)
 
 pub next-token-spec : {M : Type 1} → statement M
 next-token-spec =

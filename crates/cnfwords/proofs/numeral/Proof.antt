@@ -22,7 +22,8 @@ is-digit : (c : tie.Else3 Inv-loop μ-loop) → digit (getD (c .before .before .
 is-digit c = sym (c .before .is-digit .ensures) ∙ not-false _ (c .if3 .left)
 
 range : (c : tie.Else3 Inv-loop μ-loop)
-    → (48 ≤ getD (c .before .before .before .before .before .before .before .before .args .w .now) (c .before .before .before .before .loop .i) 0) × (getD (c .before .before .before .before .before .before .before .before .args .w .now) (c .before .before .before .before .loop .i) 0 ≤ 57)
+    → let at-loop = c .before .before .before .before in let start = at-loop .before .before .before .before in
+    (48 ≤ getD (start .args .w .now) (at-loop .loop .i) 0) × (getD (start .args .w .now) (at-loop .loop .i) 0 ≤ 57)
 range c = digit-range _ (is-digit c)
 
 below-max : (c : tie.Else3 Inv-loop μ-loop) → c .before .before .before .before .loop .n < 1000000000

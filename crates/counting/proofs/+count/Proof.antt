@@ -6,13 +6,13 @@ use lib.ListN.{length}
 use borrow.Author.Needs.{needs}
 use borrow.Fn.Kinds.{In}
 use borrow.Fn.PlainCycle.{Measures, is, falls, and}
+use Rattle.clause.proofs.negated.Reads as negated-reads
 use Rattle.state.specs.Work.{gOf}
 use Rattle.state.proofs.count.Reads as count-reads
 use Rattle.solver.proofs.assume.Reads as assume-reads
-use Rattle.deciding.proofs.Searches.{fork-fresh, fork-less}
-use Rattle.deciding.proofs.turn.Reads as turn-reads
-use Rattle.deciding.proofs.undo_to.Reads as undo-to-reads
-use Rattle.counting.proofs.Counts.{counted-open, ended-closed, ended-open, left-open, left-low, left-done, right-held, right-open, right-more, right-done}
+use Rattle.searching.proofs.Searches.{fork-fresh, fork-less, undo-less, undo-splits, right-fresh, right-list, forked}
+use Rattle.searching.proofs.undo_to.Reads as undo-to-reads
+use Rattle.counting.proofs.Counts.{ended-closed, ended-open, left-open, left-low, right-tallied}
 use Rattle.counting.proofs.units.Reads as units-reads
 use Rattle.counting.proofs.count.Reads as count
 use Rattle.counting.proofs.count.Kinds as count-kinds
@@ -30,23 +30,26 @@ abbrev count-below : ℕ → In 4 count-kinds.ps
 count-below t = and 4 count-kinds.ps (falls 4 count-kinds.ps _<_ μ-count t) count.Pre
 
 abbrev count-claims : ℕ → count-lts.Claims
-count-claims t = (count-reads.Asked, count-reads.Learnt, units-reads.Asked, units-reads.Learnt, undo-to-reads.Asked, undo-to-reads.Learnt, assume-reads.Asked, assume-reads.Learnt, count-below t, count.Post, turn-reads.Asked, turn-reads.Learnt)
-
-count-count-requires : (t : ℕ) → count-lts.Need-count-requires (count-claims t) (count-at t) count.Post
-count-count-requires t c κs = c .before .before .before .before .before .pre .1 .1 .1 .0 .ready .size
+count-claims t = (
+  units-reads.Asked,
+  units-reads.Learnt,
+  count-reads.Asked,
+  count-reads.Learnt,
+  assume-reads.Asked,
+  assume-reads.Learnt,
+  count-below t,
+  count.Post,
+  undo-to-reads.Asked,
+  undo-to-reads.Learnt,
+  negated-reads.Asked,
+  negated-reads.Learnt,
+)
 
 count-units-requires : (t : ℕ) → count-lts.Need-units-requires (count-claims t) (count-at t) count.Post
-count-units-requires t c κs = c .before .before .before .before .before .before .before .before .pre .1
+count-units-requires t c κs = c .before .before .before .before .before .before .pre .1
 
 count-enum-told : (t : ℕ) → count-lts.Need-enum-told (count-claims t) (count-at t) count.Post
 count-enum-told t c = search needs
-
-count-undo-to-requires : (t : ℕ) → count-lts.Need-undo-to-requires (count-claims t) (count-at t) count.Post
-count-undo-to-requires t c κs =
-    let s = c .before .before .before .before .before .before .before .before .before .before .before .before .before .before .before .before .before in
-    let p = s .pre .1 in
-    let a = c .before .before .before .before .before .before .before .before .units .ensures in
-    (p .0, (p .1 .0, (a .settled .holds, omega (arith, c .before .before .before .before .before .before .before .before .before .before .before .count .ensures, a .settled .grows .more))))
 
 count-enum-told-2 : (t : ℕ) → count-lts.Need-enum-told-2 (count-claims t) (count-at t) count.Post
 count-enum-told-2 t c = search needs
@@ -54,22 +57,27 @@ count-enum-told-2 t c = search needs
 count-enum-known-stop : (t : ℕ) → count-lts.Need-enum-known-stop (count-claims t) (count-at t) count.Post
 count-enum-known-stop t c = search needs
 
+count-count-requires : (t : ℕ) → count-lts.Need-count-requires (count-claims t) (count-at t) count.Post
+count-count-requires t c κs = c .before .before .before .before .before .before .before .before .units .ensures .settled .holds .ready .size
+
 count-assume-requires : (t : ℕ) → count-lts.Need-assume-requires (count-claims t) (count-at t) count.Post
 count-assume-requires t c κs =
-    let s = c .before .before .before .before .before .before .before .before .before .before .before .before .before .before .before .before .before .before in
+    let at-stop = c .before .before .before .before .before in
+    let at-units = at-stop .before .before .before .before .before .before in
+    let s = at-units .before .before .before .before .before .before .before in
     let p = s .pre .1 in
-    let a = c .before .before .before .before .before .before .before .before .before .units .ensures in
-    let e = c .before .before .before .stop .given .1 in
-    (p .0, (p .1 .0, (a .settled .holds, fork-fresh (a .settled) (p .0 .table) (p .1 .0 .below) e)))
+    let f = forked (at-units .units .ensures .settled) (p .0 .table) (p .1 .0 .below) (at-stop .stop .given .1) in
+    (p .0, (p .1 .0, (at-units .units .ensures .settled .holds, fork-fresh f)))
 
 count-count-requires-2 : (t : ℕ) → count-lts.Need-count-requires-2 (count-claims t) (count-at t) count.Post
 count-count-requires-2 t c κs =
-    let s = c .before .before .before .before .before .before .before .before .before .before .before .before .before .before .before .before .before .before .before .before .before .before .before .before .before in
+    let at-assume = c .before .before .before .before .before .before in
+    let at-stop = at-assume .before .before .before .before .before .before in
+    let at-units = at-stop .before .before .before .before .before .before in
+    let s = at-units .before .before .before .before .before .before .before in
     let p = s .pre .1 in
-    let a = c .before .before .before .before .before .before .before .before .before .before .before .before .before .before .before .before .units .ensures in
-    let e = c .before .before .before .before .before .before .before .before .before .before .stop .given .1 in
-    let q = c .before .before .before .before .before .before .assume .ensures .1 in
-    (omega (arith, s .pre .0, fork-less (a .settled) (p .0 .table) (p .1 .0 .below) e q), (p .0, (p .1 .0, (c .before .before .before .before .before .before .assume .ensures .0, a .low))))
+    let f = forked (at-units .units .ensures .settled) (p .0 .table) (p .1 .0 .below) (at-stop .stop .given .1) in
+    (omega (arith, s .pre .0, fork-less f (at-assume .assume .ensures .1)), (p .0, (p .1 .0, (at-assume .assume .ensures .0, at-units .units .ensures .low))))
 
 count-enum-told-3 : (t : ℕ) → count-lts.Need-enum-told-3 (count-claims t) (count-at t) count.Post
 count-enum-told-3 t c = search needs
@@ -77,50 +85,63 @@ count-enum-told-3 t c = search needs
 count-enum-known-left : (t : ℕ) → count-lts.Need-enum-known-left (count-claims t) (count-at t) count.Post
 count-enum-known-left t c = search needs
 
-count-turn-requires : (t : ℕ) → count-lts.Need-turn-requires (count-claims t) (count-at t) count.Post
-count-turn-requires t c κs =
-    let s = c .before .before .before .before .before .before .before .before .before .before .before .before .before .before .before .before .before .before .before .before .before .before .before .before .before .before .before .before .before .before .before .before .before .before .before in
+count-undo-to-requires : (t : ℕ) → count-lts.Need-undo-to-requires (count-claims t) (count-at t) count.Post
+count-undo-to-requires t c κs =
+    let at-count = c .before .before .before .before .before .before .before .before .before in
+    let at-assume = at-count .before .before .before .before .before .before .before in
+    let at-count′ = at-assume .before .before .before in
+    let at-stop = at-count′ .before .before .before in
+    let at-units = at-stop .before .before .before .before .before .before in
+    let s = at-units .before .before .before .before .before .before .before in
     let p = s .pre .1 in
-    let a = c .before .before .before .before .before .before .before .before .before .before .before .before .before .before .before .before .before .before .before .before .before .before .before .before .before .before .units .ensures in
-    let e = c .before .before .before .before .before .before .before .before .before .before .before .before .before .before .before .before .before .before .before .before .stop .given .1 in
-    let q = c .before .before .before .before .before .before .before .before .before .before .before .before .before .before .before .before .assume .ensures .1 in
-    let left = c .before .before .before .before .before .before .before .before .before .count2 .ensures in
-    let shut = c .before .before .before .left .given .1 in
-    (p .0, (p .1 .0, (left .tallied .ended .holds, left-done a (p .0 .table) (p .1 .0 .below) e q left shut)))
+    let f = forked (at-units .units .ensures .settled) (p .0 .table) (p .1 .0 .below) (at-stop .stop .given .1) in
+    let h = at-count′ .count .ensures in
+    let q = at-assume .assume .ensures .1 in
+    let x = at-count .count2 .ensures .searched .grows in
+    (p .0, (p .1 .0, (at-count .count2 .ensures .searched .holds, (undo-less f h q x, undo-splits f h q x))))
+
+count-negated-requires : (t : ℕ) → count-lts.Need-negated-requires (count-claims t) (count-at t) count.Post
+count-negated-requires t c κs =
+    let at-stop = c .before .before .before .before .before .before .before .before .before .before .before .before .before .before .before .before .before .before .before .before .before .before .before .before .before .before .before .before .before in
+    let at-units = at-stop .before .before .before .before .before .before in
+    let s = at-units .before .before .before .before .before .before .before in
+    let p = s .pre .1 in
+    let f = forked (at-units .units .ensures .settled) (p .0 .table) (p .1 .0 .below) (at-stop .stop .given .1) in
+    omega (arith, fork-fresh f .0, p .0 .few)
+
+count-assume-requires-2 : (t : ℕ) → count-lts.Need-assume-requires-2 (count-claims t) (count-at t) count.Post
+count-assume-requires-2 t c κs =
+    let at-undo-to = c .before .before .before .before .before .before .before in
+    let at-count = at-undo-to .before .before .before .before .before .before .before .before .before .before in
+    let at-assume = at-count .before .before .before .before .before .before .before in
+    let at-count′ = at-assume .before .before .before in
+    let at-stop = at-count′ .before .before .before in
+    let at-units = at-stop .before .before .before .before .before .before in
+    let s = at-units .before .before .before .before .before .before .before in
+    let p = s .pre .1 in
+    let f = forked (at-units .units .ensures .settled) (p .0 .table) (p .1 .0 .below) (at-stop .stop .given .1) in
+    let u = at-undo-to .undo-to .ensures in
+    let x = at-count .count2 .ensures .searched .grows in
+    (p .0, (p .1 .0, (u .0, right-fresh f (at-count′ .count .ensures) (at-assume .assume .ensures .1) x (u .1) (c .negated .ensures))))
 
 count-count-requires-3 : (t : ℕ) → count-lts.Need-count-requires-3 (count-claims t) (count-at t) count.Post
 count-count-requires-3 t c κs =
-    let s = c .before .before .before .before .before .before .before .before .before .before .before .before .before .before .before .before .before .before .before .before .before .before .before .before .before .before .before .before .before .before .before .before .before .before .before .before .before .before .before .before .before .before in
+    let at-assume = c .before .before .before .before .before .before in
+    let at-negated = at-assume .before in
+    let at-undo-to = at-negated .before .before .before .before .before .before .before in
+    let at-left = at-undo-to .before .before .before .before in
+    let at-count = at-left .before .before .before .before .before .before in
+    let at-assume′ = at-count .before .before .before .before .before .before .before in
+    let at-count′ = at-assume′ .before .before .before in
+    let at-stop = at-count′ .before .before .before in
+    let at-units = at-stop .before .before .before .before .before .before in
+    let s = at-units .before .before .before .before .before .before .before in
     let p = s .pre .1 in
-    let a = c .before .before .before .before .before .before .before .before .before .before .before .before .before .before .before .before .before .before .before .before .before .before .before .before .before .before .before .before .before .before .before .before .before .units .ensures in
-    let e = c .before .before .before .before .before .before .before .before .before .before .before .before .before .before .before .before .before .before .before .before .before .before .before .before .before .before .before .stop .given .1 in
-    let q = c .before .before .before .before .before .before .before .before .before .before .before .before .before .before .before .before .before .before .before .before .before .before .before .assume .ensures .1 in
-    let left = c .before .before .before .before .before .before .before .before .before .before .before .before .before .before .before .before .count2 .ensures in
-    let shut = c .before .before .before .before .before .before .before .before .before .before .left .given .1 in
-    let u = c .before .before .before .before .before .before .turn in (
-      omega (arith, s .pre .0, fork-less (a .settled) (p .0 .table) (p .1 .0 .below) e (right-held a (p .0 .table) (p .1 .0 .below) e q left shut (u .last .1 .1 .1 .0) (u .ensures .1))),
-      (p .0, (p .1 .0, (u .ensures .0, left-low a (p .0 .table) (p .1 .0 .below) e q left shut))),
-    )
-
-count-enum-told-4 : (t : ℕ) → count-lts.Need-enum-told-4 (count-claims t) (count-at t) count.Post
-count-enum-told-4 t c = search needs
-
-count-enum-known-right : (t : ℕ) → count-lts.Need-enum-known-right (count-claims t) (count-at t) count.Post
-count-enum-known-right t c = search needs
-
-count-undo-to-requires-2 : (t : ℕ) → count-lts.Need-undo-to-requires-2 (count-claims t) (count-at t) count.Post
-count-undo-to-requires-2 t c κs =
-    let s = c .before .before .before .before .before .before .before .before .before .before .before .before .before .before .before .before .before .before .before .before .before .before .before .before .before .before .before .before .before .before .before .before .before .before .before .before .before .before .before .before .before .before .before .before .before .before .before .before .before .before .before .before in
-    let p = s .pre .1 in
-    let a = c .before .before .before .before .before .before .before .before .before .before .before .before .before .before .before .before .before .before .before .before .before .before .before .before .before .before .before .before .before .before .before .before .before .before .before .before .before .before .before .before .before .before .before .units .ensures in
-    let e = c .before .before .before .before .before .before .before .before .before .before .before .before .before .before .before .before .before .before .before .before .before .before .before .before .before .before .before .before .before .before .before .before .before .before .before .before .before .stop .given .1 in
-    let q = c .before .before .before .before .before .before .before .before .before .before .before .before .before .before .before .before .before .before .before .before .before .before .before .before .before .before .before .before .before .before .before .before .before .assume .ensures .1 in
-    let left = c .before .before .before .before .before .before .before .before .before .before .before .before .before .before .before .before .before .before .before .before .before .before .before .before .before .before .count2 .ensures in
-    let shut = c .before .before .before .before .before .before .before .before .before .before .before .before .before .before .before .before .before .before .before .before .left .given .1 in
-    let u = c .before .before .before .before .before .before .before .before .before .before .before .before .before .before .before .before .turn in
-    let right = c .before .before .before .before .before .before .before .before .before .count3 .ensures in
-    let end = c .before .before .before .right .given .1 in
-    (p .0, (p .1 .0, (right .tallied .ended .holds, omega (arith, c .before .before .before .before .before .before .before .before .before .before .before .before .before .before .before .before .before .before .before .before .before .before .before .before .before .before .before .before .before .before .before .before .before .before .before .before .before .before .before .before .before .before .before .before .before .before .count .ensures, right-more a (p .0 .table) (p .1 .0 .below) e q left shut (u .last .1 .1 .1 .0) (u .ensures .1) right end))))
+    let f = forked (at-units .units .ensures .settled) (p .0 .table) (p .1 .0 .below) (at-stop .stop .given .1) in
+    let x = at-count .count2 .ensures .searched .grows in
+    let d = right-list f (at-count′ .count .ensures) (at-assume′ .assume .ensures .1) x (at-undo-to .undo-to .ensures .1) (at-negated .negated .ensures) (at-assume .assume2 .ensures .1) in
+    let low = left-low (at-units .units .ensures) (p .0 .table) (p .1 .0 .below) (at-stop .stop .given .1) (at-assume′ .assume .ensures .1) (at-count .count2 .ensures) (at-left .left .given .1) in
+    (omega (arith, s .pre .0, fork-less f d), (p .0, (p .1 .0, (at-assume .assume2 .ensures .0, low))))
 
 count-same-length : (t : ℕ) → count-lts.Need-same-length (count-claims t) (count-at t) count.Post
 count-same-length t c = search needs
@@ -129,9 +150,7 @@ count-same-length-2 : (t : ℕ) → count-lts.Need-same-length-2 (count-claims t
 count-same-length-2 t c = search needs
 
 count-returns : (t : ℕ) → count-lts.Need-returns (count-claims t) (count-at t) count.Post
-count-returns t c =
-    let a = c .before .before .before .before .before .before .before .before .before .before .before .before .before .units .ensures in
-    ended-closed a (c .before .before .before .before .before .before .before .enum-told .given .1) (c .before .before .before .before .undo-to .ensures .0) (rw (c .before .before .before .before .before .before .before .before .before .before .before .before .before .before .before .before .count .ensures) at (c .before .before .before .before .undo-to .ensures .1))
+count-returns t c = ended-closed (c .before .before .before .before .before .before .units .ensures) (c .enum-told .given .1)
 
 count-same-length-3 : (t : ℕ) → count-lts.Need-same-length-3 (count-claims t) (count-at t) count.Post
 count-same-length-3 t c = search needs
@@ -140,7 +159,7 @@ count-same-length-4 : (t : ℕ) → count-lts.Need-same-length-4 (count-claims t
 count-same-length-4 t c = search needs
 
 count-returns-2 : (t : ℕ) → count-lts.Need-returns-2 (count-claims t) (count-at t) count.Post
-count-returns-2 t c = counted-open (ended-open (c .before .before .before .before .before .before .units .ensures) (c .enum-told2 .given .1))
+count-returns-2 t c = ended-open (c .before .before .before .before .before .before .units .ensures) (c .enum-told2 .given .1)
 
 count-same-length-5 : (t : ℕ) → count-lts.Need-same-length-5 (count-claims t) (count-at t) count.Post
 count-same-length-5 t c = search needs
@@ -150,72 +169,72 @@ count-same-length-6 t c = search needs
 
 count-returns-3 : (t : ℕ) → count-lts.Need-returns-3 (count-claims t) (count-at t) count.Post
 count-returns-3 t c =
-    let s = c .before .before .before .before .before .before .before .before .before .before .before .before .before .before .before .before .before .before .before .before .before .before .before .before .before .before .before .before .before .before .before .before in
+    let at-count = c .before .before .before .before .before .before in
+    let at-assume = at-count .before .before .before .before .before .before .before in
+    let at-stop = at-assume .before .before .before .before .before .before in
+    let at-units = at-stop .before .before .before .before .before .before in
+    let s = at-units .before .before .before .before .before .before .before in
     let p = s .pre .1 in
-    let a = c .before .before .before .before .before .before .before .before .before .before .before .before .before .before .before .before .before .before .before .before .before .before .before .units .ensures in
-    let e = c .before .before .before .before .before .before .before .before .before .before .before .before .before .before .before .before .before .stop .given .1 in
-    let q = c .before .before .before .before .before .before .before .before .before .before .before .before .before .assume .ensures .1 in
-    let left = c .before .before .before .before .before .before .count2 .ensures in
-    counted-open (left-open a (p .0 .table) (p .1 .0 .below) e q left (c .enum-told3 .given .1))
+    left-open (at-units .units .ensures) (p .0 .table) (p .1 .0 .below) (at-stop .stop .given .1) (at-assume .assume .ensures .1) (at-count .count2 .ensures) (c .enum-told3 .given .1)
 
 count-same-length-7 : (t : ℕ) → count-lts.Need-same-length-7 (count-claims t) (count-at t) count.Post
-count-same-length-7 t c = omega (arith, c .before .before .before .before .before .before .count3 .kept .1 .1 .1 .0, c .before .before .before .before .before .before .before .before .before .before .before .before .before .turn .kept .1 .1 .1 .0, c .before .before .before .before .before .before .before .before .before .before .before .before .before .before .before .before .before .before .before .before .before .before .before .count2 .kept .1 .1 .1 .0, c .before .before .before .before .before .before .before .before .before .before .before .before .before .before .before .before .before .before .before .before .before .before .before .before .before .before .before .before .before .before .assume .kept .1 .1 .1 .0, c .before .before .before .before .before .before .before .before .before .before .before .before .before .before .before .before .before .before .before .before .before .before .before .before .before .before .before .before .before .before .before .before .before .before .before .before .before .before .before .before .units .kept .1 .1 .1 .0)
+count-same-length-7 t c =
+    let at-count = c .before .before .before .before in
+    let at-assume = at-count .before .before .before .before .before .before .before in
+    let at-undo-to = at-assume .before .before .before .before .before .before .before .before in
+    let at-count′ = at-undo-to .before .before .before .before .before .before .before .before .before .before in
+    let at-assume′ = at-count′ .before .before .before .before .before .before .before in
+    let at-units = at-assume′ .before .before .before .before .before .before .before .before .before .before .before .before in
+    omega (arith, at-count .count3 .kept .1 .1 .1 .0, at-assume .assume2 .kept .1 .1 .1 .0, at-undo-to .undo-to .kept .1 .1 .1 .0, at-count′ .count2 .kept .1 .1 .1 .0, at-assume′ .assume .kept .1 .1 .1 .0, at-units .units .kept .1 .1 .1 .0)
 
 count-same-length-8 : (t : ℕ) → count-lts.Need-same-length-8 (count-claims t) (count-at t) count.Post
-count-same-length-8 t c = omega (arith, c .before .before .before .before .before .before .count3 .kept .1 .1 .1 .1 .0, c .before .before .before .before .before .before .before .before .before .before .before .before .before .turn .kept .1 .1 .1 .1 .0, c .before .before .before .before .before .before .before .before .before .before .before .before .before .before .before .before .before .before .before .before .before .before .before .count2 .kept .1 .1 .1 .1 .0, c .before .before .before .before .before .before .before .before .before .before .before .before .before .before .before .before .before .before .before .before .before .before .before .before .before .before .before .before .before .before .assume .kept .1 .1 .1 .1 .0, c .before .before .before .before .before .before .before .before .before .before .before .before .before .before .before .before .before .before .before .before .before .before .before .before .before .before .before .before .before .before .before .before .before .before .before .before .before .before .before .before .units .kept .1 .1 .1 .1 .0)
+count-same-length-8 t c =
+    let at-count = c .before .before .before .before in
+    let at-assume = at-count .before .before .before .before .before .before .before in
+    let at-undo-to = at-assume .before .before .before .before .before .before .before .before in
+    let at-count′ = at-undo-to .before .before .before .before .before .before .before .before .before .before in
+    let at-assume′ = at-count′ .before .before .before .before .before .before .before in
+    let at-units = at-assume′ .before .before .before .before .before .before .before .before .before .before .before .before in
+    omega (arith, at-count .count3 .kept .1 .1 .1 .1 .0, at-assume .assume2 .kept .1 .1 .1 .1 .0, at-undo-to .undo-to .kept .1 .1 .1 .1 .0, at-count′ .count2 .kept .1 .1 .1 .1 .0, at-assume′ .assume .kept .1 .1 .1 .1 .0, at-units .units .kept .1 .1 .1 .1 .0)
 
 count-returns-4 : (t : ℕ) → count-lts.Need-returns-4 (count-claims t) (count-at t) count.Post
 count-returns-4 t c =
-    let s = c .before .before .before .before .before .before .before .before .before .before .before .before .before .before .before .before .before .before .before .before .before .before .before .before .before .before .before .before .before .before .before .before .before .before .before .before .before .before .before .before .before .before .before .before .before .before .before .before .before in
+    let at-count = c .before .before .before .before in
+    let at-assume = at-count .before .before .before .before .before .before .before in
+    let at-negated = at-assume .before in
+    let at-undo-to = at-negated .before .before .before .before .before .before .before in
+    let at-left = at-undo-to .before .before .before .before in
+    let at-count′ = at-left .before .before .before .before .before .before in
+    let at-assume′ = at-count′ .before .before .before .before .before .before .before in
+    let at-count′′ = at-assume′ .before .before .before in
+    let at-stop = at-count′′ .before .before .before in
+    let at-units = at-stop .before .before .before .before .before .before in
+    let s = at-units .before .before .before .before .before .before .before in
     let p = s .pre .1 in
-    let a = c .before .before .before .before .before .before .before .before .before .before .before .before .before .before .before .before .before .before .before .before .before .before .before .before .before .before .before .before .before .before .before .before .before .before .before .before .before .before .before .before .units .ensures in
-    let e = c .before .before .before .before .before .before .before .before .before .before .before .before .before .before .before .before .before .before .before .before .before .before .before .before .before .before .before .before .before .before .before .before .before .before .stop .given .1 in
-    let q = c .before .before .before .before .before .before .before .before .before .before .before .before .before .before .before .before .before .before .before .before .before .before .before .before .before .before .before .before .before .before .assume .ensures .1 in
-    let left = c .before .before .before .before .before .before .before .before .before .before .before .before .before .before .before .before .before .before .before .before .before .before .before .count2 .ensures in
-    let shut = c .before .before .before .before .before .before .before .before .before .before .before .before .before .before .before .before .before .left .given .1 in
-    let u = c .before .before .before .before .before .before .before .before .before .before .before .before .before .turn in
-    let right = c .before .before .before .before .before .before .count3 .ensures in
-    counted-open (right-open a (p .0 .table) (p .1 .0 .below) e q left shut (u .last .1 .1 .1 .0) (u .ensures .1) right (c .enum-told4 .given .1))
-
-count-same-length-9 : (t : ℕ) → count-lts.Need-same-length-9 (count-claims t) (count-at t) count.Post
-count-same-length-9 t c = omega (arith, c .before .before .before .before .undo-to2 .kept .1 .1 .1 .0, c .before .before .before .before .before .before .before .before .before .before .before .before .before .before .count3 .kept .1 .1 .1 .0, c .before .before .before .before .before .before .before .before .before .before .before .before .before .before .before .before .before .before .before .before .before .turn .kept .1 .1 .1 .0, c .before .before .before .before .before .before .before .before .before .before .before .before .before .before .before .before .before .before .before .before .before .before .before .before .before .before .before .before .before .before .before .count2 .kept .1 .1 .1 .0, c .before .before .before .before .before .before .before .before .before .before .before .before .before .before .before .before .before .before .before .before .before .before .before .before .before .before .before .before .before .before .before .before .before .before .before .before .before .before .assume .kept .1 .1 .1 .0, c .before .before .before .before .before .before .before .before .before .before .before .before .before .before .before .before .before .before .before .before .before .before .before .before .before .before .before .before .before .before .before .before .before .before .before .before .before .before .before .before .before .before .before .before .before .before .before .before .units .kept .1 .1 .1 .0)
-
-count-same-length-10 : (t : ℕ) → count-lts.Need-same-length-10 (count-claims t) (count-at t) count.Post
-count-same-length-10 t c = omega (arith, c .before .before .before .before .undo-to2 .kept .1 .1 .1 .1 .0, c .before .before .before .before .before .before .before .before .before .before .before .before .before .before .count3 .kept .1 .1 .1 .1 .0, c .before .before .before .before .before .before .before .before .before .before .before .before .before .before .before .before .before .before .before .before .before .turn .kept .1 .1 .1 .1 .0, c .before .before .before .before .before .before .before .before .before .before .before .before .before .before .before .before .before .before .before .before .before .before .before .before .before .before .before .before .before .before .before .count2 .kept .1 .1 .1 .1 .0, c .before .before .before .before .before .before .before .before .before .before .before .before .before .before .before .before .before .before .before .before .before .before .before .before .before .before .before .before .before .before .before .before .before .before .before .before .before .before .assume .kept .1 .1 .1 .1 .0, c .before .before .before .before .before .before .before .before .before .before .before .before .before .before .before .before .before .before .before .before .before .before .before .before .before .before .before .before .before .before .before .before .before .before .before .before .before .before .before .before .before .before .before .before .before .before .before .before .units .kept .1 .1 .1 .1 .0)
-
-count-returns-5 : (t : ℕ) → count-lts.Need-returns-5 (count-claims t) (count-at t) count.Post
-count-returns-5 t c =
-    let s = c .before .before .before .before .before .before .before .before .before .before .before .before .before .before .before .before .before .before .before .before .before .before .before .before .before .before .before .before .before .before .before .before .before .before .before .before .before .before .before .before .before .before .before .before .before .before .before .before .before .before .before .before .before .before .before .before .before in
-    let p = s .pre .1 in
-    let a = c .before .before .before .before .before .before .before .before .before .before .before .before .before .before .before .before .before .before .before .before .before .before .before .before .before .before .before .before .before .before .before .before .before .before .before .before .before .before .before .before .before .before .before .before .before .before .before .before .units .ensures in
-    let e = c .before .before .before .before .before .before .before .before .before .before .before .before .before .before .before .before .before .before .before .before .before .before .before .before .before .before .before .before .before .before .before .before .before .before .before .before .before .before .before .before .before .before .stop .given .1 in
-    let q = c .before .before .before .before .before .before .before .before .before .before .before .before .before .before .before .before .before .before .before .before .before .before .before .before .before .before .before .before .before .before .before .before .before .before .before .before .before .before .assume .ensures .1 in
-    let left = c .before .before .before .before .before .before .before .before .before .before .before .before .before .before .before .before .before .before .before .before .before .before .before .before .before .before .before .before .before .before .before .count2 .ensures in
-    let shut = c .before .before .before .before .before .before .before .before .before .before .before .before .before .before .before .before .before .before .before .before .before .before .before .before .before .left .given .1 in
-    let u = c .before .before .before .before .before .before .before .before .before .before .before .before .before .before .before .before .before .before .before .before .before .turn in
-    let right = c .before .before .before .before .before .before .before .before .before .before .before .before .before .before .count3 .ensures in
-    let end = c .before .before .before .before .before .before .before .before .right .given .1 in
-    right-done a (p .0 .table) (p .1 .0 .below) e q left shut (u .last .1 .1 .1 .0) (u .ensures .1) right end (c .before .before .before .before .undo-to2 .ensures .0) (rw (c .before .before .before .before .before .before .before .before .before .before .before .before .before .before .before .before .before .before .before .before .before .before .before .before .before .before .before .before .before .before .before .before .before .before .before .before .before .before .before .before .before .before .before .before .before .before .before .before .before .before .before .count .ensures) at (c .before .before .before .before .undo-to2 .ensures .1))
+    let f = forked (at-units .units .ensures .settled) (p .0 .table) (p .1 .0 .below) (at-stop .stop .given .1) in
+    let x = at-count′ .count2 .ensures .searched .grows in
+    let d = right-list f (at-count′′ .count .ensures) (at-assume′ .assume .ensures .1) x (at-undo-to .undo-to .ensures .1) (at-negated .negated .ensures) (at-assume .assume2 .ensures .1) in
+    let a = at-units .units .ensures in
+    let e = at-stop .stop .given .1 in
+    right-tallied a (p .0 .table) (p .1 .0 .below) e (at-assume′ .assume .ensures .1) (at-count′ .count2 .ensures) (at-left .left .given .1) d (at-count .count3 .ensures)
 
 pub +count-spec : {M : Type 1} → statement M
 +count-spec = close μ-count λ t. count-lts.spec (count-claims t)
     (count-at t)
     count.Post
-    (count-count-requires t)
     (count-units-requires t)
     (count-enum-told t)
-    (count-undo-to-requires t)
     (count-enum-told-2 t)
     (count-enum-known-stop t)
+    (count-count-requires t)
     (count-assume-requires t)
     (count-count-requires-2 t)
     (count-enum-told-3 t)
     (count-enum-known-left t)
-    (count-turn-requires t)
+    (count-undo-to-requires t)
+    (count-negated-requires t)
+    (count-assume-requires-2 t)
     (count-count-requires-3 t)
-    (count-enum-told-4 t)
-    (count-enum-known-right t)
-    (count-undo-to-requires-2 t)
     (count-same-length t)
     (count-same-length-2 t)
     (count-returns t)
@@ -228,6 +247,3 @@ pub +count-spec : {M : Type 1} → statement M
     (count-same-length-7 t)
     (count-same-length-8 t)
     (count-returns-4 t)
-    (count-same-length-9 t)
-    (count-same-length-10 t)
-    (count-returns-5 t)

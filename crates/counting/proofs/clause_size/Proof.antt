@@ -5,7 +5,9 @@ use Rattle.counting.proofs.clause_size.Statement.{statement}
 use Rattle.counting.proofs.clause_size.Tie as tie
 
 reason-requires : tie.Need-reason-requires
-reason-requires c κs = (c .before .before .before .before .pre .0, (c .before .before .before .before .pre .1 .0, c .before .before .before .before .pre .1 .1))
+reason-requires c κs =
+    let s = c .before .before .before .before in
+    (s .pre .0, (s .pre .1 .0, s .pre .1 .1))
 
 cast-result : tie.Need-cast-result
 cast-result c = search needs

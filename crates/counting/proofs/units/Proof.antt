@@ -7,7 +7,7 @@ use lib.ListN.{length}
 use borrow.Author.Needs.{needs}
 use Rattle.index.specs.Index.{indexNode}
 use Rattle.state.specs.Work.{gOf}
-use Rattle.deciding.proofs.Searches.{run-fresh, run-room}
+use Rattle.searching.proofs.Searches.{run-fresh, run-room}
 use Rattle.counting.proofs.Counts.{Counting, counting-starts, counting-conflict, counting-done, counting-split, counting-unit}
 use Rattle.counting.proofs.units.Statement.{statement}
 use Rattle.counting.proofs.units.Tie as tie
@@ -19,16 +19,24 @@ abbrev μ-loop : tie.MeasureT-loop
 μ-loop x n goals work₀ masks₀ cap s count₀ work masks count = n - length (gOf work)
 
 loop-holds : tie.Need-loop-holds Inv-loop μ-loop
-loop-holds c = counting-starts (c .before .before .before .before .pre .1 .1 .0) (c .before .before .before .before .pre .1 .1 .1)
+loop-holds c =
+    let s = c .before .before .before .before in
+    counting-starts (s .pre .1 .1 .0) (s .pre .1 .1 .1)
 
 next-move-requires : tie.Need-next-move-requires Inv-loop μ-loop
-next-move-requires c κs = (c .before .before .before .before .before .before .before .pre .0, (c .before .before .before .before .before .before .before .pre .1 .0, c .before .before .loop .inv .run .holds))
+next-move-requires c κs =
+    let at-loop = c .before .before in
+    let s = at-loop .before .before .before .before .before in
+    (s .pre .0, (s .pre .1 .0, at-loop .loop .inv .run .holds))
 
 enum-told : tie.Need-enum-told Inv-loop μ-loop
 enum-told c = search needs
 
 clause-size-requires : tie.Need-clause-size-requires Inv-loop μ-loop
-clause-size-requires c κs = (c .before .before .before .before .before .before .before .before .before .before .before .before .pre .0, (c .before .before .before .before .before .before .before .before .before .before .before .before .pre .1 .0, c .before .before .before .before .before .before .before .loop .inv .run .holds))
+clause-size-requires c κs =
+    let at-loop = c .before .before .before .before .before .before .before in
+    let s = at-loop .before .before .before .before .before in
+    (s .pre .0, (s .pre .1 .0, at-loop .loop .inv .run .holds))
 
 add-capped : tie.Need-add-capped Inv-loop μ-loop
 add-capped c = omega (arith, c .clause-size .ensures .low)
@@ -44,38 +52,60 @@ same-length-2 c = c .before .before .before .before .before .before .before .bef
 
 returns : tie.Need-returns Inv-loop μ-loop
 returns c =
-    counting-conflict (c .before .before .before .before .before .before .before .before .before .loop .inv) (sym (c .before .before .before .before .before .before .next-move .ensures) ∙ c .before .before .before .before .enum-told .given .1) (c .before .clause-size .ensures)
+    let at-enum-told = c .before .before .before .before in
+    let at-next-move = at-enum-told .before .before in
+    let at-loop = at-next-move .before .before .before in
+    counting-conflict (at-loop .loop .inv) (sym (at-next-move .next-move .ensures) ∙ at-enum-told .enum-told .given .1) (c .before .clause-size .ensures)
     (c .capped .ensures)
 
 enum-known-m : tie.Need-enum-known-m Inv-loop μ-loop
 enum-known-m c = search needs
 
 clause-size-requires-2 : tie.Need-clause-size-requires-2 Inv-loop μ-loop
-clause-size-requires-2 c κs = (c .before .before .before .before .before .before .before .before .before .before .before .before .before .pre .0, (c .before .before .before .before .before .before .before .before .before .before .before .before .before .pre .1 .0, c .before .before .before .before .before .before .before .before .loop .inv .run .holds))
+clause-size-requires-2 c κs =
+    let at-loop = c .before .before .before .before .before .before .before .before in
+    let s = at-loop .before .before .before .before .before in
+    (s .pre .0, (s .pre .1 .0, at-loop .loop .inv .run .holds))
 
 capped-requires-2 : tie.Need-capped-requires-2 Inv-loop μ-loop
 capped-requires-2 c κs = c .before .before .before .before .before .before .before .before .before .loop .inv .low
 
 assume-requires : tie.Need-assume-requires Inv-loop μ-loop
 assume-requires c κs =
-    let s = c .before .before .before .before .before .before .before .before .before .before .before .before .before .before .before .before .before in
-    let e = sym (c .before .before .before .before .before .before .before .before .before .next-move .ensures) ∙ c .before .before .before .before .before .before .before .m .given .1 in
-    let r = c .before .before .before .before .before .before .before .before .before .before .before .before .loop .inv .run in
+    let at-m = c .before .before .before .before .before .before .before in
+    let at-next-move = at-m .before .before in
+    let at-loop = at-next-move .before .before .before in
+    let at-place = at-loop .before .before .before .before .before in
+    let s = at-place in
+    let e = sym (at-next-move .next-move .ensures) ∙ at-m .m .given .1 in
+    let r = at-loop .loop .inv .run in
     (s .pre .0, (s .pre .1 .0, (r .holds, run-fresh r (s .pre .0 .table) (s .pre .1 .0 .below) e)))
 
 loop-less : tie.Need-loop-less Inv-loop μ-loop
 loop-less c =
-    let s = c .before .before .before .before .before .before .before .before .before .before .before .before .before .before .before .before .before .before .before .before .before .before in
-    let e = sym (c .before .before .before .before .before .before .before .before .before .before .before .before .before .before .next-move .ensures) ∙ c .before .before .before .before .before .before .before .before .before .before .before .before .m .given .1 in
-    let r = c .before .before .before .before .before .before .before .before .before .before .before .before .before .before .before .before .before .loop .inv .run in
-    omega (arith, run-room r (s .pre .0 .table) (s .pre .1 .0 .below) e, ap length (c .before .before .before .before .assume .ensures .1))
+    let at-assume = c .before .before .before .before in
+    let at-m = at-assume .before .before .before .before .before .before .before .before in
+    let at-next-move = at-m .before .before in
+    let at-loop = at-next-move .before .before .before in
+    let at-place = at-loop .before .before .before .before .before in
+    let s = at-place in
+    let e = sym (at-next-move .next-move .ensures) ∙ at-m .m .given .1 in
+    let r = at-loop .loop .inv .run in
+    omega (arith, run-room r (s .pre .0 .table) (s .pre .1 .0 .below) e, ap length (at-assume .assume .ensures .1))
 
 loop-again : tie.Need-loop-again Inv-loop μ-loop
 loop-again c =
-    let s = c .before .before .before .before .before .before .before .before .before .before .before .before .before .before .before .before .before .before .before .before .before .before in
-    let e = sym (c .before .before .before .before .before .before .before .before .before .before .before .before .before .before .next-move .ensures) ∙ c .before .before .before .before .before .before .before .before .before .before .before .before .m .given .1 in
-    let a = c .before .before .before .before .assume in
-    counting-unit (c .before .before .before .before .before .before .before .before .before .before .before .before .before .before .before .before .before .loop .inv) (s .pre .0 .table) (s .pre .1 .0 .below) e (c .before .before .before .before .before .before .before .before .clause-size2 .ensures) (c .before .before .before .before .before .before .before .capped2 .ensures)
+    let at-assume = c .before .before .before .before in
+    let at-capped = at-assume .before .before .before in
+    let at-clause-size = at-capped .before in
+    let at-m = at-clause-size .before .before .before .before in
+    let at-next-move = at-m .before .before in
+    let at-loop = at-next-move .before .before .before in
+    let at-place = at-loop .before .before .before .before .before in
+    let s = at-place in
+    let e = sym (at-next-move .next-move .ensures) ∙ at-m .m .given .1 in
+    let a = at-assume .assume in
+    counting-unit (at-loop .loop .inv) (s .pre .0 .table) (s .pre .1 .0 .below) e (at-clause-size .clause-size2 .ensures) (at-capped .capped2 .ensures)
     (a .ensures .0) (a .ensures .1) (a .kept .1 .1 .1 .0) (a .kept .1 .1 .1 .1 .0)
 
 enum-told-2 : tie.Need-enum-told-2 Inv-loop μ-loop
@@ -88,7 +118,10 @@ same-length-4 : tie.Need-same-length-4 Inv-loop μ-loop
 same-length-4 c = c .before .before .before .before .before .loop .inv .run .sets
 
 returns-2 : tie.Need-returns-2 Inv-loop μ-loop
-returns-2 c = counting-done (c .before .before .before .before .before .loop .inv) (sym (c .before .before .next-move .ensures) ∙ c .enum-told2 .given .1)
+returns-2 c =
+    let at-next-move = c .before .before in
+    let at-loop = at-next-move .before .before .before in
+    counting-done (at-loop .loop .inv) (sym (at-next-move .next-move .ensures) ∙ c .enum-told2 .given .1)
 
 enum-known-m-2 : tie.Need-enum-known-m-2 Inv-loop μ-loop
 enum-known-m-2 c = search needs
@@ -104,8 +137,12 @@ same-length-6 c = c .before .before .before .before .before .before .before .loo
 
 returns-3 : tie.Need-returns-3 Inv-loop μ-loop
 returns-3 c =
-    let s = c .before .before .before .before .before .before .before .before .before .before .before .before in
-    counting-split (c .before .before .before .before .before .before .before .loop .inv) (s .pre .0 .table) (s .pre .1 .0 .below) (sym (c .before .before .before .before .next-move .ensures) ∙ c .before .before .m2 .given .1)
+    let at-m = c .before .before in
+    let at-next-move = at-m .before .before in
+    let at-loop = at-next-move .before .before .before in
+    let at-place = at-loop .before .before .before .before .before in
+    let s = at-place in
+    counting-split (at-loop .loop .inv) (s .pre .0 .table) (s .pre .1 .0 .below) (sym (at-next-move .next-move .ensures) ∙ at-m .m2 .given .1)
     (c .capped3 .ensures)
 
 pub units-spec : {M : Type 1} → statement M

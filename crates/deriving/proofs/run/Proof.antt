@@ -54,20 +54,20 @@ start-requires c κs =
 room-requires : tie.Need-room-requires
 room-requires c κs = search needs
 
-slice-aggregate-count-last : tie.Need-slice-aggregate-count-last
-slice-aggregate-count-last c = search needs
+slice-aggregate-count : tie.Need-slice-aggregate-count
+slice-aggregate-count c = search needs
 
-slice-aggregate-count-last-2 : tie.Need-slice-aggregate-count-last-2
-slice-aggregate-count-last-2 c = search needs
+slice-aggregate-count-2 : tie.Need-slice-aggregate-count-2
+slice-aggregate-count-2 c = search needs
 
-slice-aggregate-count-last-3 : tie.Need-slice-aggregate-count-last-3
-slice-aggregate-count-last-3 c = search needs
+slice-aggregate-count-3 : tie.Need-slice-aggregate-count-3
+slice-aggregate-count-3 c = search needs
 
-add-count-last : tie.Need-add-count-last
-add-count-last c = search needs
+add-count : tie.Need-add-count
+add-count c = search needs
 
-count-last-requires : tie.Need-count-last-requires
-count-last-requires c κs =
+count-requires : tie.Need-count-requires
+count-requires c κs =
     let s = c .before .before .before .before .before .before .before .before .before .before .before .before .before .before .before .before .before .before .before in
     (index (c .before .before .before .before .before .before .before .before .before .before .before .before .before .before), (goals-of (s .args .nodes) (s .args .goal) (s .pre .inside), (c .before .before .before .before .before .before .before .before .start .ensures .0, omega arith)))
 
@@ -84,7 +84,7 @@ returns : tie.Need-returns
 returns c =
     let s = c .before .before .before .before .before .before .before .before .before .before .before .before .before .before .before .before .before .before .before .before .before .before .before .before .before .before .before in
     let x = c .before .before .before .before .before .before .before .before .before .before .before .before .before .before .before .before .before .before .before .before .before .before in
-    ends-over (s .args .t .now) (s .args .nodes) (s .args .goal) (s .args .work .now) (s .args .d .now) (s .pre) (bytes (c .before .before .before .before .before .before .before .before .before .before .before .before .before .before .before .before .before .before .before .before .before .before .before .before .before .before)) (x .build .last .1 .1 .0) (size x) (x .build .ensures) (c .before .before .before .before .before .before .before .before .before .before .before .before .before .before .before .before .start .last .1 .1 .1 .0) (c .before .before .before .before .before .before .before .before .before .before .before .before .before .before .before .before .start .ensures .1) (c .before .before .before .before .before .before .before .before .before .before .before .before .room .ensures) (c .before .before .before .before .before .before .before .count-last .ensures) (c .before .before .tally .given .1) (c .if1 .taken)
+    ends-over (s .args .t .now) (s .args .nodes) (s .args .goal) (s .args .work .now) (s .args .d .now) (s .pre) (bytes (c .before .before .before .before .before .before .before .before .before .before .before .before .before .before .before .before .before .before .before .before .before .before .before .before .before .before)) (x .build .last .1 .1 .0) (size x) (x .build .ensures) (c .before .before .before .before .before .before .before .before .before .before .before .before .before .before .before .before .start .last .1 .1 .1 .0) (c .before .before .before .before .before .before .before .before .before .before .before .before .before .before .before .before .start .ensures .1) (c .before .before .before .before .before .before .before .before .before .before .before .before .room .ensures) (c .before .before .before .before .before .before .before .count .ensures) (c .before .before .tally .given .1) (c .if1 .taken)
 
 slice-aggregate-start-4 : tie.Need-slice-aggregate-start-4
 slice-aggregate-start-4 c = search needs
@@ -98,7 +98,7 @@ slice-aggregate-start-6 c = search needs
 start-requires-2 : tie.Need-start-requires-2
 start-requires-2 c κs =
     let s = c .before .before .before .before .before .before .before .before .before .before .before .before .before .before .before .before .before .before .before .before .before .before .before .before .before .before .before .before .before .before .before in
-    (index (c .before .before .before .before .before .before .before .before .before .before .before .before .before .before .before .before .before .before .before .before .before .before .before .before .before .before), (goals-of (s .args .nodes) (s .args .goal) (s .pre .inside), (omega (arith, s .pre .area, c .before .before .before .before .before .before .before .before .before .before .before .before .before .before .before .before .before .before .before .before .start .kept .1 .1 .1 .0, c .before .before .before .before .before .before .before .before .before .before .before .count-last .kept .1 .1 .1 .0), search needs)))
+    (index (c .before .before .before .before .before .before .before .before .before .before .before .before .before .before .before .before .before .before .before .before .before .before .before .before .before .before), (goals-of (s .args .nodes) (s .args .goal) (s .pre .inside), (omega (arith, s .pre .area, c .before .before .before .before .before .before .before .before .before .before .before .before .before .before .before .before .before .before .before .before .start .kept .1 .1 .1 .0, c .before .before .before .before .before .before .before .before .before .before .before .count .kept .1 .1 .1 .0), search needs)))
 
 slice-aggregate-write : tie.Need-slice-aggregate-write
 slice-aggregate-write c = omega (arith, size (c .before .before .before .before .before .before .before .before .before .before .before .before .before .before .before .before .before .before .before .before .before .before .before .before .before .before .before .before .before .before .before))
@@ -113,7 +113,7 @@ write-requires : tie.Need-write-requires
 write-requires c κs =
     let s = c .before .before .before .before .before .before .before .before .before .before .before .before .before .before .before .before .before .before .before .before .before .before .before .before .before .before .before .before .before .before .before .before .before .before .before .before .before .before .before .before in
     let x = c .before .before .before .before .before .before .before .before .before .before .before .before .before .before .before .before .before .before .before .before .before .before .before .before .before .before .before .before .before .before .before .before .before .before .before in
-    (index x, (goals-of (s .args .nodes) (s .args .goal) (s .pre .inside), (c .before .before .before .before .before .before .before .before .start2 .ensures .0, fits (s .args .t .now) (s .args .nodes) (s .args .goal) (s .args .work .now) (s .args .d .now) (s .pre) (bytes (c .before .before .before .before .before .before .before .before .before .before .before .before .before .before .before .before .before .before .before .before .before .before .before .before .before .before .before .before .before .before .before .before .before .before .before .before .before .before .before)) (x .build .last .1 .1 .0) (size x) (x .build .ensures) (c .before .before .before .before .before .before .before .before .before .before .before .before .before .before .before .before .before .before .before .before .before .before .before .before .before .before .before .before .before .start .last .1 .1 .1 .0) (c .before .before .before .before .before .before .before .before .before .before .before .before .before .before .before .before .before .before .before .before .before .before .before .before .before .before .before .before .before .start .ensures .1) (c .before .before .before .before .before .before .before .before .before .before .before .before .before .before .before .before .before .before .before .before .before .before .before .before .before .room .ensures) (c .before .before .before .before .before .before .before .before .before .before .before .before .before .before .before .before .before .before .before .before .count-last .ensures) (c .before .before .before .before .before .before .before .before .before .before .before .before .before .before .before .tally .given .1) (omega (arith, c .before .before .before .before .before .before .before .before .before .before .before .before .before .if1 .left)) (c .before .before .before .before .before .before .before .before .start2 .last .1 .1 .1 .0) (c .before .before .before .before .before .before .before .before .start2 .ensures .1))))
+    (index x, (goals-of (s .args .nodes) (s .args .goal) (s .pre .inside), (c .before .before .before .before .before .before .before .before .start2 .ensures .0, fits (s .args .t .now) (s .args .nodes) (s .args .goal) (s .args .work .now) (s .args .d .now) (s .pre) (bytes (c .before .before .before .before .before .before .before .before .before .before .before .before .before .before .before .before .before .before .before .before .before .before .before .before .before .before .before .before .before .before .before .before .before .before .before .before .before .before .before)) (x .build .last .1 .1 .0) (size x) (x .build .ensures) (c .before .before .before .before .before .before .before .before .before .before .before .before .before .before .before .before .before .before .before .before .before .before .before .before .before .before .before .before .before .start .last .1 .1 .1 .0) (c .before .before .before .before .before .before .before .before .before .before .before .before .before .before .before .before .before .before .before .before .before .before .before .before .before .before .before .before .before .start .ensures .1) (c .before .before .before .before .before .before .before .before .before .before .before .before .before .before .before .before .before .before .before .before .before .before .before .before .before .room .ensures) (c .before .before .before .before .before .before .before .before .before .before .before .before .before .before .before .before .before .before .before .before .count .ensures) (c .before .before .before .before .before .before .before .before .before .before .before .before .before .before .before .tally .given .1) (omega (arith, c .before .before .before .before .before .before .before .before .before .before .before .before .before .if1 .left)) (c .before .before .before .before .before .before .before .before .start2 .last .1 .1 .1 .0) (c .before .before .before .before .before .before .before .before .start2 .ensures .1))))
 
 same-length-2 : tie.Need-same-length-2
 same-length-2 c = search needs
@@ -122,10 +122,10 @@ returns-2 : tie.Need-returns-2
 returns-2 c =
     let s = c .before .before .before .before .before .before .before .before .before .before .before .before .before .before .before .before .before .before .before .before .before .before .before .before .before in
     let x = c .before .before .before .before .before .before .before .before .before .before .before .before .before .before .before .before .before .before .before .before in
-    ends-open (s .args .t .now) (s .args .nodes) (s .args .goal) (s .args .work .now) (s .args .d .now) (s .pre) (bytes (c .before .before .before .before .before .before .before .before .before .before .before .before .before .before .before .before .before .before .before .before .before .before .before .before)) (x .build .last .1 .1 .0) (size x) (x .build .ensures) (c .before .before .before .before .before .before .before .before .before .before .before .before .before .before .start .last .1 .1 .1 .0) (c .before .before .before .before .before .before .before .before .before .before .before .before .before .before .start .ensures .1) (c .before .before .before .before .before .before .before .before .before .before .room .ensures) (c .before .before .before .before .before .count-last .ensures) (c .enum-told .given .1)
+    ends-open (s .args .t .now) (s .args .nodes) (s .args .goal) (s .args .work .now) (s .args .d .now) (s .pre) (bytes (c .before .before .before .before .before .before .before .before .before .before .before .before .before .before .before .before .before .before .before .before .before .before .before .before)) (x .build .last .1 .1 .0) (size x) (x .build .ensures) (c .before .before .before .before .before .before .before .before .before .before .before .before .before .before .start .last .1 .1 .1 .0) (c .before .before .before .before .before .before .before .before .before .before .before .before .before .before .start .ensures .1) (c .before .before .before .before .before .before .before .before .before .before .room .ensures) (c .before .before .before .before .before .count .ensures) (c .enum-told .given .1)
 
 same-length-3 : tie.Need-same-length-3
-same-length-3 c = omega (arith, c .before .before .before .before .before .write .kept .1 .1 .1 .0, c .before .before .before .before .before .before .before .before .before .before .before .before .before .before .start2 .kept .1 .1 .1 .0, c .before .before .before .before .before .before .before .before .before .before .before .before .before .before .before .before .before .before .before .before .before .before .before .before .before .before .count-last .kept .1 .1 .1 .0, c .before .before .before .before .before .before .before .before .before .before .before .before .before .before .before .before .before .before .before .before .before .before .before .before .before .before .before .before .before .before .before .before .before .before .before .start .kept .1 .1 .1 .0)
+same-length-3 c = omega (arith, c .before .before .before .before .before .write .kept .1 .1 .1 .0, c .before .before .before .before .before .before .before .before .before .before .before .before .before .before .start2 .kept .1 .1 .1 .0, c .before .before .before .before .before .before .before .before .before .before .before .before .before .before .before .before .before .before .before .before .before .before .before .before .before .before .count .kept .1 .1 .1 .0, c .before .before .before .before .before .before .before .before .before .before .before .before .before .before .before .before .before .before .before .before .before .before .before .before .before .before .before .before .before .before .before .before .before .before .before .start .kept .1 .1 .1 .0)
 
 same-length-4 : tie.Need-same-length-4
 same-length-4 c = search needs
@@ -134,7 +134,7 @@ returns-3 : tie.Need-returns-3
 returns-3 c =
     let s = c .before .before .before .before .before .before .before .before .before .before .before .before .before .before .before .before .before .before .before .before .before .before .before .before .before .before .before .before .before .before .before .before .before .before .before .before .before .before .before .before .before .before .before .before .before .before in
     let x = c .before .before .before .before .before .before .before .before .before .before .before .before .before .before .before .before .before .before .before .before .before .before .before .before .before .before .before .before .before .before .before .before .before .before .before .before .before .before .before .before .before in
-    ends-steps (s .args .t .now) (s .args .nodes) (s .args .goal) (s .args .work .now) (s .args .d .now) (s .pre) (bytes (c .before .before .before .before .before .before .before .before .before .before .before .before .before .before .before .before .before .before .before .before .before .before .before .before .before .before .before .before .before .before .before .before .before .before .before .before .before .before .before .before .before .before .before .before .before)) (x .build .last .1 .1 .0) (size x) (x .build .ensures) (c .before .before .before .before .before .before .before .before .before .before .before .before .before .before .before .before .before .before .before .before .before .before .before .before .before .before .before .before .before .before .before .before .before .before .before .start .last .1 .1 .1 .0) (c .before .before .before .before .before .before .before .before .before .before .before .before .before .before .before .before .before .before .before .before .before .before .before .before .before .before .before .before .before .before .before .before .before .before .before .start .ensures .1) (c .before .before .before .before .before .before .before .before .before .before .before .before .before .before .before .before .before .before .before .before .before .before .before .before .before .before .before .before .before .before .before .room .ensures) (c .before .before .before .before .before .before .before .before .before .before .before .before .before .before .before .before .before .before .before .before .before .before .before .before .before .before .count-last .ensures) (c .before .before .before .before .before .before .before .before .before .before .before .before .before .before .before .before .before .before .before .before .before .tally .given .1) (omega (arith, c .before .before .before .before .before .before .before .before .before .before .before .before .before .before .before .before .before .before .before .if1 .left)) (c .before .before .before .before .before .before .before .before .before .before .before .before .before .before .start2 .last .1 .1 .1 .0) (c .before .before .before .before .before .before .before .before .before .before .before .before .before .before .start2 .ensures .1) (c .before .before .before .before .before .write .ensures)
+    ends-steps (s .args .t .now) (s .args .nodes) (s .args .goal) (s .args .work .now) (s .args .d .now) (s .pre) (bytes (c .before .before .before .before .before .before .before .before .before .before .before .before .before .before .before .before .before .before .before .before .before .before .before .before .before .before .before .before .before .before .before .before .before .before .before .before .before .before .before .before .before .before .before .before .before)) (x .build .last .1 .1 .0) (size x) (x .build .ensures) (c .before .before .before .before .before .before .before .before .before .before .before .before .before .before .before .before .before .before .before .before .before .before .before .before .before .before .before .before .before .before .before .before .before .before .before .start .last .1 .1 .1 .0) (c .before .before .before .before .before .before .before .before .before .before .before .before .before .before .before .before .before .before .before .before .before .before .before .before .before .before .before .before .before .before .before .before .before .before .before .start .ensures .1) (c .before .before .before .before .before .before .before .before .before .before .before .before .before .before .before .before .before .before .before .before .before .before .before .before .before .before .before .before .before .before .before .room .ensures) (c .before .before .before .before .before .before .before .before .before .before .before .before .before .before .before .before .before .before .before .before .before .before .before .before .before .before .count .ensures) (c .before .before .before .before .before .before .before .before .before .before .before .before .before .before .before .before .before .before .before .before .before .tally .given .1) (omega (arith, c .before .before .before .before .before .before .before .before .before .before .before .before .before .before .before .before .before .before .before .if1 .left)) (c .before .before .before .before .before .before .before .before .before .before .before .before .before .before .start2 .last .1 .1 .1 .0) (c .before .before .before .before .before .before .before .before .before .before .before .before .before .before .start2 .ensures .1) (c .before .before .before .before .before .write .ensures)
 
 pub run-spec : {M : Type 1} → statement M
 run-spec =
@@ -148,11 +148,11 @@ run-spec =
     slice-aggregate-start-3
     start-requires
     room-requires
-    slice-aggregate-count-last
-    slice-aggregate-count-last-2
-    slice-aggregate-count-last-3
-    add-count-last
-    count-last-requires
+    slice-aggregate-count
+    slice-aggregate-count-2
+    slice-aggregate-count-3
+    add-count
+    count-requires
     enum-told
     enum-known-tally
     same-length

@@ -74,18 +74,27 @@ same-length c = search needs
 returns : tie.Need-returns
 unfolding ascii
 returns c =
-    let args = c .before .before .before .before .before .before .before .before .before .before .before .before .before .before .before .before .before .before .before .before .before .before .before .before .before .before .before .before .before .before .before .args in
-    let pre = c .before .before .before .before .before .before .before .before .before .before .before .before .before .before .before .before .before .before .before .before .before .before .before .before .before .before .before .before .before .before .before .pre in
-    let number = c .before .before .before .before .before .before .before .before .before .before .before .before .before .before .before .before .before .before .before .before .before .before .before .before .before .number .ensures in
-    let space = c .before .before .before .before .before .before .before .before .before .before .before .before .before .before .before .before .before .before .before .before .put .ensures in
-    let yes = c .before .before .before .before .before .before .before .before .before .before .before .before .before .before .before .before .word .ensures in
-    let space′ = c .before .before .before .before .before .before .before .before .before .before .before .put2 .ensures in
-    let no = c .before .before .before .before .before .before .before .word2 .ensures in
-    let feed = c .before .before .put3 .ensures in
+    let at-put3 = c .before .before in
+    let at-word2 = at-put3 .before .before .before .before .before in
+    let at-put2 = at-word2 .before .before .before .before in
+    let at-word = at-put2 .before .before .before .before .before in
+    let at-put = at-word .before .before .before .before in
+    let at-number = at-put .before .before .before .before .before in
+    let at-verdict2 = at-number .before .before in
+    let at-verdict = at-verdict2 .before in
+    let start = at-verdict .before .before .before in
+    let args = start .args in
+    let pre = start .pre in
+    let number = at-number .number .ensures in
+    let space = at-put .put .ensures in
+    let yes = at-word .word .ensures in
+    let space′ = at-put2 .put2 .ensures in
+    let no = at-word2 .word2 .ensures in
+    let feed = at-put3 .put3 .ensures in
     record {
       text = λ rs reads inside.
-          subst (λ (s : List ℕ). Put (args .out .now) (args .at) s (c .before .before .put3 .last .0) (c .before .before .put3 .result))
-          (line-of rs (args .n) (c .before .before .before .before .before .before .before .before .before .before .before .before .before .before .before .before .before .before .before .before .before .before .before .before .before .before .before .before .verdict .ensures rs reads (omega arith)) (c .before .before .before .before .before .before .before .before .before .before .before .before .before .before .before .before .before .before .before .before .before .before .before .before .before .before .before .verdict2 .ensures rs reads (omega arith)))
+          subst (λ (s : List ℕ). Put (args .out .now) (args .at) s (at-put3 .put3 .last .0) (at-put3 .put3 .result))
+          (line-of rs (args .n) (at-verdict .verdict .ensures rs reads (omega arith)) (at-verdict2 .verdict2 .ensures rs reads (omega arith)))
           (behind (omega arith) (number .0)
           (behind (omega arith) space
           (behind (omega arith) (yes .put)

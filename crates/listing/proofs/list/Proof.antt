@@ -72,9 +72,13 @@ same-length c = search needs
 -- src/main.rt:74:1
 returns : tie.Need-returns
 returns c =
-    let args = c .before .before .before .before .before .before .before .before .before .before .before .before .args in
-    let put = c .before .before .before .before .refused in
-    let no = refused-listing (args .t .now) (sym (c .before .before .before .before .before .before .before .before .before .count .ensures) ∙ ap countedOf (c .before .before .before .before .before .before .before .c .given .1)) in
+    let at-refused = c .before .before .before .before in
+    let at-c = at-refused .before .before .before in
+    let at-count = at-c .before .before in
+    let start = at-count .before .before .before in
+    let args = start .args in
+    let put = at-refused .refused in
+    let no = refused-listing (args .t .now) (sym (at-count .count .ensures) ∙ ap countedOf (at-c .c .given .1)) in
     rw (c .say .ensures) (subst (λ (s : List ℕ). Put (args .out .now) 0 s (put .last .0) (put .result)) no (put .ensures))
 
 -- src/main.rt:74:1
@@ -85,11 +89,16 @@ same-length-2 c = search needs
 returns-2 : tie.Need-returns-2
 unfolding ascii heading
 returns-2 c =
-    let args = c .before .before .before .before .before .before .before .before .before .before .before .before .before .before .before .before .before .args in
-    let all = c .before .before .lines in
-    let rs = counted-listing (args .t .now) (answered (c .before .before .before .before .before .before .before .before .before .before .before)) in
+    let at-lines = c .before .before in
+    let at-say2 = at-lines .before .before in
+    let at-put = at-say2 .before .before .before .before in
+    let at-rest = at-put .before .before .before in
+    let start = at-rest .before .before .before .before .before .before in
+    let args = start .args in
+    let all = at-lines .lines in
+    let rs = counted-listing (args .t .now) (answered (at-rest)) in
     subst (λ (s : List ℕ). Put (args .out .now) 0 s (all .last .1 .1 .0) (all .result)) (rs .3)
-    (behind (omega arith) (c .before .before .before .before .before .before .before .before .put .ensures) (rw (c .before .before .before .before .say2 .ensures) at (all .ensures .text (rs .0) (rs .1) (rs .2))))
+    (behind (omega arith) (at-put .put .ensures) (rw (at-say2 .say2 .ensures) at (all .ensures .text (rs .0) (rs .1) (rs .2))))
 
 pub list-spec : {M : Type 1} → statement M
 list-spec =

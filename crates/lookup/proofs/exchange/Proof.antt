@@ -1,9 +1,8 @@
 -- `lookup::exchange` meets its contract. Assumes nothing.
-use mathlib.Core.Path.{_≡_, _∙_, sym}
+use mathlib.Core.Path.{_∙_, sym}
 use borrow.Author.Tests.{not-true, not-false}
 use Rattle.scope.specs.Calls.{exchanged}
 use Rattle.lookup.proofs.Finds.{exchanged-bytes}
-use native.Mathlib.Omega.{arith}
 use borrow.Author.Needs.{needs}
 use Rattle.lookup.proofs.exchange.Statement.{statement}
 use Rattle.lookup.proofs.exchange.Tie as tie

@@ -1,6 +1,6 @@
 -- `lookup::find` meets its contract: n and what is left of the search from n on is the answer. Assumes nothing.
-use mathlib.Core.Path.{_≡_, _∙_, ap, sym, refl}
-use Prim.Native.Nat.{ℕ, _+_, _-_, _≤_}
+use mathlib.Core.Path.{_≡_, _∙_, ap, sym}
+use Prim.Native.Nat.{_+_, _-_, _≤_}
 use native.Mathlib.Nat.{sub-zero, zero-add}
 use Rattle.scope.specs.declared.Node.{Node}
 use Rattle.scope.specs.Table.{tables, sameNode, nodeOf, nodeAt, listFrom}
@@ -19,10 +19,14 @@ abbrev μ-loop : tie.MeasureT-loop
 μ-loop t nodes x n₀ n = nodes - n
 
 -- what a turn compares: node n and x
-compared : (c : tie.After-same Inv-loop μ-loop) → c .same .result ≡ sameNode (nodeAt (c .before .before .before .before .before .before .before .args .t .now) (c .before .before .before .before .before .loop .n)) (c .before .before .before .before .before .before .before .args .x)
+compared : (c : tie.After-same Inv-loop μ-loop) → let at-loop = c .before .before .before .before .before in let start = at-loop .before .before in
+    c .same .result ≡ sameNode (nodeAt (start .args .t .now) (at-loop .loop .n)) (start .args .x)
 compared c =
-    let a = c .before .before .before .before .before .before .before .args in
-    c .same .ensures ∙ ap (λ (y : Node). sameNode y (a .x)) (c .before .fields .ensures ∙ ap nodeOf (part-record tables (a .t .now) (c .before .before .before .before .before .loop .n) _ (c .before .before .before .place .ensures)))
+    let at-place = c .before .before .before in
+    let at-loop = at-place .before .before in
+    let start = at-loop .before .before in
+    let a = start .args in
+    c .same .ensures ∙ ap (λ (y : Node). sameNode y (a .x)) (c .before .fields .ensures ∙ ap nodeOf (part-record tables (a .t .now) (at-loop .loop .n) _ (at-place .place .ensures)))
 
 loop-holds : tie.Need-loop-holds Inv-loop μ-loop
 loop-holds c = (search needs, simp (sub-zero, zero-add))
@@ -61,8 +65,10 @@ loop-less c = search needs
 
 loop-again : tie.Need-loop-again Inv-loop μ-loop
 loop-again c =
-    let at = c .before .before .before .before .before .before .loop in
-    (omega (arith, c .before .before .before .before .before .loop-test .taken), sym (passed _ _ _ _ (c .before .before .before .before .before .loop-test .taken) (sym (compared (c .before)) ∙ c .if1 .left)) ∙ at .inv .1)
+    let at-loop-test = c .before .before .before .before .before in
+    let at-loop = at-loop-test .before in
+    let at = at-loop .loop in
+    (omega (arith, at-loop-test .loop-test .taken), sym (passed _ _ _ _ (at-loop-test .loop-test .taken) (sym (compared (c .before)) ∙ c .if1 .left)) ∙ at .inv .1)
 
 returns-2 : tie.Need-returns-2 Inv-loop μ-loop
 returns-2 c = sym (none _ _ _ _ (c .before .loop .inv .0) (c .loop-test .left)) ∙ c .before .loop .inv .1

@@ -1,7 +1,5 @@
 -- `lookup::has_order` meets its contract. Assumes nothing.
 use borrow.Author.Tests.{ne-eqb}
-use native.Mathlib.Omega.{arith}
-use borrow.Author.Needs.{needs}
 use Rattle.lookup.proofs.has_order.Statement.{statement}
 use Rattle.lookup.proofs.has_order.Tie as tie
 

@@ -1,7 +1,5 @@
 -- `lookup::same` meets its contract. Assumes nothing.
 use Rattle.lookup.proofs.Finds.{other-kind, other-a, only-b}
-use native.Mathlib.Omega.{arith}
-use borrow.Author.Needs.{needs}
 use Rattle.lookup.proofs.same.Statement.{statement}
 use Rattle.lookup.proofs.same.Tie as tie
 
@@ -12,7 +10,11 @@ returns-2 : tie.Need-returns-2
 returns-2 c = other-a (c .before .before .before .before .before .before .args .x) (c .before .before .before .before .before .before .args .y) (c .before .before .before .if1 .left) (c .if2 .taken)
 
 returns-3 : tie.Need-returns-3
-returns-3 c = only-b (c .before .before .before .before .before .before .before .before .args .x) (c .before .before .before .before .before .before .before .before .args .y) (c .before .before .before .before .before .if1 .left) (c .before .before .if2 .left)
+returns-3 c =
+    let at-if2 = c .before .before in
+    let at-if1 = at-if2 .before .before .before in
+    let start = at-if1 .before .before .before in
+    only-b (start .args .x) (start .args .y) (at-if1 .if1 .left) (at-if2 .if2 .left)
 
 pub same-spec : {M : Type 1} → statement M
 same-spec = tie.close (tie.spec returns returns-2 returns-3)

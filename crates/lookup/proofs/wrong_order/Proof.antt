@@ -1,8 +1,7 @@
 -- `lookup::wrong_order` meets its contract. Assumes nothing.
-use mathlib.Core.Path.{_≡_, _∙_, sym}
+use mathlib.Core.Path.{_∙_, sym}
 use borrow.Author.Tests.{not-true, not-false}
 use Rattle.scope.specs.Calls.{wrongOrder}
-use native.Mathlib.Omega.{arith}
 use borrow.Author.Needs.{needs}
 use Rattle.lookup.proofs.wrong_order.Statement.{statement}
 use Rattle.lookup.proofs.wrong_order.Tie as tie
@@ -31,7 +30,11 @@ word-requires-2 c κs = search needs
 
 returns-2 : tie.Need-returns-2
 unfolding wrongOrder
-returns-2 c = simp (sym (c .before .before .before .before .before .has-order .ensures) ∙ not-false _ (c .before .before .before .before .if1 .left), c .word2 .ensures, c .before .before .word .ensures)
+returns-2 c =
+    let at-word = c .before .before in
+    let at-if1 = at-word .before .before in
+    let at-has-order = at-if1 .before in
+    simp (sym (at-has-order .has-order .ensures) ∙ not-false _ (at-if1 .if1 .left), c .word2 .ensures, at-word .word .ensures)
 
 pub wrong-order-spec : {M : Type 1} → statement M
 wrong-order-spec =

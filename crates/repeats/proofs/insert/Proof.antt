@@ -7,9 +7,6 @@ use Rattle.repeats.proofs.Chains.{inserted}
 use Rattle.repeats.proofs.insert.Statement.{statement}
 use Rattle.repeats.proofs.insert.Tie as tie
 
-key-requires : tie.Need-key-requires
-key-requires c κs = search needs
-
 mul-next : tie.Need-mul-next
 mul-next c = search needs
 
@@ -41,18 +38,12 @@ same-length-2 : tie.Need-same-length-2
 same-length-2 c = search needs
 
 returns : tie.Need-returns
-returns c =
-    inserted
-    (c .before .before .before .before .before .pre .2)
-    (omega arith)
-    (c .before .before .before .before .before .pre .0)
-    (ap (_% 4093) (c .before .key .ensures))
+returns c = inserted (c .before .pre .2) (omega arith) (c .before .pre .0) (ap (_% 4093) (c .before .pre .1))
 
 pub insert-spec : {M : Type 1} → statement M
 insert-spec =
     tie.close
     (tie.spec
-    key-requires
     mul-next
     slice-read-next
     mul-next-2

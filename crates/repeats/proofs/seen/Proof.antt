@@ -15,9 +15,6 @@ Inv-loop t head next n k s₀ s = Left t next n k s
 abbrev μ-loop : tie.MeasureT-loop
 μ-loop t head next n k s₀ s = s
 
-key-requires : tie.Need-key-requires Inv-loop μ-loop
-key-requires c κs = search needs
-
 mul-s : tie.Need-mul-s Inv-loop μ-loop
 mul-s c = search needs
 
@@ -25,26 +22,22 @@ shared-slice-read-s : tie.Need-shared-slice-read-s Inv-loop μ-loop
 shared-slice-read-s c = search needs
 
 cast-s : tie.Need-cast-s Inv-loop μ-loop
-cast-s c = omega (arith, c .shared-slice-known4 .given (c .before .key .result % 4093))
+cast-s c = omega (arith, c .shared-slice-known4 .given (c .before .before .before .before .args .k % 4093))
 
 loop-holds : tie.Need-loop-holds Inv-loop μ-loop
-loop-holds c =
-    at-head
-    (λ i. c .before .before .before .before .shared-slice-known .given i .fits)
-    (c .before .before .before .before .before .pre .2)
-    (c .before .key .ensures)
+loop-holds c = at-head (λ i. c .before .before .before .shared-slice-known .given i .fits) (c .before .before .before .before .pre .3) (c .before .before .before .before .pre .2)
 
-sub-key : tie.Need-sub-key Inv-loop μ-loop
-sub-key c = search needs
+sub-key-at : tie.Need-sub-key-at Inv-loop μ-loop
+sub-key-at c = search needs
 
-key-requires-2 : tie.Need-key-requires-2 Inv-loop μ-loop
-key-requires-2 c κs = (
+key-at-requires : tie.Need-key-at-requires Inv-loop μ-loop
+key-at-requires c κs = (
   omega arith,
-  omega (arith, place-mono (c .before .loop .s - 1) (c .before .before .before .before .before .before .before .args .n) (omega arith)),
+  omega (arith, place-mono (c .before .loop .s - 1) (c .before .before .before .before .before .before .args .n) (omega arith)),
 )
 
 returns : tie.Need-returns Inv-loop μ-loop
-returns c = finds (c .before .before .before .loop .inv) (λ z. omega arith) (sym (c .before .key2 .ensures) ∙ c .if1 .taken)
+returns c = finds (c .before .before .before .loop .inv) (λ z. omega arith) (sym (c .before .key-at .ensures) ∙ c .if1 .taken)
 
 sub-s : tie.Need-sub-s Inv-loop μ-loop
 sub-s c = search needs
@@ -66,7 +59,7 @@ loop-again c =
     goes-on
     (c .before .before .before .before .loop .inv)
     (λ z. omega arith)
-    (λ q. c .before .if1 .left (c .before .before .key2 .ensures ∙ q))
+    (λ q. c .before .if1 .left (c .before .before .key-at .ensures ∙ q))
 
 returns-2 : tie.Need-returns-2 Inv-loop μ-loop
 returns-2 c = at-end (c .before .loop .inv) (omega arith)
@@ -77,13 +70,12 @@ seen-spec =
     (tie.spec
     Inv-loop
     μ-loop
-    key-requires
     mul-s
     shared-slice-read-s
     cast-s
     loop-holds
-    sub-key
-    key-requires-2
+    sub-key-at
+    key-at-requires
     returns
     sub-s
     mul-s-2

@@ -1,6 +1,6 @@
 -- `table::block_rows` meets its contract: the block's own test, then its records. Assumes nothing.
 use mathlib.Core.Path.{_≡_, _∙_, ap, sym, refl}
-use Prim.Native.Nat.{ℕ, _+_, _*_, _≤_}
+use Prim.Native.Nat.{_+_, _*_, _≤_}
 use lib.ListN.{getD}
 use Rattle.scope.specs.Outcome.{verdictOf, fine}
 use Rattle.scope.specs.Table.{tables}
@@ -17,10 +17,12 @@ tested c =
     let a = c .before .before .before .before .before .before .args in
     block-tested _ tables (a .t .now) (a .j) _ (c .before .tables .ensures) (c .test .ensures)
 
-passes : (c : tie.After-enum-told) → BlockTest (c .before .before .before .before .before .before .before .before .args .t .now) (c .before .before .before .before .before .before .before .before .args .j) ≡ fine
+passes : (c : tie.After-enum-told) → let start = c .before .before .before .before .before .before .before .before in
+    BlockTest (start .args .t .now) (start .args .j) ≡ fine
 passes c = sym (tested (c .before .before)) ∙ ap verdictOf (c .enum-told .given .1)
 
-most : (c : tie.After-enum-told) → getD (c .before .before .before .before .before .before .before .before .args .t .now) (512 * c .before .before .before .before .before .before .before .before .args .j + 1) 0 ≤ 63
+most : (c : tie.After-enum-told) → let start = c .before .before .before .before .before .before .before .before in
+    getD (start .args .t .now) (512 * start .args .j + 1) 0 ≤ 63
 most c = count-most (c .before .before .before .before .before .before .before .before .args .t .now) (c .before .before .before .before .before .before .before .before .args .j) (passes c)
 
 mul-at : tie.Need-mul-at
@@ -55,8 +57,10 @@ enum-told-2 c = search needs
 
 returns : tie.Need-returns
 returns c =
+    let at-rest = c .before .before in
+    let start = at-rest .before .before .before .before .before .before in
     let told = ap verdictOf (c .enum-told2 .given .1) in
-    refuses _ _ _ _ _ _ told (block-refused (c .before .before .before .before .before .before .before .before .args .t .now) (c .before .before .before .before .before .before .before .before .args .j) (sym (tested (c .before .before)) ∙ told))
+    refuses _ _ _ _ _ _ told (block-refused (start .args .t .now) (start .args .j) (sym (tested (at-rest)) ∙ told))
 
 add-count : tie.Need-add-count
 add-count c = search needs
@@ -78,9 +82,11 @@ add-records c = omega (arith, most (c .before .before .before))
 
 records-requires : tie.Need-records-requires
 records-requires c κs =
-    let p = c .before .before .before .before .before .before .before .before .before .before .before .pre in
-    let k = most (c .before .before .before) in
-    (omega arith, omega (arith, p .0, k), λ n h. within (c .before .before .before .before .before .before .before .before .before .before .before .args .t .now) (c .before .before .before .before .before .before .before .before .before .before .before .args .j) n (p .1) (omega (arith, h, k)), p .2)
+    let at-rest = c .before .before .before in
+    let start = at-rest .before .before .before .before .before .before .before .before in
+    let p = start .pre in
+    let k = most (at-rest) in
+    (omega arith, omega (arith, p .0, k), λ n h. within (start .args .t .now) (start .args .j) n (p .1) (omega (arith, h, k)), p .2)
 
 same-length : tie.Need-same-length
 same-length c = search needs

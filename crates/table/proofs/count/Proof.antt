@@ -1,11 +1,11 @@
 -- `table::count` meets its contract: the last block's count, and all the others are full. Assumes nothing.
-use mathlib.Core.Path.{_≡_, _∙_, ap, sym, refl}
-use Prim.Native.Nat.{ℕ, _<_, _-_, _*_, _/_, _+_, _≤_}
-use lib.ListN.{length, getD}
+use mathlib.Core.Path.{_≡_, _∙_, ap, sym}
+use Prim.Native.Nat.{_<_, _-_, _*_, _/_, _+_, _≤_}
+use lib.ListN.{length}
 use Rattle.scope.specs.Outcome.{fine, answer, verdictOf}
 use Rattle.scope.specs.Table.{tables, tableTest}
 use Rattle.scope.proofs.Records.{count-parts}
-use Rattle.codec.proofs.Tables.{length-ok, few-records}
+use Rattle.codec.proofs.Tables.{length-ok}
 use Rattle.table.proofs.Rows.{count-refused, count-fine}
 use native.Mathlib.Omega.{arith}
 use borrow.Author.Needs.{needs}
@@ -16,7 +16,8 @@ use Rattle.table.proofs.count.Tie as tie
 reads : (c : tie.After-enum-told) → tableTest (c .before .before .before .before .args .t .now) ≡ fine
 reads c = sym (c .before .before .verdict .ensures) ∙ ap verdictOf (c .enum-told .given .1)
 
-blocks : (c : tie.After-enum-told) → (0 < length (c .before .before .before .before .args .t .now) / 512) × (length (c .before .before .before .before .args .t .now) ≡ 512 * (length (c .before .before .before .before .args .t .now) / 512)) × (length (c .before .before .before .before .args .t .now) / 512 ≤ 32)
+blocks : (c : tie.After-enum-told) → let start = c .before .before .before .before in
+    (0 < length (start .args .t .now) / 512) × (length (start .args .t .now) ≡ 512 * (length (start .args .t .now) / 512)) × (length (start .args .t .now) / 512 ≤ 32)
 blocks c = length-ok _ (λ i. c .before .before .before .shared-slice-known .given i .fits) (reads c)
 
 verdict-requires : tie.Need-verdict-requires

@@ -1,8 +1,6 @@
 -- `table::length_ok` meets its contract. Assumes nothing.
 use borrow.Author.Tests.{eq-eqb, ne-eqb}
 use Rattle.scope.specs.Table.{lengthOk}
-use native.Mathlib.Omega.{arith}
-use borrow.Author.Needs.{needs}
 use Rattle.table.proofs.length_ok.Statement.{statement}
 use Rattle.table.proofs.length_ok.Tie as tie
 

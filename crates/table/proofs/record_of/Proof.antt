@@ -1,10 +1,10 @@
 -- `table::record_of` meets its contract: the count's refusal, row 20, or the record, which reads since its table does.
 -- Assumes nothing.
-use mathlib.Core.Path.{_≡_, _∙_, ap, sym, refl}
+use mathlib.Core.Path.{_≡_, _∙_, ap, sym}
 use mathlib.Core.List.{List}
 use Prim.Native.Nat.{ℕ, _+_, _<_, _≤_, _/_}
 use lib.ListN.{length}
-use Rattle.scope.specs.Outcome.{fine, answer}
+use Rattle.scope.specs.Outcome.{fine}
 use Rattle.scope.specs.Block.{recordsIn}
 use Rattle.scope.specs.Table.{tables, tableTest, readRecord}
 use Rattle.scope.proofs.Records.{part-record}
@@ -18,7 +18,8 @@ use Rattle.table.proofs.record_of.Statement.{statement}
 use Rattle.table.proofs.record_of.Tie as tie
 
 -- past the count the table reads, and the count is that of its records
-reads : (c : tie.After-known-told2) → (tableTest (c .before .before .before .before .before .args .t .now) ≡ fine) × (c .before .c2 .given .0 .0 ≡ recordsIn tables (c .before .before .before .before .before .args .t .now))
+reads : (c : tie.After-known-told2) → let at-c2 = c .before in let start = at-c2 .before .before .before .before in
+    (tableTest (start .args .t .now) ≡ fine) × (at-c2 .c2 .given .0 .0 ≡ recordsIn tables (start .args .t .now))
 reads c = counted _ (sym (c .before .before .before .count .ensures) ∙ ap countedOf (c .before .c2 .given .1))
 
 bytes : (c : tie.After-known-told2) → Bytes (c .before .before .before .before .before .args .t .now)

@@ -46,9 +46,12 @@ same-length-2 c = c .before .before .before .before .before .before .record-verd
 
 returns : tie.Need-returns Inv-loop μ-loop
 returns c =
-    let v = c .before .before .before .before .before .before .record-verdict .ensures .verdict in
+    let at-record-verdict = c .before .before .before .before .before .before in
+    let at-loop-test = at-record-verdict .before .before .before in
+    let at-loop = at-loop-test .before in
+    let v = at-record-verdict .record-verdict .ensures .verdict in
     let told = ap verdictOf (c .enum-told2 .given .1) in
-    refuses _ _ _ _ _ _ told (sym (c .before .before .before .before .before .before .before .before .before .before .loop .inv .2) ∙ stops _ _ _ _ _ (c .before .before .before .before .before .before .before .before .before .loop-test .taken) (sym v ∙ told))
+    refuses _ _ _ _ _ _ told (sym (at-loop .loop .inv .2) ∙ stops _ _ _ _ _ (at-loop-test .loop-test .taken) (sym v ∙ told))
 
 add-n : tie.Need-add-n Inv-loop μ-loop
 add-n c = search needs

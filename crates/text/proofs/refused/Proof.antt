@@ -50,10 +50,15 @@ same-length c = search needs
 returns : tie.Need-returns
 unfolding ascii refusedLine
 returns c =
-    behind (omega arith) (c .before .before .before .before .before .before .before .before .before .before .before .before .before .before .before .before .before .before .before .before .before .put .ensures)
-    (behind (omega arith) (c .before .before .before .before .before .before .before .before .before .before .before .before .before .before .before .before .number .ensures .0)
-    (behind (omega arith) (c .before .before .before .before .before .before .before .before .before .before .before .put2 .ensures)
-    (behind (omega arith) (c .before .before .before .before .before .before .before .number2 .ensures .0) (c .before .before .put3 .ensures))))
+    let at-put3 = c .before .before in
+    let at-number2 = at-put3 .before .before .before .before .before in
+    let at-put2 = at-number2 .before .before .before .before in
+    let at-number = at-put2 .before .before .before .before .before in
+    let at-put = at-number .before .before .before .before .before in
+    behind (omega arith) (at-put .put .ensures)
+    (behind (omega arith) (at-number .number .ensures .0)
+    (behind (omega arith) (at-put2 .put2 .ensures)
+    (behind (omega arith) (at-number2 .number2 .ensures .0) (at-put3 .put3 .ensures))))
 
 pub refused-spec : {M : Type 1} → statement M
 refused-spec =

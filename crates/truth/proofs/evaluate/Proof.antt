@@ -73,7 +73,11 @@ slice-aggregate-lit-truth : tie.Need-slice-aggregate-lit-truth
 slice-aggregate-lit-truth c = search needs
 
 lit-truth-requires : tie.Need-lit-truth-requires
-lit-truth-requires c κs = omega (arith, c .before .before .node-truths .kept, few (c .before .before .before .before .before .before .before .before), c .before .before .before .before .before .before .before .if1 .left)
+lit-truth-requires c κs =
+    let at-node-truths = c .before .before in
+    let at-if1 = at-node-truths .before .before .before .before .before in
+    let at-rest = at-if1 .before in
+    omega (arith, at-node-truths .node-truths .kept, few (at-rest), at-if1 .if1 .left)
 
 returns-2 : tie.Need-returns-2
 returns-2 c = table-refused _ _ _ _ _ (sym (c .before .before .before .count .ensures) ∙ ap countedOf (c .before .c .given .1))

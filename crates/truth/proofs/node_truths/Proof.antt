@@ -53,7 +53,8 @@ fields-requires : tie.Need-fields-requires Inv-loop μ-loop
 fields-requires c κs = search needs
 
 -- the node that was read is node n, and its operands are of earlier nodes
-read : (c : tie.After-fields Inv-loop μ-loop) → c .fields .result ≡ nodeAt (c .before .before .before .before .before .before .before .before .args .t .now) (c .before .before .before .before .loop .n)
+read : (c : tie.After-fields Inv-loop μ-loop) → let at-loop = c .before .before .before .before in let start = at-loop .before .before .before .before in
+    c .fields .result ≡ nodeAt (start .args .t .now) (at-loop .loop .n)
 read c = c .fields .ensures ∙ ap nodeOf (part-record tables _ _ _ (c .before .before .place .ensures))
 
 low : (c : tie.After-fields Inv-loop μ-loop) → Low (c .fields .result) (c .before .before .before .before .loop .n)

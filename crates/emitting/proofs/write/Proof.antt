@@ -1,0 +1,35 @@
+-- `emitting::write` meets its contract: all steps are pushed, from an empty block on, and the last block is written. Assumes nothing.
+use Prim.Native.Nat.{ℕ}
+use lib.ListN.{replicate, length-replicate}
+use Rattle.gather.proofs.Pushes.{written}
+use Rattle.emitting.proofs.Runs.{start-due}
+use borrow.Author.Needs.{needs}
+use Rattle.emitting.proofs.write.Statement.{statement}
+use Rattle.emitting.proofs.write.Tie as tie
+
+emit-requires : tie.Need-emit-requires
+emit-requires c κs =
+    let at-place = c .before .before .before .before .before .before .before .before .before in
+    let s = at-place in
+    (s .pre .0, (s .pre .1 .0, (s .pre .1 .1 .0, start-due (replicate 512 0) (length-replicate {A = ℕ} 512 0) (s .pre .1 .1 .1))))
+
+close-requires : tie.Need-close-requires
+close-requires c κs = search needs
+
+same-length : tie.Need-same-length
+same-length c = search needs
+
+same-length-2 : tie.Need-same-length-2
+same-length-2 c = search needs
+
+same-length-3 : tie.Need-same-length-3
+same-length-3 c = search needs
+
+returns : tie.Need-returns
+returns c =
+    let at-close = c .before .before in
+    let at-emit = at-close .before .before .before .before .before .before .before .before .before in
+    written (at-emit .emit .ensures .pushed) (at-close .close .ensures)
+
+pub write-spec : {M : Type 1} → statement M
+write-spec = tie.close (tie.spec emit-requires close-requires same-length same-length-2 same-length-3 returns)

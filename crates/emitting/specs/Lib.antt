@@ -1,0 +1,2 @@
+-- What the functions of the writing pass leave. Assumes nothing.
+pub mod Trace

@@ -1,0 +1,71 @@
+-- What the functions of the writing pass leave: the literals held, and the steps that were pushed. Assumes nothing.
+use mathlib.Core.Path.{_≡_}
+use mathlib.Core.Logic.{_⊎_}
+use mathlib.Core.Bool.{cond}
+use mathlib.Core.List.{List, [], _∷_, _++_}
+use Prim.Native.Nat.{ℕ, _*_, _/_, _≤_}
+use lib.ListN.{length, drop}
+use Rattle.scope.specs.declared.Node.{Node}
+use Rattle.calculus.specs.Expansion.{neg, expand}
+use Rattle.calculus.specs.Order.{valueOf, move, impossible}
+use Rattle.calculus.specs.declared.Move.the-variants.{Conflict, Unit as Single, Split}
+use Rattle.rules.specs.declared.Step.{Step}
+use Rattle.rules.specs.Steps.{R, encodeSteps}
+use Rattle.rules.specs.Rules.{isFails}
+use Rattle.state.specs.Work.{gOf}
+use Rattle.state.specs.Holds.{Holds}
+use Rattle.gather.specs.declared.Writer.{Writer}
+use Rattle.gather.specs.Kept.{gathered, Space, Pushed}
+use Rattle.searching.specs.Search.{result, Extends}
+use Rattle.counting.specs.Count.{stepsFrom}
+use Rattle.emitting.specs.declared.At.{At}
+use Rattle.emitting.specs.declared.Turn.{Turn}
+use Rattle.emitting.specs.declared.Turn.the-variants.{Closed, Fork}
+
+-- 'an R for each false literal of the clause': of its literal l, at position p of clause k
+abbrev pub removal : List ℕ → ℕ → ℕ → ℕ → List Step
+removal G k p l = cond (isFails (valueOf G l)) (R p k ∷ []) []
+
+-- the next move is a conflict or a unit on clause k
+abbrev pub OnClause : (ℕ → Node) → List ℕ → List ℕ → ℕ → Type 0
+OnClause t goals G k = (move (expand t) goals G ≡ Conflict k) ⊎ ((l : ℕ) × (move (expand t) goals G ≡ Single k l))
+
+-- the writer of a block that was lent
+abbrev pub lent : List ℕ → At → Writer
+lent block at = gathered block (at .count) (at .blocks)
+
+-- the search from G closes, and its steps fit
+pub record Due (t : ℕ → Node) (n : ℕ) (goals G out : List ℕ) (g : Writer) : Type 0 where
+  pub closes : result t n goals G ≡ impossible
+  pub space : Space (length (stepsFrom t n goals G)) out g
+
+-- the steps that are left where a phase ends
+abbrev pub left : (ℕ → Node) → ℕ → List ℕ → List ℕ → Turn → List Step
+left t n goals G Closed = []
+left t n goals G (Fork l) = stepsFrom t n goals (l ∷ G) ++ stepsFrom t n goals (neg l ∷ G)
+
+-- a phase is done: the units have joined, up to a conflict or a split, and the steps so far were pushed
+pub record Stepped (t : ℕ → Node) (n : ℕ) (goals w w′ m′ out out′ : List ℕ) (g g′ : Writer) (turn : Turn) : Type 0 where
+  pub holds : Holds t n goals w′ m′
+  pub grows : Extends (gOf w) (gOf w′)
+  pub steps : List Step
+  pub pushed : Pushed steps out g out′ g′
+  pub whole : steps ++ left t n goals (gOf w′) turn ≡ stepsFrom t n goals (gOf w)
+  pub closes : result t n goals (gOf w′) ≡ impossible
+  pub forks : (l : ℕ) → turn ≡ Fork l → move (expand t) goals (gOf w′) ≡ Split l
+
+-- a search is done: its steps were pushed, and the literals of the start are still held
+pub record Emitted (t : ℕ → Node) (n : ℕ) (goals w w′ m′ out out′ : List ℕ) (g g′ : Writer) : Type 0 where
+  pub holds : Holds t n goals w′ m′
+  pub grows : Extends (gOf w) (gOf w′)
+  pub pushed : Pushed (stepsFrom t n goals (gOf w)) out g out′ g′
+
+-- the search from G closes, and its steps fit a buffer from its start
+pub record Fits (t : ℕ → Node) (n : ℕ) (goals G d : List ℕ) : Type 0 where
+  pub closes : result t n goals G ≡ impossible
+  pub lent : length (stepsFrom t n goals G) ≤ 126 * (length d / 512)
+  pub most : length (stepsFrom t n goals G) ≤ 126 * 65536
+
+-- the derivation's bytes in a buffer: 'Bytes past its last block stay'
+abbrev pub written : List Step → List ℕ → List ℕ
+written ss d = encodeSteps ss ++ drop (length (encodeSteps ss)) d

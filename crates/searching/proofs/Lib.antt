@@ -1,0 +1,2 @@
+-- Laws for the proofs of the search's functions. Assumes nothing.
+pub mod Searches

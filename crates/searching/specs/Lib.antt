@@ -1,0 +1,2 @@
+-- What the search's functions leave. Assumes nothing.
+pub mod Search
