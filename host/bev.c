@@ -96,7 +96,10 @@ static int print_help(const struct command *c)
 static int wrong_use(const struct command *c, const char *name, const char *cause)
 {
     complain(name, cause);
-    fprintf(stderr, c ? "usage: bev %s %s\n" : "try: bev --help\n", c ? c->name : "", c ? c->arguments : "");
+    if (c)
+        fprintf(stderr, "usage: bev %s %s\n", c->name, c->arguments);
+    else
+        fputs("try: bev --help\n", stderr);
     return FAILED;
 }
 
