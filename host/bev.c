@@ -139,7 +139,7 @@ static const char *part_arguments(const struct command *c, char **argument, stru
 
 static int run_command(const struct command *c, char **arguments)
 {
-    struct words w = { .command = c->name };
+    struct words w = { .count = 0 };
     const char *at = c->name;
     for (char **a = arguments; *a; a++)
         if (strcmp(*a, "--help") == 0)

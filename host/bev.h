@@ -12,7 +12,6 @@ enum { DONE = 0, REFUSED = 1, FAILED = 2, POSSIBLE = 10, IMPOSSIBLE = 20 };
 
 /* A command's arguments: its words, and its options. */
 struct words {
-    const char *command;
     char **word;
     int count;
     const char *out; /* -o FILE, --out FILE, or NULL */

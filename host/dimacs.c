@@ -54,26 +54,35 @@ static void print_mended(const struct mended *m)
             printf("c mended: %zu %s\n", sorts[i].count, sorts[i].count == 1 ? sorts[i].one : sorts[i].many);
 }
 
-/* Prints the answer for a table that was built, which goes to a file where one is named. */
+static void print_answer(const struct nodes *nodes, size_t goal, const char *table, bool possible, const uint8_t settings[BEV_POINTS])
+{
+    size_t variables = count_variables(nodes);
+    printf("c %zu variables, %zu nodes\nc goal %zu\n", variables, nodes->count, goal);
+    if (table)
+        printf("c table %s\n", table);
+    puts(possible ? "s SATISFIABLE" : "s UNSATISFIABLE");
+    if (possible)
+        print_values(settings, variables);
+}
+
+/* Decides the goal of a table that was built, and writes the table where a file is named. */
 static int tell(const struct bytes *file, const struct bytes *table, size_t goal, const struct words *w)
 {
     uint8_t settings[BEV_POINTS];
     struct output o;
     int status = FAILED;
     struct nodes *nodes = read_nodes(table, &(struct names){ .table = table->name }, &status);
-    bool ready = nodes && (!w->out || prepare(w->out, (const struct bytes *[]){ file, NULL }, table->at, table->len, &o));
+    if (!nodes)
+        return status;
+    bool possible = decide(table, goal, settings).possible;
+    bool ready = !w->out || prepare(w->out, (const struct bytes *[]){ file, NULL }, table->at, table->len, &o);
     if (ready) {
-        bool possible = decide(table, goal, settings).possible;
-        printf("c %zu variables, %zu nodes\nc goal %zu\n", count_variables(nodes), nodes->count, goal);
-        if (w->out)
-            printf("c table %s\n", w->out);
-        puts(possible ? "s SATISFIABLE" : "s UNSATISFIABLE");
-        if (possible)
-            print_values(settings, count_variables(nodes));
+        print_answer(nodes, goal, w->out, possible, settings);
         status = possible ? POSSIBLE : IMPOSSIBLE;
+        status = w->out ? commit(&o, status) : status;
     }
     free(nodes);
-    return !ready ? FAILED : w->out ? commit(&o, status) : status;
+    return status;
 }
 
 /* Reads a text, which is that of the file or was mended. */

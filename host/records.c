@@ -1,6 +1,5 @@
 /* Tables and their records, read by the library and written as text: TRUE, ATOM 5, AND(0,2). */
 #include "bev.h"
-#include <errno.h>
 #include <stdlib.h>
 #include <string.h>
 
@@ -63,7 +62,7 @@ bool parse_number(const char *text, size_t *number)
     return end && *end == '\0';
 }
 
-/* The kind whose name a text starts with, where a character of `ends` or the end follows; 0 for none. */
+/* The kind that the capitals at the start of a text name, and how many these are; 0 for none. */
 static uint8_t parse_kind(const char *text, size_t *len)
 {
     *len = strspn(text, "ABCDEFGHIJKLMNOPQRSTUVWXYZ");

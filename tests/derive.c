@@ -18,6 +18,27 @@ static void fill(uint8_t *p, size_t n)
 
 static int told(bev_checked v, o_told right) { return v.number == right.number && v.place == right.place; }
 
+/* What the reader says at an index, against the plain reading of the length, one block and the step. */
+static void step_is(const uint8_t *d, size_t size, size_t k)
+{
+    bev_stepped v = bev_step(d, size, k);
+    if (o_size_bad(size)) {
+        EXPECT(v.number == 40 && v.place == 0 && v.left == 0);
+        return;
+    }
+    size_t last = size / 512 - 1, j = k / 126 < last ? k / 126 : last;
+    unsigned number = o_block_bad(d + 512 * j, j, j == last);
+    if (number) {
+        EXPECT(v.number == number && v.place == j && v.left == 0 && v.rule == 0 && v.position == 0 && v.value == 0);
+    } else if (k / 126 > last || k % 126 >= d[512 * j + 1]) {
+        EXPECT(v.number == 0 && v.place == 0 && v.left == 0 && v.rule == 0 && v.position == 0 && v.value == 0);
+    } else {
+        const uint8_t *s = o_step_at(d, k);
+        EXPECT(o_step_bad(s) ? v.number == 44 && v.place == k && v.left == 0 && v.rule == 0
+                             : v.number == 0 && v.place == 0 && v.left == 1 && v.rule == s[0] && v.position == s[1] && v.value == o_word(s + 2));
+    }
+}
+
 /* What open and the reader say of bytes, and check, against the plain reading. */
 static void bytes_are(const uint8_t *t, size_t len, size_t goal, const uint8_t *d, size_t size)
 {
@@ -25,6 +46,9 @@ static void bytes_are(const uint8_t *t, size_t len, size_t goal, const uint8_t *
     o_told form = o_form(d, size, &steps);
     bev_opened v = bev_open(d, size);
     EXPECT(v.number == form.number && v.place == form.place && v.steps == (form.number ? 0 : steps));
+    for (size_t k = 0; k < 126 * (size / 512) + 2; k += 1 + pick(40))
+        step_is(d, size, k);
+    step_is(d, size, SIZE_MAX);
     EXPECT(told(bev_check(t, len, goal, work, BEV_WORK, d, size), o_checked(t, o_table(t, len).nodes, (int)goal, d, size)) && whole());
 }
 
@@ -43,9 +67,10 @@ static void derived(const uint8_t *t, size_t len, size_t goal, const o_steps *ri
     EXPECT(bev_check(t, len, goal, work, BEV_WORK, lent, size).number == 0);
     for (size_t k = 0; k < right->count; k++) {
         bev_stepped s = bev_step(lent, size, k);
-        EXPECT(s.left == 1 && s.rule == right->step[k][0] && s.position == right->step[k][1] && s.value == o_word(right->step[k] + 2));
+        EXPECT(s.number == 0 && s.left == 1 && s.rule == right->step[k][0] && s.position == right->step[k][1] && s.value == o_word(right->step[k] + 2));
     }
-    EXPECT(bev_step(lent, size, right->count).left == 0 && bev_step(lent, size, SIZE_MAX).left == 0);
+    bev_stepped past = bev_step(lent, size, right->count), far = bev_step(lent, size, SIZE_MAX);
+    EXPECT(past.number == 0 && past.left == 0 && far.number == 0 && far.left == 0);
     fill(lent, room);
     v = bev_derive(t, len, goal, work, BEV_WORK, lent, size - 1);
     fill(expected, size);
@@ -222,7 +247,7 @@ static void refusals(void)
             break;
         }
     EXPECT(bev_check(t, len, 1, work, BEV_WORK, NULL, 0).number == 40 && bev_open(NULL, 0).number == 40 && bev_open(d, 511).number == 40);
-    EXPECT(bev_step(NULL, 0, 0).left == 0);
+    EXPECT(bev_step(NULL, 0, 0).number == 40 && bev_step(d, 511, 0).number == 40 && bev_step(d, 512, 0).number == 41);
     EXPECT(bev_derive(t, len, 1, work, BEV_WORK, d, 1024).steps == 2 && bev_check(t, len, 1, work, BEV_WORK, d, 512).number == 0);
     EXPECT(told(bev_check(t, len, 1, work, BEV_WORK, d, 1024), o_no(42, 0)));
     EXPECT(told(bev_check(t, len, 3, work, BEV_WORK, d, 512), o_no(45, 1)));

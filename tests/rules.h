@@ -34,29 +34,41 @@ static inline size_t o_steps_build(uint8_t *d, const uint8_t (*steps)[4], size_t
     return 512 * blocks;
 }
 
+/* Row 40, rows 41 to 43 of block j, and row 44 of step k: 0 where it passes. */
+static inline int o_size_bad(size_t len) { return len == 0 || len % 512 || len > 33554432; }
+
+static inline unsigned o_block_bad(const uint8_t *b, size_t j, int last)
+{
+    if (o_check(b) != o_word(b + 510))
+        return 41;
+    if (b[0] != 68 || o_word(b + 2) != j || b[1] == 0 || b[1] > 126 || (!last && b[1] != 126))
+        return 42;
+    for (int i = 4 + 4 * b[1]; i < 510; i++)
+        if (b[i])
+            return 43;
+    return 0;
+}
+
+static inline int o_step_bad(const uint8_t *s)
+{
+    return !(s[0] == 82 && s[1] <= 1) && !(s[1] == 0 && (s[0] == 85 || s[0] == 69 || s[0] == 67 || s[0] == 83));
+}
+
 /* Rows 40 to 44, and the step count. */
 static inline o_told o_form(const uint8_t *d, size_t len, size_t *steps)
 {
     *steps = 0;
-    if (len == 0 || len % 512 || len > 33554432)
+    if (o_size_bad(len))
         return o_no(40, 0);
     for (size_t j = 0; j < len / 512; j++) {
-        const uint8_t *b = d + 512 * j;
-        int last = j + 1 == len / 512;
-        if (o_check(b) != o_word(b + 510))
-            return o_no(41, j);
-        if (b[0] != 68 || o_word(b + 2) != j || b[1] == 0 || b[1] > 126 || (!last && b[1] != 126))
-            return o_no(42, j);
-        for (int i = 4 + 4 * b[1]; i < 510; i++)
-            if (b[i])
-                return o_no(43, j);
-        *steps += b[1];
+        unsigned number = o_block_bad(d + 512 * j, j, j + 1 == len / 512);
+        if (number)
+            return o_no(number, j);
+        *steps += d[512 * j + 1];
     }
-    for (size_t k = 0; k < *steps; k++) {
-        const uint8_t *s = o_step_at(d, k);
-        if (!(s[0] == 82 && s[1] <= 1) && !(s[1] == 0 && (s[0] == 85 || s[0] == 69 || s[0] == 67 || s[0] == 83)))
+    for (size_t k = 0; k < *steps; k++)
+        if (o_step_bad(o_step_at(d, k)))
             return o_no(44, k);
-    }
     return o_no(0, 0);
 }
 

@@ -1,6 +1,5 @@
 """Tables, their truths by brute force, and the solver's order and derivations, an independent reading of the scope paper in plain Python:
 for the tests of the command and the programs. It shares nothing with the library."""
-import random
 import sys
 
 sys.setrecursionlimit(10000)

@@ -12,3 +12,4 @@ pub mod Truth
 pub mod Sound
 pub mod Complete
 pub mod Setting
+pub mod Asked

@@ -33,7 +33,7 @@ abbrev pub blockOf : List ℕ → ℕ → ℕ
 blockOf d at = min (at / 126) (length d / 512 - 1)
 
 -- The step at an index of any bytes, and what is looked at: the length (40), one block (41 to 43), and in it the count and the step (44).
--- No byte of another block matters: the count of the last one decides only where that is the block
+-- No byte of another block matters (`one-block`): the count of the last one decides only where that is the block
 unfoldable pub stepHanded : List ℕ → ℕ → Outcome Next
 stepHanded d at = require (sizeOk (length d)) 40 0 >> (blockRow d (blockOf d at) >> countedStep d at)
 

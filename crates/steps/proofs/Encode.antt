@@ -5,7 +5,6 @@ use mathlib.Core.List.{List}
 use mathlib.Core.Bool.{true, not}
 use Prim.Native.Nat.{ℕ, _+_, _*_, _/_, _%_, _<_, _≤_}
 use native.Mathlib.Omega.{arith}
-use lib.Dec.{lit<}
 use lib.ListN.{length, getD, drop, length-take, length-drop}
 use borrow.Author.Tests.{eq-eqb, ne-eqb, le-leb}
 use Rattle.scope.specs.Outcome.{answer, fine, first}
@@ -16,10 +15,10 @@ use Rattle.scope.proofs.Lists.{listFrom-same}
 use Rattle.scope.proofs.Tests.{and-both, met}
 use Rattle.codec.specs.Valid.{Bytes}
 use Rattle.codec.proofs.Bytes.{listed-all, bytes-take, bytes-drop}
-use Rattle.codec.proofs.Files.{file-is, length-fileOf, file-blocks, file-passes, file-records, file-record, file-bytes}
+use Rattle.codec.proofs.Files.{file-is, length-fileOf, file-blocks, file-passes, file-records, file-record}
 use Rattle.rules.specs.declared.Step.{Step}
 use Rattle.rules.specs.Steps.{derivations, stepBytes, stepOf, stepAt, stepOk, sizeOk, formTest, decodeSteps, encodeSteps}
-use Rattle.rules.proofs.Steps.{Formed, length-step, step-of-bytes, bytes-of-step, step-bytes}
+use Rattle.rules.proofs.Steps.{length-step, step-of-bytes, bytes-of-step}
 use Rattle.steps.specs.Opened.{placeOf, blockRow, stepRow}
 use Rattle.steps.proofs.Form.{fits, size-met, blocks-met, block-fine, step-within, steps-read, read-fine, read-steps}
 
@@ -42,10 +41,10 @@ module _ (ss : List Step) (z : Step) (some : 0 < length ss) (few : length ss ≤
       all-fine (blockRow (encodeSteps ss)) (length (encodeSteps ss) / 512) 0
       (λ j a b. rw m (file-passes derivations fits stepBytes length-step ss j (omega arith)))
 
-  pub encode-step : (k : ℕ) → k < length ss → stepAt (encodeSteps ss) k ≡ getD ss k z
+  encode-step : (k : ℕ) → k < length ss → stepAt (encodeSteps ss) k ≡ getD ss k z
   encode-step k h = ap stepOf (file-record derivations fits stepBytes length-step ss k z h) ∙ step-of-bytes (getD ss k z)
 
-  pub encode-count : recordsIn derivations (encodeSteps ss) ≡ length ss
+  encode-count : recordsIn derivations (encodeSteps ss) ≡ length ss
   encode-count = file-records derivations fits stepBytes length-step ss some
 
   -- formed steps
@@ -55,7 +54,7 @@ module _ (ss : List Step) (z : Step) (some : 0 < length ss) (few : length ss ≤
         all-fine (stepRow (encodeSteps ss)) (length ss) 0
         (λ k a b. met (stepOk (stepAt (encodeSteps ss) k)) 44 k (ap stepOk (encode-step k (omega arith)) ∙ formed k (omega arith)))
 
-    pub encode-fine : formTest (encodeSteps ss) ≡ fine
+    encode-fine : formTest (encodeSteps ss) ≡ fine
     unfolding formTest
     encode-fine = rw (size-fine, blocks-fine, encode-count) forms-fine
 
@@ -65,11 +64,6 @@ module _ (ss : List Step) (z : Step) (some : 0 < length ss) (few : length ss ≤
         steps-read (encodeSteps ss) encode-fine
         ∙ ap (λ (n : ℕ). answer (listFrom (stepAt (encodeSteps ss)) 0 n)) encode-count
         ∙ ap answer (listFrom-same (stepAt (encodeSteps ss)) (λ k. getD ss k z) (length ss) 0 (λ k a b. encode-step k (omega arith)) ∙ sym (listed-all z ss))
-
-  -- and is bytes
-  pub encode-steps-bytes : ((k : ℕ) → k < length ss → Formed (getD ss k z)) → Bytes (encodeSteps ss)
-  encode-steps-bytes formed =
-      file-bytes derivations fits stepBytes length-step (lit< tt) (lit< tt) z ss (omega arith) (λ k h. step-bytes (getD ss k z) (formed k h))
 
 -- a derivation that reads
 module _ (d : List ℕ) (ss : List Step) (all : Bytes d) (e : decodeSteps d ≡ answer ss) where

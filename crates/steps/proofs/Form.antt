@@ -16,7 +16,7 @@ use Rattle.scope.proofs.Lists.{length-listFrom, getD-listFrom}
 use Rattle.scope.proofs.Tests.{required, then-first, then-next}
 use Rattle.codec.specs.Valid.{Fits}
 use Rattle.codec.proofs.Rows.{row}
-use Rattle.codec.proofs.Blocks.{Passed, passed}
+use Rattle.codec.proofs.Blocks.{passed}
 use Rattle.codec.proofs.Files.{whole-length}
 use Rattle.rules.specs.declared.Step.{Step}
 use Rattle.rules.specs.Steps.{derivations, stepAt, stepOk, sizeOk, formTest, decodeSteps}
@@ -30,18 +30,12 @@ pub whole-blocks : (n : ℕ) → sizeOk n ≡ true → (0 < n / 512) × (n ≡ 5
 unfolding sizeOk
 whole-blocks = whole-length 65536
 
--- a last block that passes rows 41 to 43: there are steps, and no more than the blocks can hold
+-- a last block that passes rows 41 to 43: there are no more steps than the blocks can hold
 module _ (d : List ℕ) (some : 0 < length d / 512) (last : blockRow d (length d / 512 - 1) ≡ fine) where
-  last-passed : Passed derivations (blockAt d (length d / 512 - 1)) (length d / 512 - 1) (eqb (suc (length d / 512 - 1)) (length d / 512))
-  last-passed = passed derivations _ _ _ last
-
-  pub steps-some : 0 < recordsIn derivations d
-  unfolding recordsIn
-  steps-some = omega (arith, last-passed .some)
-
   pub steps-most : recordsIn derivations d ≤ 126 * (length d / 512)
   unfolding recordsIn
-  steps-most = omega (arith, last-passed .most)
+  steps-most =
+      omega (arith, passed derivations (blockAt d (length d / 512 - 1)) _ (eqb (suc (length d / 512 - 1)) (length d / 512)) last .most)
 
 -- all blocks pass
 module _ (d : List ℕ) (some : 0 < length d / 512) (blocks : first (blockRow d) 0 (length d / 512) ≡ fine) where
@@ -71,10 +65,7 @@ module _ (d : List ℕ) (test : formTest d ≡ fine) where
   unfolding formTest
   forms-met = then-next (first (blockRow d) 0 (length d / 512)) _ (row (sizeOk (length d)) 40 0 _ test .1)
 
-  -- 1 to 8,257,536 steps
-  pub some-steps : 0 < recordsIn derivations d
-  some-steps = steps-some d (size-met .0) (last-fine d (size-met .0) blocks-met)
-
+  -- at most 8,257,536 steps
   pub few-steps : recordsIn derivations d ≤ 8257536
   few-steps = omega (arith, steps-fit d (size-met .0) blocks-met, size-met .2)
 

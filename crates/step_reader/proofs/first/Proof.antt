@@ -15,10 +15,9 @@ use prog.Wp.{Heap, Calls, Loops, WpFn}
 use ghost.Atoms.{Atoms, sem}
 use contract.Monad.{Fun, fact}
 use contract.Running.{givenOf}
-use types.Kit.{Given, ‵, raw, _⊛_, ⋆, some, later, _$_, _∵_, !, qed, by, move, use1, use2, split, join, pick, fsplit, fjoin, suffices, frame, await, done}
+use types.Kit.{Given, ‵, raw, _⊛_, ⋆, some, later, _$_, _∵_, !, qed, by, move, use1, use2, split, join, pick, fjoin, suffices, frame, await, done}
 use types.Run.{look, init, forget, stop, from, load, and-then, no-more, land, returns, enter, alloc1, alloc0, params1, pass1, pass0, free1, free0}
 use sound.WpLaws.{FmC}
-use denote.RattleType.{owns}
 use denote.Laws.{Is, shows}
 use denote.Builtin.{u8}
 use denote.Ref.{RefT, NamedLft, now}
@@ -37,7 +36,7 @@ use Rattle.rules.specs.Steps.{formTest}
 use Rattle.step_reader.specs.Handed.{handedOf, nextOf}
 use Rattle.step_reader.specs.declared.Reader.{Reader}
 use Rattle.step_reader.specs.declared.Handed.{Handed}
-use Rattle.step_reader.proofs.Held.{srcVal, B, hands, bytes, token, Entry, Exit, ends, frames, walk-enters}
+use Rattle.step_reader.proofs.Held.{srcVal, B, hands, bytes, token, Entry, Exit, lends, ends, frames, walk-enters}
 use Rattle.step_reader.proofs.Reader as T
 use Rattle.step_reader.proofs.Reader.Laws as T′
 use Rattle.step_reader.proofs.Handed as S
@@ -82,12 +81,8 @@ module _ {M : Type 1} (𝓤 : URA M) (H : Heap 𝓤) (A : Atoms 𝓤) (W : Given
   abbrev to-opened : Opened 𝓤 H A mem run .Ghost
   to-opened = (((κ, tt), (q, tt), tt, (s, tt), (srcVal s ∷ [], tt)), tt)
 
-  goes-opened : ent 𝓤 entry (sep 𝓤 (Opened 𝓤 H A mem run .pre to-opened) (sem 𝓤 H A Own))
-  goes-opened =
-      qed W (token 𝓤 κ q ∷ ‵ (owns (ShrSlice (named 0) κ u8 ∷ []) (s, tt) (srcVal s ∷ [], tt)) ∷ []) ∵
-      move ! (1 ∷ []) $ fsplit ! $ use1 W (‵ Own ⊛ ‵ Own) (shr-slice-copy 𝓤 H A W (named 0) κ u8 .twice s (srcVal s ∷ [])) $ split ! $
-      move ! (0 ∷ 2 ∷ []) $ fjoin ! $ move ! (2 ∷ 0 ∷ []) $ use2 W (raw (Opened 𝓤 H A mem run .pre to-opened))
-      (qed W (token 𝓤 κ q ∷ ‵ (owns (ShrSlice (named 0) κ u8 ∷ []) (s, tt) (srcVal s ∷ [], tt)) ∷ []) ∵ join ! $ frame ! $ done !) $ frame ! $ done !
+  lent : ent 𝓤 entry (sep 𝓤 (Opened 𝓤 H A mem run .pre to-opened) (sem 𝓤 H A Own))
+  lent = lends bytes hands 𝓤 H A W (first.clauses 𝓤 H A mem run) κ q s (srcVal s) (shr-slice-copy 𝓤 H A W (named 0) κ u8)
 
   abbrev Opens : Reader → Type 0
   Opens r = (r .src ≡ s) × (r .at ≡ 0) × (verdictOf (r .form) ≡ formTest (now s))
@@ -130,7 +125,7 @@ module _ {M : Type 1} (𝓤 : URA M) (H : Heap 𝓤) (A : Atoms 𝓤) (W : Given
         qed W (raw entry ∷ []) ∵ enter ! C Λ code.function (srcVal s ∷ []) _ $
         alloc1 ! (λ l₀. alloc1 ! (λ l₁. alloc1 ! (λ l₂. alloc0 ! $ params1 ! $
         pass1 ! (init ! 2 refl (shr-slice-lawful 𝓤 H A W (named 0) κ u8 .typed s (srcVal s ∷ []) p .0)) $ pass0 ! $
-        move ! (6 ∷ []) $ use1 W (raw (Opened 𝓤 H A mem run .pre to-opened) ⊛ ‵ Own) goes-opened $ split ! $
+        move ! (6 ∷ []) $ use1 W (raw (Opened 𝓤 H A mem run .pre to-opened) ⊛ ‵ Own) lent $ split ! $
         calls-at ! fm (Opened 𝓤 H A mem run) known-opened to-opened (and-then ! (load ! (from ! (stop !)) (look ! 4 refl)) (no-more !)) (λ u.
         use1 W (later (some (λ (r : Reader). (token 𝓤 κ q ⊛ ‵ (B (κ, tt) .own r (u ∷ [])))
         ⊛ raw (ensured 𝓤 H A opened.ended (opened.clauses 𝓤 H A mem run) (κ, tt) (s, tt) tt r)))) (id⊢ 𝓤 _) $ await ! tt $ pick ! (λ r.

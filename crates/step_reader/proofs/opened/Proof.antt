@@ -16,12 +16,11 @@ use prog.Wp.{Heap, Calls, Loops, WpFn}
 use ghost.Atoms.{Atoms, sem}
 use contract.Monad.{Fun, fact}
 use contract.Running.{givenOf}
-use types.Kit.{Given, ‵, raw, _⊛_, ⋆, some, later, _$_, _∵_, !, qed, by, move, use1, use2, split, join, pick, fsplit, fjoin, suffices, frame, await, done}
+use types.Kit.{Given, ‵, raw, _⊛_, ⋆, some, later, _$_, _∵_, !, qed, by, move, use1, split, pick, fjoin, suffices, frame, await}
 use types.Part.{agg}
 use types.Run.{look, init, forget, stop, lit, from, load, and-then, no-more, assigns, land, returns, enter, alloc1, alloc0, params1, pass1, pass0, free1, free0}
 use sound.WpLaws.{FmC}
-use denote.RattleType.{owns}
-use denote.Laws.{Is, shows}
+use denote.Laws.{Is, Copy, shows}
 use denote.Plain.{uint-makes}
 use denote.Builtin.{u8, usize}
 use denote.Ref.{RefT, now}
@@ -41,7 +40,7 @@ use Rattle.scope.specs.Outcome.{verdictOf}
 use Rattle.scope.specs.declared.Verdict.{Verdict}
 use Rattle.rules.specs.Steps.{formTest}
 use Rattle.step_reader.specs.declared.Reader.{Reader}
-use Rattle.step_reader.proofs.Held.{srcVal, formVal, is-form, B, D, L, machine, values, Typed, typed, bytes, token, Entry, Exit, ends, frames, walk-enters}
+use Rattle.step_reader.proofs.Held.{srcVal, formVal, is-form, B, D, L, machine, values, Typed, typed, bytes, token, Entry, Exit, lends, ends, frames, walk-enters}
 use Rattle.scope.proofs.Verdict as F
 use Rattle.scope.proofs.Verdict.Laws as F′
 use Rattle.steps.proofs.form_verdict as form
@@ -69,19 +68,15 @@ module _ {M : Type 1} (𝓤 : URA M) (H : Heap 𝓤) (A : Atoms 𝓤) (W : Given
   abbrev Own : Fml
   Own = ShrSlice (named 0) κ u8 .own s (srcVal s ∷ [])
 
-  twice : ent 𝓤 (sem 𝓤 H A Own) (sep 𝓤 (sem 𝓤 H A Own) (sem 𝓤 H A Own))
-  twice = shr-slice-copy 𝓤 H A W (named 0) κ u8 .twice s (srcVal s ∷ [])
+  copy : Copy 𝓤 H A (ShrSlice (named 0) κ u8)
+  copy = shr-slice-copy 𝓤 H A W (named 0) κ u8
 
   -- the call of `form_verdict`: what it is passed, what it asks, and what is known of its result
   abbrev to : FormVerdict 𝓤 H A mem run .Ghost
   to = (((κ, tt), (q, tt), tt, (s, tt), (srcVal s ∷ [], tt)), tt)
 
-  goes : ent 𝓤 entry (sep 𝓤 (FormVerdict 𝓤 H A mem run .pre to) (sem 𝓤 H A Own))
-  goes =
-      qed W (token 𝓤 κ q ∷ ‵ (owns (ShrSlice (named 0) κ u8 ∷ []) (s, tt) (srcVal s ∷ [], tt)) ∷ []) ∵
-      move ! (1 ∷ []) $ fsplit ! $ use1 W (‵ Own ⊛ ‵ Own) twice $ split ! $ move ! (0 ∷ 2 ∷ []) $ fjoin ! $ move ! (2 ∷ 0 ∷ []) $
-      use2 W (raw (FormVerdict 𝓤 H A mem run .pre to))
-      (qed W (token 𝓤 κ q ∷ ‵ (owns (ShrSlice (named 0) κ u8 ∷ []) (s, tt) (srcVal s ∷ [], tt)) ∷ []) ∵ join ! $ frame ! $ done !) $ frame ! $ done !
+  lent : ent 𝓤 entry (sep 𝓤 (FormVerdict 𝓤 H A mem run .pre to) (sem 𝓤 H A Own))
+  lent = lends bytes (plain B) 𝓤 H A W (opened.clauses 𝓤 H A mem run) κ q s (srcVal s) copy
 
   abbrev Says : Verdict → Type 0
   Says f = verdictOf f ≡ formTest (now s)
@@ -106,7 +101,7 @@ module _ {M : Type 1} (𝓤 : URA M) (H : Heap 𝓤) (A : Atoms 𝓤) (W : Given
   exits f e =
       qed W (‵ (F.the-row .own f (formVal f ∷ [])) ∷ token 𝓤 κ q ∷ ‵ Own ∷ []) ∵
       suffices ! _ (ends bytes (plain B) 𝓤 H A W (opened.clauses 𝓤 H A mem run) κ q s (srcVal s) tt (machine κ (made f)) (made f) (tt, tt)) $
-      says ! (refl, refl, e) $ move ! (1 ∷ []) $ frame ! $ move ! (1 ∷ []) $ use1 W (‵ Own ⊛ ‵ Own) twice $ split ! $
+      says ! (refl, refl, e) $ move ! (1 ∷ []) $ frame ! $ move ! (1 ∷ []) $ use1 W (‵ Own ⊛ ‵ Own) (copy .twice s (srcVal s ∷ [])) $ split ! $
       nothing ! $ move ! (1 ∷ 0 ∷ []) $ fjoin ! $ frame ! $
       -- [what src owns; the form's facts]: what the fields own together is what the struct owns
       nothing ! $ move ! (2 ∷ 0 ∷ []) $ fjoin ! $ owned ! usize (Is usize) (uint-makes 𝓤 H A W w64) 0 _ (refl, lit< tt) $ fjoin ! $
@@ -123,7 +118,7 @@ module _ {M : Type 1} (𝓤 : URA M) (H : Heap 𝓤) (A : Atoms 𝓤) (W : Given
         qed W (raw entry ∷ []) ∵ enter ! C Λ code.function (srcVal s ∷ []) _ $
         alloc1 ! (λ l₀. alloc1 ! (λ l₁. alloc1 ! (λ l₂. alloc0 ! $ params1 ! $
         pass1 ! (init ! 2 refl (shr-slice-lawful 𝓤 H A W (named 0) κ u8 .typed s (srcVal s ∷ []) own .0)) $ pass0 ! $
-        move ! (6 ∷ []) $ use1 W (raw (FormVerdict 𝓤 H A mem run .pre to) ⊛ ‵ Own) goes $ split ! $
+        move ! (6 ∷ []) $ use1 W (raw (FormVerdict 𝓤 H A mem run .pre to) ⊛ ‵ Own) lent $ split ! $
         calls-at ! fm (FormVerdict 𝓤 H A mem run) known to (and-then ! (load ! (from ! (stop !)) (look ! 4 refl)) (no-more !)) (λ u.
         use1 W (later (some (λ (f : Verdict). (token 𝓤 κ q ⊛ ‵ (F.the-row .own f (u ∷ [])))
         ⊛ raw (ensured 𝓤 H A form.ended (form.clauses 𝓤 H A mem run) (κ, tt) (s, tt) tt f)))) (id⊢ 𝓤 _) $ await ! tt $ pick ! (λ f.
