@@ -1,8 +1,6 @@
-// The arguments of the programs for people: numbers, and files by name. Where a file cannot be read or written, standard error has a
-// line that says why.
+// What the programs read and write: arguments, files by name, standard input and output. Where one cannot be read or written, standard
+// error has a line that says why.
 use text::Numeral;
-ghost use mathlib.Core.Path.{_≡_};
-ghost use lib.ListN.{length};
 ghost use Rattle.arguments.specs.Loaded.{Holds};
 
 // What loading a file answers: how many bytes of it the buffer has, all of them unless the buffer is full.
@@ -59,36 +57,18 @@ pub fn load(i: usize, buf: &mut [u8]) -> Loaded
     read_open(fd, &path[..n], buf)
 }
 
-// Room for a derivation, on the stack: 4,194,304 bytes, which are 8,192 of the 65,536 blocks that one may have, and one more, by
-// which a longer file shows. Of its zeros only the length is known: they are too many to compute with.
-pub fn room() -> [u8; 4194305]
-    ensures { λ r. ⌜ 4194305 ≡ length r ⌝ }
+// The bytes of standard input.
+pub fn input(buf: &mut [u8]) -> Loaded
+    ensures { λ r. ⌜ Holds r (now (buf .exit)) ⌝ }
 {
-    [0; 4194305]
+    read_open(0, b"standard input", buf)
 }
 
-// Writes the open file.
-fn write_open(fd: i32, path: &[u8], bytes: &[u8]) -> bool {
-    let done = io::write_all(fd, bytes);
+// Writes to standard output, and answers whether all the bytes are written.
+pub fn say(bytes: &[u8]) -> bool {
+    let done = io::write_all(1, bytes);
     if !done {
-        os::fail(path);
+        os::fail(b"standard output");
     }
-    libc::close(fd);
     done
-}
-
-// Writes the file that argument i names, and answers whether all its bytes are written.
-pub fn save(i: usize, bytes: &[u8]) -> bool {
-    let mut path = io::buffer();
-    let n = os::arg(i, &mut path);
-    if os::errno() != 0 {
-        os::fail(b"path");
-        return false;
-    }
-    let fd = os::open_overwrite(&path[..n]);
-    if fd < 0 {
-        os::fail(&path[..n]);
-        return false;
-    }
-    write_open(fd, &path[..n], bytes)
 }

@@ -3,6 +3,7 @@
 use arguments::Loaded;
 use checking::Checked;
 use text::Numeral;
+ghost use mathlib.Core.Path.{_≡_};
 ghost use Prim.Native.Nat.{_≤_};
 ghost use lib.ListN.{length};
 ghost use Rattle.check_file.specs.Said.{Verified};
@@ -23,11 +24,19 @@ fn verify(t: &[u8], goal: usize, d: &[u8], out: &mut [u8]) -> usize
 fn say(t: &[u8], goal: usize, d: &[u8]) {
     let mut out = [0u8; 64];
     let end = verify(t, goal, d, &mut out);
-    io::write_all(1, &out[..end]);
+    arguments::say(&out[..end]);
+}
+
+// Room for a derivation, on the stack: 4,194,304 bytes, which are 8,192 of the 65,536 blocks that one may have, and one more, by
+// which a longer file shows. Of its zeros only the length is known: they are too many to compute with.
+fn room() -> [u8; 4194305]
+    ensures { λ r. ⌜ 4194305 ≡ length r ⌝ }
+{
+    [0; 4194305]
 }
 
 fn run_derivation(t: &[u8], goal: usize) {
-    let mut d = arguments::room();
+    let mut d = room();
     let l = arguments::load(3, &mut d);
     match l {
         Loaded::Bytes(n) => {

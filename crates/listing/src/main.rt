@@ -1,22 +1,23 @@
 // Lists a table that is read on standard input: a heading, and for each node its number and the answers for both its literals. What
 // is written gathers in one buffer, a line behind the other, and each line is written as soon as it stands there. So the buffer's
-// contract is that of the whole listing.
+// contract is that of the whole listing. Where a line cannot be written, standard error says so, once, and no more is written.
+use arguments::Loaded;
 use deciding::Decided;
 use table::Counted;
-ghost use mathlib.Core.Path.{_≡_};
 ghost use Prim.Native.Nat.{_+_, _*_, _<_, _≤_};
 ghost use lib.ListN.{length};
 ghost use Rattle.text.specs.Text.{Put};
 ghost use Rattle.text.specs.Listing.{listing};
 ghost use Rattle.listing.specs.Lines.{decidedWord, Judged, Worded, mostLine, Lined, AllLined};
 
-// Writes the bytes of the buffer from one place up to another; that place.
-fn say(out: &[u8], from: usize, to: usize) -> usize
+// Writes the bytes of the buffer from one place up to another, where those before them are written; whether they all are.
+fn say(out: &[u8], from: usize, to: usize, written: bool) -> bool
     requires { ⌜ (from ≤ to) × (to ≤ length (now out)) ⌝ }
-    ensures { λ r. ⌜ r ≡ to ⌝ }
 {
-    io::write_all(1, &out[from..to]);
-    to
+    if !written {
+        return false;
+    }
+    arguments::say(&out[from..to])
 }
 
 // What decide says of a goal.
@@ -55,16 +56,18 @@ fn line(t: &[u8], n: usize, out: &mut [u8], at: usize) -> usize
     text::put(out, e, b"\n")
 }
 
-// The lines of all nodes, each written as soon as it is known.
-fn lines(t: &[u8], nodes: usize, out: &mut [u8], start: usize) -> usize
+// The lines of all nodes, each written as soon as it is known, where the heading is.
+fn lines(t: &[u8], nodes: usize, out: &mut [u8], start: usize, headed: bool) -> usize
     requires { ⌜ (nodes ≤ 2016) × (start + mostLine * nodes ≤ length (now out)) ⌝ }
     ensures { λ r. ⌜ AllLined (now (t .entry)) (now (out .entry)) start nodes (now (out .exit)) r ⌝ }
 {
     let mut end = start;
+    let mut written = headed;
     let mut n = 0;
     while n < nodes {
         let next = line(t, n, out, end);
-        end = say(out, end, next);
+        written = say(out, end, next, written);
+        end = next;
         n += 1;
     }
     end
@@ -79,19 +82,28 @@ fn list(t: &[u8], out: &mut [u8]) -> usize
     match c {
         Counted::Refused(f) => {
             let end = text::refused(out, 0, f);
-            say(out, 0, end)
+            say(out, 0, end, true);
+            end
         }
         Counted::Nodes(nodes) => {
             let first = text::put(out, 0, b"node yes no\n");
-            let end = say(out, 0, first);
-            lines(t, nodes, out, end)
+            let headed = say(out, 0, first, true);
+            lines(t, nodes, out, first, headed)
         }
     }
 }
 
-fn main() {
-    let mut input = [0u8; 16385];
-    let n = io::read_full(0, &mut input);
+fn print(t: &[u8]) {
     let mut out = [0u8; 98304];
-    list(&input[..n], &mut out);
+    list(t, &mut out);
+}
+
+// A table of more than 16,384 bytes fills the buffer, and is refused by its length.
+fn main() {
+    let mut table = [0u8; 16385];
+    let l = arguments::input(&mut table);
+    match l {
+        Loaded::Bytes(n) => print(&table[..n]),
+        Loaded::Failed => {}
+    }
 }

@@ -1,4 +1,3 @@
 -- What the programs for people write, as bytes. Assumes nothing.
 pub mod Text
 pub mod Listing
-pub mod Answers

@@ -4,38 +4,30 @@ use Rattle.arguments.proofs.Loading.{loaded}
 use Rattle.check_file.proofs.run.Statement.{statement}
 use Rattle.check_file.proofs.run.Tie as tie
 
--- src/main.rt:47:32
 slice-aggregate-load : tie.Need-slice-aggregate-load
 slice-aggregate-load c = search needs
 
--- src/main.rt:47:9
 load-requires : tie.Need-load-requires
 load-requires c κs = search needs
 
--- src/main.rt:49:23
 enum-known-l : tie.Need-enum-known-l
 enum-known-l c = search needs
 
--- src/main.rt:49:44
 array-share-prefix-table : tie.Need-array-share-prefix-table
 array-share-prefix-table c = loaded _ (c .before .l .given .1) (c .before .before .before .before .load .ensures) .0
 
--- src/main.rt:49:44
 slice-aggregate-run-derivation : tie.Need-slice-aggregate-run-derivation
 slice-aggregate-run-derivation c = loaded _ (c .before .before .l .given .1) (c .before .before .before .before .before .load .ensures) .1
 
--- src/main.rt:49:29
 run-derivation-requires : tie.Need-run-derivation-requires
 run-derivation-requires c κs = search needs
 
 enum-told : tie.Need-enum-told
 enum-told c = search needs
 
--- src/main.rt:45:1
 returns : tie.Need-returns
 returns c = search needs
 
--- src/main.rt:45:1
 returns-2 : tie.Need-returns-2
 returns-2 c = search needs
 

@@ -4,54 +4,42 @@ use Rattle.arguments.proofs.Loading.{loaded}
 use Rattle.check_file.proofs.run_derivation.Statement.{statement}
 use Rattle.check_file.proofs.run_derivation.Tie as tie
 
--- src/main.rt:38:17
 room-requires : tie.Need-room-requires
 room-requires c κs = search needs
 
--- src/main.rt:39:32
 slice-aggregate-load : tie.Need-slice-aggregate-load
 slice-aggregate-load c = search needs
 
--- src/main.rt:39:9
 load-requires : tie.Need-load-requires
 load-requires c κs = search needs
 
--- src/main.rt:41:23
 enum-known-l : tie.Need-enum-known-l
 enum-known-l c = search needs
 
--- src/main.rt:43:34
 slice-aggregate-write-all : tie.Need-slice-aggregate-write-all
 slice-aggregate-write-all c = search needs
 
--- src/main.rt:43:17
 write-all-requires : tie.Need-write-all-requires
 write-all-requires c κs = search needs
 
--- src/main.rt:45:30
 array-share-prefix-d : tie.Need-array-share-prefix-d
 array-share-prefix-d c = search needs
 
--- src/main.rt:45:30
 slice-aggregate-say : tie.Need-slice-aggregate-say
 slice-aggregate-say c = loaded _ (c .before .before .before .l .given .1) (c .before .before .before .before .before .before .load .ensures) .1
 
--- src/main.rt:45:17
 say-requires : tie.Need-say-requires
 say-requires c κs = search needs
 
 enum-told : tie.Need-enum-told
 enum-told c = search needs
 
--- src/main.rt:37:1
 returns : tie.Need-returns
 returns c = search needs
 
--- src/main.rt:37:1
 returns-2 : tie.Need-returns-2
 returns-2 c = search needs
 
--- src/main.rt:37:1
 returns-3 : tie.Need-returns-3
 returns-3 c = search needs
 

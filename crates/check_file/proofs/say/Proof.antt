@@ -7,27 +7,21 @@ use Rattle.text.proofs.Text.{counted}
 use Rattle.check_file.proofs.say.Statement.{statement}
 use Rattle.check_file.proofs.say.Tie as tie
 
--- src/main.rt:25:34
 slice-aggregate-verify : tie.Need-slice-aggregate-verify
 slice-aggregate-verify c = search needs
 
--- src/main.rt:25:9
 verify-requires : tie.Need-verify-requires
 verify-requires c κs = search needs
 
--- src/main.rt:26:22
 array-share-prefix-out : tie.Need-array-share-prefix-out
 array-share-prefix-out c = counted (omega arith) (c .before .verify .ensures (replicate 32768 0) (omega (arith, length-replicate {0} {A = ℕ} 32768 0))) .0
 
--- src/main.rt:26:22
-slice-aggregate-write-all : tie.Need-slice-aggregate-write-all
-slice-aggregate-write-all c = counted (omega arith) (c .before .before .verify .ensures (replicate 32768 0) (omega (arith, length-replicate {0} {A = ℕ} 32768 0))) .1
+slice-aggregate-say : tie.Need-slice-aggregate-say
+slice-aggregate-say c = counted (omega arith) (c .before .before .verify .ensures (replicate 32768 0) (omega (arith, length-replicate {0} {A = ℕ} 32768 0))) .1
 
--- src/main.rt:26:5
-write-all-requires : tie.Need-write-all-requires
-write-all-requires c κs = search needs
+say-requires : tie.Need-say-requires
+say-requires c κs = search needs
 
--- src/main.rt:23:1
 returns : tie.Need-returns
 returns c = search needs
 
@@ -38,6 +32,6 @@ say-spec =
     slice-aggregate-verify
     verify-requires
     array-share-prefix-out
-    slice-aggregate-write-all
-    write-all-requires
+    slice-aggregate-say
+    say-requires
     returns)

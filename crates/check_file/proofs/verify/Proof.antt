@@ -8,39 +8,30 @@ use Rattle.check_file.proofs.Said.{said}
 use Rattle.check_file.proofs.verify.Statement.{statement}
 use Rattle.check_file.proofs.verify.Tie as tie
 
--- src/main.rt:16:38
 slice-aggregate-check : tie.Need-slice-aggregate-check
 slice-aggregate-check c = search needs
 
--- src/main.rt:16:9
 check-requires : tie.Need-check-requires
 check-requires c κs = search needs
 
--- src/main.rt:18:40
 enum-told : tie.Need-enum-told
 enum-told c = search needs
 
--- src/main.rt:18:48
 slice-aggregate-put : tie.Need-slice-aggregate-put
 slice-aggregate-put c = search needs
 
--- src/main.rt:18:30
 put-requires : tie.Need-put-requires
 put-requires c κs = search needs
 
--- src/main.rt:19:26
 enum-known-c : tie.Need-enum-known-c
 enum-known-c c = search needs
 
--- src/main.rt:19:32
 refused-requires : tie.Need-refused-requires
 refused-requires c κs = search needs
 
--- src/main.rt:11:1
 same-length : tie.Need-same-length
 same-length c = search needs
 
--- src/main.rt:11:1
 returns : tie.Need-returns
 unfolding ascii
 returns c =
@@ -50,11 +41,9 @@ returns c =
     subst (λ (s : List ℕ). Put (args .out .now) 0 s (c .before .before .put .last .0) (c .before .before .put .result))
     (said _ _ _ _ _ (k .result) (search needs) (k .ensures) w area (c .before .before .before .before .before .enum-told .given .1)) (c .before .before .put .ensures)
 
--- src/main.rt:11:1
 same-length-2 : tie.Need-same-length-2
 same-length-2 c = search needs
 
--- src/main.rt:11:1
 returns-2 : tie.Need-returns-2
 returns-2 c =
     let args = c .before .before .before .before .before .before .before .before .before .before .before .before .before .args in

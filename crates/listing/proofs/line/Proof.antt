@@ -10,67 +10,51 @@ use Rattle.listing.proofs.Words.{line-of}
 use Rattle.listing.proofs.line.Statement.{statement}
 use Rattle.listing.proofs.line.Tie as tie
 
--- src/main.rt:48:26
 mul-verdict : tie.Need-mul-verdict
 mul-verdict c = search needs
 
--- src/main.rt:48:9
 verdict-requires : tie.Need-verdict-requires
 verdict-requires c κs = search needs
 
--- src/main.rt:49:25
 mul-verdict-2 : tie.Need-mul-verdict-2
 mul-verdict-2 c = search needs
 
--- src/main.rt:49:25
 add-verdict : tie.Need-add-verdict
 add-verdict c = search needs
 
--- src/main.rt:49:9
 verdict-requires-2 : tie.Need-verdict-requires-2
 verdict-requires-2 c κs = search needs
 
--- src/main.rt:50:9
 number-requires : tie.Need-number-requires
 number-requires c κs = search needs
 
--- src/main.rt:51:31
 slice-aggregate-put : tie.Need-slice-aggregate-put
 slice-aggregate-put c = search needs
 
--- src/main.rt:51:9
 put-requires : tie.Need-put-requires
 put-requires c κs = search needs
 
--- src/main.rt:52:9
 word-requires : tie.Need-word-requires
 word-requires c κs = search needs
 
--- src/main.rt:53:31
 slice-aggregate-put-2 : tie.Need-slice-aggregate-put-2
 slice-aggregate-put-2 c = search needs
 
--- src/main.rt:53:9
 put-requires-2 : tie.Need-put-requires-2
 put-requires-2 c κs = search needs
 
--- src/main.rt:54:9
 word-requires-2 : tie.Need-word-requires-2
 word-requires-2 c κs = search needs
 
--- src/main.rt:55:23
 slice-aggregate-put-3 : tie.Need-slice-aggregate-put-3
 slice-aggregate-put-3 c = search needs
 
--- src/main.rt:55:5
 put-requires-3 : tie.Need-put-requires-3
 put-requires-3 c κs = search needs
 
--- src/main.rt:44:1
 same-length : tie.Need-same-length
 same-length c = search needs
 
--- src/main.rt:44:1
 returns : tie.Need-returns
 unfolding ascii
 returns c =

@@ -17,54 +17,45 @@ use Rattle.listing.proofs.lines.Statement.{statement}
 use Rattle.listing.proofs.lines.Tie as tie
 
 abbrev Inv-loop : tie.InvT-loop
-Inv-loop t nodes out₀ start end₀ n₀ out end n =
+Inv-loop t nodes out₀ start headed end₀ written₀ n₀ out end written n =
     (n ≤ nodes) × (start ≤ end) × (end ≤ start + mostLine * n) × (length out ≡ length out₀)
     × ((rs : List Node) → decode t ≡ answer rs → length rs ≡ nodes → Put out₀ start (nodeLines rs n) out end)
 
 abbrev μ-loop : tie.MeasureT-loop
-μ-loop t nodes out₀ start end₀ n₀ out end n = nodes - n
+μ-loop t nodes out₀ start headed end₀ written₀ n₀ out end written n = nodes - n
 
--- src/main.rt:65:5
 loop-holds : tie.Need-loop-holds Inv-loop μ-loop
 unfolding nodeLines
 loop-holds c = (omega arith, omega arith, omega arith, refl, λ rs reads all. nothing (c .before .before .args .out .now) (c .before .before .args .start))
 
--- src/main.rt:66:13
 line-requires : tie.Need-line-requires Inv-loop μ-loop
 line-requires c κs = search needs
 
--- src/main.rt:67:9
 say-requires : tie.Need-say-requires Inv-loop μ-loop
 say-requires c κs = search needs
 
--- src/main.rt:68:9
 add-n : tie.Need-add-n Inv-loop μ-loop
 add-n c = search needs
 
--- src/main.rt:65:5
 loop-less : tie.Need-loop-less Inv-loop μ-loop
 loop-less c = search needs
 
--- src/main.rt:65:5
 loop-again : tie.Need-loop-again Inv-loop μ-loop
 unfolding nodeLines
 loop-again c =
     let pre = c .before .before .before .before .before .before .before .before .before .before .pre in
     let at = c .before .before .before .before .before .before .before .loop in
-    let now = c .before .before .before .before .line .ensures in
-    let place = c .say .ensures in (
+    let now = c .before .before .before .before .line .ensures in (
       omega arith,
       omega arith,
       omega arith,
       omega arith,
-      λ rs reads all. rw (place, add-one (at .n)) (behind (omega arith) (at .inv .4 rs reads all) (now .text rs reads (omega arith))),
+      λ rs reads all. rw (add-one (at .n)) (behind (omega arith) (at .inv .4 rs reads all) (now .text rs reads (omega arith))),
     )
 
--- src/main.rt:59:1
 same-length : tie.Need-same-length Inv-loop μ-loop
 same-length c = search needs
 
--- src/main.rt:59:1
 returns : tie.Need-returns Inv-loop μ-loop
 returns c =
     let same : c .before .loop .n ≡ c .before .before .before .before .args .nodes = omega arith in

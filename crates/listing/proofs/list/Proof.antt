@@ -16,37 +16,29 @@ use Rattle.listing.proofs.Words.{refused-listing, counted-listing}
 use Rattle.listing.proofs.list.Statement.{statement}
 use Rattle.listing.proofs.list.Tie as tie
 
--- src/main.rt:78:9
 count-requires : tie.Need-count-requires
 count-requires c κs = search needs
 
--- src/main.rt:80:26
 enum-known-c : tie.Need-enum-known-c
 enum-known-c c = search needs
 
--- src/main.rt:81:17
 refused-requires : tie.Need-refused-requires
 refused-requires c κs = search needs
 
--- src/main.rt:82:13
 say-requires : tie.Need-say-requires
 say-requires c κs =
     let put = c .before .before .before .refused .ensures in
     (omega arith, omega (arith, within (omega arith) put, put .size))
 
--- src/main.rt:84:24
 enum-known-c-2 : tie.Need-enum-known-c-2
 enum-known-c-2 c = search needs
 
--- src/main.rt:85:43
 slice-aggregate-put : tie.Need-slice-aggregate-put
 slice-aggregate-put c = search needs
 
--- src/main.rt:85:17
 put-requires : tie.Need-put-requires
 put-requires c κs = search needs
 
--- src/main.rt:86:17
 say-requires-2 : tie.Need-say-requires-2
 say-requires-2 c κs = search needs
 
@@ -63,42 +55,29 @@ lines-requires : tie.Need-lines-requires
 lines-requires c κs =
     let few = few (c .before .before .before .before .before .before .before .before) in
     let put = c .before .before .before .before .before .put .ensures in
-    (few, omega (arith, few, put .ends, put .size, c .before .say2 .ensures))
+    (few, omega (arith, few, put .ends, put .size))
 
--- src/main.rt:74:1
 same-length : tie.Need-same-length
 same-length c = search needs
 
--- src/main.rt:74:1
 returns : tie.Need-returns
 returns c =
-    let at-refused = c .before .before .before .before in
-    let at-c = at-refused .before .before .before in
-    let at-count = at-c .before .before in
-    let start = at-count .before .before .before in
-    let args = start .args in
-    let put = at-refused .refused in
-    let no = refused-listing (args .t .now) (sym (at-count .count .ensures) ∙ ap countedOf (at-c .c .given .1)) in
-    rw (c .say .ensures) (subst (λ (s : List ℕ). Put (args .out .now) 0 s (put .last .0) (put .result)) no (put .ensures))
+    let args = c .before .before .before .before .before .before .before .before .before .before .before .before .args in
+    let put = c .before .before .before .before .refused in
+    let no = refused-listing (args .t .now) (sym (c .before .before .before .before .before .before .before .before .before .count .ensures) ∙ ap countedOf (c .before .before .before .before .before .before .before .c .given .1)) in
+    subst (λ (s : List ℕ). Put (args .out .now) 0 s (put .last .0) (put .result)) no (put .ensures)
 
--- src/main.rt:74:1
 same-length-2 : tie.Need-same-length-2
 same-length-2 c = search needs
 
--- src/main.rt:74:1
 returns-2 : tie.Need-returns-2
 unfolding ascii heading
 returns-2 c =
-    let at-lines = c .before .before in
-    let at-say2 = at-lines .before .before in
-    let at-put = at-say2 .before .before .before .before in
-    let at-rest = at-put .before .before .before in
-    let start = at-rest .before .before .before .before .before .before in
-    let args = start .args in
-    let all = at-lines .lines in
-    let rs = counted-listing (args .t .now) (answered (at-rest)) in
+    let args = c .before .before .before .before .before .before .before .before .before .before .before .before .before .before .before .before .before .args in
+    let all = c .before .before .lines in
+    let rs = counted-listing (args .t .now) (answered (c .before .before .before .before .before .before .before .before .before .before .before)) in
     subst (λ (s : List ℕ). Put (args .out .now) 0 s (all .last .1 .1 .0) (all .result)) (rs .3)
-    (behind (omega arith) (at-put .put .ensures) (rw (at-say2 .say2 .ensures) at (all .ensures .text (rs .0) (rs .1) (rs .2))))
+    (behind (omega arith) (c .before .before .before .before .before .before .before .before .put .ensures) (all .ensures .text (rs .0) (rs .1) (rs .2)))
 
 pub list-spec : {M : Type 1} → statement M
 list-spec =

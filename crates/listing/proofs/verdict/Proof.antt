@@ -4,19 +4,15 @@ use Rattle.listing.proofs.Words.{judged}
 use Rattle.listing.proofs.verdict.Statement.{statement}
 use Rattle.listing.proofs.verdict.Tie as tie
 
--- src/main.rt:28:31
 slice-aggregate-decide : tie.Need-slice-aggregate-decide
 slice-aggregate-decide c = search needs
 
--- src/main.rt:28:46
 slice-aggregate-decide-2 : tie.Need-slice-aggregate-decide-2
 slice-aggregate-decide-2 c = search needs
 
--- src/main.rt:28:5
 decide-requires : tie.Need-decide-requires
 decide-requires c κs = search needs
 
--- src/main.rt:23:1
 returns : tie.Need-returns
 returns c =
     judged _ _ _ _ (c .before .before .decide .result) (search needs) (search needs) (c .before .before .decide .ensures .answered)

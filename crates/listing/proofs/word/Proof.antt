@@ -6,57 +6,45 @@ use Rattle.text.proofs.Text.{nothing}
 use Rattle.listing.proofs.word.Statement.{statement}
 use Rattle.listing.proofs.word.Tie as tie
 
--- src/main.rt:37:40
 enum-told : tie.Need-enum-told
 enum-told c = search needs
 
--- src/main.rt:37:49
 slice-aggregate-put : tie.Need-slice-aggregate-put
 slice-aggregate-put c = search needs
 
--- src/main.rt:37:30
 put-requires : tie.Need-put-requires
 put-requires c κs = search needs
 
--- src/main.rt:38:42
 enum-told-2 : tie.Need-enum-told-2
 enum-told-2 c = search needs
 
--- src/main.rt:38:51
 slice-aggregate-put-2 : tie.Need-slice-aggregate-put-2
 slice-aggregate-put-2 c = search needs
 
--- src/main.rt:38:32
 put-requires-2 : tie.Need-put-requires-2
 put-requires-2 c κs = search needs
 
--- src/main.rt:39:32
 enum-told-3 : tie.Need-enum-told-3
 enum-told-3 c = search needs
 
--- src/main.rt:32:1
 same-length : tie.Need-same-length
 same-length c = search needs
 
--- src/main.rt:32:1
 returns : tie.Need-returns
 unfolding ascii
 returns c =
     let w = c .before .before .put .ensures in
     rw (c .before .before .before .before .before .enum-told .given .1) (record { put = w; most = omega (arith, w .ends) })
 
--- src/main.rt:32:1
 same-length-2 : tie.Need-same-length-2
 same-length-2 c = search needs
 
--- src/main.rt:32:1
 returns-2 : tie.Need-returns-2
 unfolding ascii
 returns-2 c =
     let w = c .before .before .put2 .ensures in
     rw (c .before .before .before .before .before .enum-told2 .given .1) (record { put = w; most = omega (arith, w .ends) })
 
--- src/main.rt:32:1
 returns-3 : tie.Need-returns-3
 returns-3 c =
     let args = c .before .before .before .args in

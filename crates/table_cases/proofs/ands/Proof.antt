@@ -1,8 +1,7 @@
 -- `table_cases::ands` meets its contract. Assumes nothing.
-use mathlib.Core.Path.{_≡_, _∙_}
+use mathlib.Core.Path.{_≡_}
 use Prim.Native.Nat.{_≤_, _-_}
 use lib.ListN.{length}
-use native.Mathlib.Omega.{arith}
 use borrow.Author.Needs.{needs}
 use Rattle.table_cases.proofs.ands.Statement.{statement}
 use Rattle.table_cases.proofs.ands.Tie as tie

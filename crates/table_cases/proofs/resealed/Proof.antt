@@ -1,7 +1,6 @@
 -- `table_cases::resealed` meets its contract. Assumes nothing.
 use mathlib.Core.Path.{sym}
 use lib.Seq.{length-take-le}
-use native.Mathlib.Omega.{arith}
 use borrow.Author.Needs.{needs}
 use Rattle.table_cases.proofs.resealed.Statement.{statement}
 use Rattle.table_cases.proofs.resealed.Tie as tie

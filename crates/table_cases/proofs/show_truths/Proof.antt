@@ -1,6 +1,5 @@
 -- `table_cases::show_truths` meets its contract. Assumes nothing.
 use Prim.Native.Nat.{_≤_, _-_}
-use native.Mathlib.Omega.{arith}
 use borrow.Author.Needs.{needs}
 use Rattle.table_cases.proofs.show_truths.Statement.{statement}
 use Rattle.table_cases.proofs.show_truths.Tie as tie

@@ -1,11 +1,10 @@
--- `arguments::room` meets its contract: the length is a law, and is not counted. Assumes nothing.
+-- `check_file::room` meets its contract: the length is a law, and is not counted. Assumes nothing.
 use mathlib.Core.Path.{sym}
 use Prim.Native.Nat.{ℕ}
 use lib.ListN.{length-replicate}
-use Rattle.arguments.proofs.room.Statement.{statement}
-use Rattle.arguments.proofs.room.Tie as tie
+use Rattle.check_file.proofs.room.Statement.{statement}
+use Rattle.check_file.proofs.room.Tie as tie
 
--- src/main.rt:31:1
 returns : tie.Need-returns
 returns c = sym (length-replicate {0} {A = ℕ} 4194305 0)
 
