@@ -22,7 +22,7 @@ use Rattle.rules.specs.Rules.{running, root, run, accepts}
 use Rattle.rules.specs.Derive.{check}
 use Rattle.steps.specs.Opened.{placeOf, stepCount}
 use Rattle.steps.proofs.Form.{read-fine, read-length, step-within, steps-read}
-use Rattle.replay.specs.Work.{Indexed, Goals}
+use Rattle.branch.specs.Holds.{Indexed, Goals}
 use Rattle.deciding.proofs.Nodes.{nodesIn, size-in, nodes-read, read, few, node-in, index-table}
 use Rattle.checking.specs.Checks.{checkedOf, rowsTest, Prepared, Formed, Checks}
 use Rattle.checking.specs.declared.Checked.{Checked}

@@ -6,7 +6,7 @@ use lib.ListN.{length}
 use borrow.Author.Needs.{needs}
 use Rattle.scope.specs.Outcome.{verdictOf}
 use Rattle.codec.specs.Valid.{Bytes}
-use Rattle.replay.specs.Work.{Indexed}
+use Rattle.branch.specs.Holds.{Indexed}
 use Rattle.deciding.proofs.Nodes.{few, buildable}
 use Rattle.checking.proofs.Answers.{steps-within, goals-of, indexed, ends}
 use Rattle.checking.proofs.run.Statement.{statement}
