@@ -11,22 +11,27 @@ use Rattle.calculus.specs.Order.{State, stateOf, valueOf, isEmpty, isOne, isMan
 use Rattle.trail.specs.Trail.{held, valueCode}
 use Rattle.index.specs.Index.{operands, always}
 
--- ---- the work area, as far as a code is read off it: the trail stands from 0 on, the values of the literals from here on
+-- ---- the work area, as far as a code is read off it: the trail stands from 4 on, and in it the values of the literals from 6051 on
 
-abbrev pub valuesAt : ℕ
-valuesAt = 6051
+-- number i of the trail
+abbrev pub tail : List ℕ → ℕ → ℕ
+tail w i = getD w (4 + i) 0
+
+-- of a trail r: the value that stands for literal l
+abbrev pub valueAt : (ℕ → ℕ) → ℕ → ℕ
+valueAt r l = r (6051 + l)
 
 -- the literals held true
 abbrev pub gOf : List ℕ → List ℕ
-gOf w = held (λ i. getD w i 0)
+gOf w = held (tail w)
 
 -- a literal's value as a number, 0 undecided, 1 true, 2 false; `always` is true, and the number after it false
 unfoldable pub wideValue : List ℕ → ℕ → ℕ
 wideValue G l = cond (ltb l always) (valueCode (valueOf G l)) (l + 1 - always)
 
--- each literal has its value
-abbrev pub Valued : List ℕ → Type 0
-Valued w = (l : ℕ) → l < always + 2 → getD w (valuesAt + l) 0 ≡ wideValue (gOf w) l
+-- the trail has the value of each literal
+abbrev pub Valued : (ℕ → ℕ) → Type 0
+Valued r = (l : ℕ) → l < always + 2 → valueAt r l ≡ wideValue (held r) l
 
 -- ---- what a code says
 
