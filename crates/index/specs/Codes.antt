@@ -37,7 +37,7 @@ abbrev pub isOpen : State → Bool
 isOpen s = isOne s || isMany s
 
 -- where some clause passes a test, a number of the first that does, else 0
-abbrev firstIf : (State → Bool) → (List State → ℕ → ℕ) → List State → ℕ
+abbrev pub firstIf : (State → Bool) → (List State → ℕ → ℕ) → List State → ℕ
 firstIf p f ss = cond (some p ss) (f ss (firstOf p ss)) 0
 
 -- the code. Bit 0: some clause is a unit; bit 1: some clause is all false; bit 2: some clause is open. Then numbers: from 8 on which
