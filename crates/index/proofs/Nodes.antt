@@ -8,7 +8,7 @@ use borrow.Author.Count.{below-more}
 use lib.Seq.{getD-set-same, getD-set-other}
 use Rattle.scope.specs.declared.Node.{Node}
 use Rattle.scope.specs.Table.{nodeAt}
-use Rattle.index.specs.Index.{indexSize, mostNodes, headsAt, indexNode, headOf, always, Loaded}
+use Rattle.index.specs.Index.{indexSize, mostNodes, headsAt, indexNode, always, Loaded}
 
 -- a node hangs on its own numbers alone
 pub node-same : (x x′ : List ℕ) (b m : ℕ) → ((i : ℕ) → i < 4 * b → getD x′ i 0 ≡ getD x i 0) → m < b → indexNode x′ m ≡ indexNode x m
@@ -26,7 +26,7 @@ withB x m y = set (withA x m y) (4 * m + 2) (y .b)
 abbrev withFill : List ℕ → ℕ → Node → List ℕ
 withFill x m y = set (withB x m y) (4 * m + 3) always
 
-abbrev pub written : List ℕ → ℕ → Node → List ℕ
+abbrev written : List ℕ → ℕ → Node → List ℕ
 written x m y = set (withFill x m y) (headsAt + m) 0
 
 module _ (x : List ℕ) (m : ℕ) (y : Node) (h : m < mostNodes) (z : length x ≡ indexSize) where
@@ -85,7 +85,8 @@ loaded-more t x m y h e L = record {
   fill = below-more _ m (λ k l. before (4 * k + 3) (omega arith) ∙ L .fill k l) (written-fill x m y h (L .size));
   heads =
       below-more _ m
-      (λ k l. written-other x m y h (L .size) (headsAt + k) (λ a b. omega (arith, b)) (λ d. omega (arith, d)) ∙ L .heads k l) (getD-set-same (withFill x m y) (headsAt + m) 0 0 (simp length-set (omega (arith, L .size))));
+      (λ k l. written-other x m y h (L .size) (headsAt + k) (λ a b. omega (arith, b)) (λ d. omega (arith, d)) ∙ L .heads k l)
+      (getD-set-same (withFill x m y) (headsAt + m) 0 0 (simp length-set (omega (arith, L .size))));
 }
   where
     before : (j : ℕ) → j < 4 * m → getD (written x m y) j 0 ≡ getD x j 0

@@ -77,7 +77,7 @@ module _ (m : List ℕ) (q : ℕ) (U : Units m) (hq : q < positions) where
   sum-kept x = getD-set-other m (q / 64) blocks x 0 (λ e. omega (arith, e))
 
   -- the sum's place, where a word was stored
-  pub sum-in : (x : ℕ) → blocks < length (put-word m q x)
+  sum-in : (x : ℕ) → blocks < length (put-word m q x)
   sum-in x = omega (arith, length-set m (q / 64) x, U .size)
 
   sum-bit : bit (getD m blocks 0) (q / 64) ≡ cond (eqb (word m q) 0) 0 1
