@@ -95,6 +95,7 @@ module _ {n : ℕ} {w : List ℕ} {l : ℕ} (few : n ≤ 2016) (h : Ready n w) (
   unfolding H
   pushed′ = record {
     ready = record { size = omega (arith, j .size, u-size, h .size); trail = j .trail; values = values };
+    size = j .size ∙ u-size;
     list = j .list;
     count = j .count;
     top = j .top;
@@ -184,6 +185,7 @@ module _ {n : ℕ} {w : List ℕ} {l : ℕ} (few : n ≤ 2016) (h : Ready n w) (
   popped′ : Popped n w (dropped 4 o l)
   popped′ = record {
     ready = record { size = omega (arith, g .size, o-size, h .size); trail = g .trail; values = leave-values };
+    size = g .size ∙ o-size;
     count = sym (o-same 0 (omega arith)) ∙ g .count;
     kept = leave-kept;
   }

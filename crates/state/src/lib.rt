@@ -7,7 +7,7 @@ ghost use Rattle.calculus.specs.Model.{Fresh};
 ghost use Rattle.calculus.specs.Order.{valueOf};
 ghost use Rattle.index.specs.Index.{mostNodes};
 ghost use Rattle.state.specs.Work.{area, tail, litAt, entryOf, baseOf, cursorAt, gOf, valueCode, Ready};
-ghost use Rattle.state.specs.Changes.{valuesSet, entrySet, Pushed, Popped, Blank};
+ghost use Rattle.state.specs.Changes.{valuesSet, entrySet, baseSet, Pushed, Popped, Blank};
 
 // The cursor: every clause of the positions before it is met.
 const CURSOR: usize = 0;
@@ -108,6 +108,15 @@ pub fn push(n: usize, work: &mut [u16], l: u16)
     set_values(work, l, 1, 2);
     work[TRAIL + (CURSORS + h as usize)] = work[CURSOR];
     enter(work, h, l);
+}
+
+// The literal at position h has so many clauses.
+pub fn number(work: &mut [u16], h: usize, more: u16)
+    requires { ⌜ (area ≤ length (now work)) × (h < mostNodes) × (baseOf (tail (now work)) h + more < 65536) ⌝ }
+    ensures { λ _. ⌜ now (work .exit) ≡ baseSet (now (work .entry)) h more ⌝ }
+{
+    let b = base(work, h);
+    work[TRAIL + (BASES + (h + 1))] = b + more;
 }
 
 // The newest literal leaves those held.
