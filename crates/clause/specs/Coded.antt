@@ -1,14 +1,15 @@
 -- What the code of a literal says: what its clauses come to under the literals held. Assumes nothing.
 use mathlib.Core.Path.{_≡_}
-use mathlib.Core.Bool.{Bool, true, cond, _||_}
+use mathlib.Core.Bool.{true, cond}
 use mathlib.Core.List.{List, map}
 use Prim.Native.Nat.{ℕ, _+_, _-_, _*_, _/_, _%_, _<_}
 use lib.Dec.{ltb}
 use lib.ListN.{length, getD}
 use Rattle.scope.specs.declared.Node.{Node}
 use Rattle.calculus.specs.Expansion.{chosen, expand}
-use Rattle.calculus.specs.Order.{State, stateOf, valueOf, isEmpty, isOne, isMany, some, firstOf, literalAt, bit}
+use Rattle.calculus.specs.Order.{State, stateOf, valueOf, isEmpty, isOne, some, firstOf, literalAt, bit}
 use Rattle.trail.specs.Trail.{held, valueCode}
+pub use Rattle.index.specs.Codes.{isOpen}
 use Rattle.index.specs.Index.{operands, always}
 
 -- ---- the work area, as far as a code is read off it: the trail stands from 4 on, and in it the values of the literals from 6051 on
@@ -38,10 +39,6 @@ Valued r = (l : ℕ) → l < always + 2 → valueAt r l ≡ wideValue (held r) l
 -- what the clauses of a literal are under G
 abbrev pub statesOf : (ℕ → Node) → List ℕ → ℕ → List State
 statesOf t G l = map (stateOf G) (expand t l)
-
--- no literal is true, and one is undecided
-abbrev pub isOpen : State → Bool
-isOpen s = isOne s || isMany s
 
 -- the literal that choice c is of a node's operands
 abbrev pub Choice : Node → ℕ → ℕ → Type 0
