@@ -3,3 +3,5 @@ pub mod Stays
 pub mod Marks
 pub mod Walks
 pub mod Settles
+pub mod Assumes
+pub mod Undoes

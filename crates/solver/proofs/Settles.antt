@@ -15,7 +15,7 @@ use Rattle.state.specs.Work.{tail, litAt, baseOf, cursorAt, gOf, trail, valueCo
 use Rattle.state.specs.Holds.{Holds, AllMet, Waiting, Closed, statesAt}
 use Rattle.state.specs.Changes.{Popped}
 use Rattle.state.proofs.Areas.{count-most, held-below, ready-same}
-use Rattle.solver.specs.Changes.{Settled, Left}
+use Rattle.solver.specs.Changes.{Served, Awaited, Settled, Left}
 
 -- ---- whether a goal waits
 
@@ -68,17 +68,22 @@ module _ {n : ℕ} {w w′ m′ : List ℕ} {c v : ℕ} (few : n ≤ 2016) (h : 
       numbered = subst (Numbered t goals) (sym same) numbered;
       units = z .units .0;
       entered = λ q i. record {
-        unit = z .units .1 q (omega (arith, low′, i, few)) ∙ sym (ap bit (rw same (none q (omega (arith, i, ap (λ (r : ℕ → ℕ). r 0) same)) .1)));
-        conflict = λ y. absurd (false≢true (sym (rw same (none q (omega (arith, i, ap (λ (r : ℕ → ℕ). r 0) same)) .0)) ∙ y));
+        unit = z .units .1 q (omega (arith, low′, i, few)) ∙ sym (ap bit (none′ q i .1));
+        conflict = λ y. absurd (false≢true (sym (none′ q i .0) ∙ y));
       };
       clear = λ q i k. z .units .1 q k;
       closed = λ k. absurd (omega (arith, k, z .conflict));
       cursor = omega (arith, z .cursor, low, ap (λ (r : ℕ → ℕ). r 0) same);
-      met-before = rw (same, z .cursor) before;
-      cursors = rw same cursors;
-      waiting = rw (same, z .waiting) waiting;
+      met-before = subst (λ (r : ℕ → ℕ). AllMet t (held r) r (cursorOf w′)) (sym same) (subst (AllMet t (gOf w) (tail w)) (sym (z .cursor)) before);
+      cursors = subst (λ (r : ℕ → ℕ). (q : ℕ) → q < r 0 → (cursorAt r q ≤ q) × AllMet t (trail q r) r (cursorAt r q)) (sym same) cursors;
+      waiting = subst (λ (r : ℕ → ℕ). Waiting goals (held r) (waitingOf w′)) (sym same) (subst (Waiting goals (gOf w)) (sym (z .waiting)) waiting);
     }
       where
+        none′ : (q : ℕ) → q < tail w′ 0 → (some isEmpty (statesAt t (gOf w′) (tail w′) q) ≡ false) × (some isOne (statesAt t (gOf w′) (tail w′) q) ≡ false)
+        none′ =
+            subst (λ (r : ℕ → ℕ). (q : ℕ) → q < r 0 → (some isEmpty (statesAt t (held r) r q) ≡ false) × (some isOne (statesAt t (held r) r q) ≡ false))
+            (sym same) none
+
         low′ : tail w′ 0 ≤ n
         low′ = omega (arith, count-most h, ap (λ (r : ℕ → ℕ). r 0) same)
 
@@ -121,7 +126,7 @@ module _ {n to : ℕ} {w₀ w : List ℕ} (few : n ≤ 2016) (v : Leaving n to w
     pub leaving-less : {w′ : List ℕ} → Popped n w w′ → tail w′ 0 < tail w 0
     leaving-less k = omega (arith, k .count)
 
-  pub leaving-ends : (to < c → ⊥) → Left n to w₀ w
+  pub leaving-ends : c ≤ to → Left n to w₀ w
   leaving-ends d = record {
     ready = v .ready;
     size = v .size;
@@ -130,3 +135,16 @@ module _ {n to : ℕ} {w₀ w : List ℕ} (few : n ≤ 2016) (v : Leaving n to w
     bases = v .bases;
     cursors = v .cursors;
   }
+
+-- ---- the goals are looked at anew
+
+-- none waited
+pub awaited-none : {goals w : List ℕ} → Served goals w → waitingOf w ≡ 0 → Awaited goals w w
+awaited-none {goals} {w} s z = record { size = refl; waiting = rw z (waiting-over (s z)); other = λ i e. refl }
+
+pub awaited : {goals w : List ℕ} {v : ℕ} → 2 < length w → Waiting goals (gOf w) v → Awaited goals w (set w 2 v)
+awaited {goals} {w} {v} b a = record {
+  size = length-set w 2 v;
+  waiting = rw (getD-set-same w 2 v 0 b) a;
+  other = λ i e. getD-set-other w 2 i v 0 e;
+}

@@ -24,7 +24,7 @@ use Rattle.solver.specs.Changes.{Pending}
 
 module _ (G : List ℕ) (l : ℕ) (f : valueOf G l ≡ undecided) where
   -- a literal that has a value keeps it
-  value-stays : (m : ℕ) (v : Value) → (v ≡ undecided → ⊥) → valueOf G m ≡ v → valueOf (l ∷ G) m ≡ v
+  pub value-stays : (m : ℕ) (v : Value) → (v ≡ undecided → ⊥) → valueOf G m ≡ v → valueOf (l ∷ G) m ≡ v
   value-stays m v d e = go (ℕ-discrete (m / 2) (l / 2)) (ℕ-discrete m l)
     where
       go : Dec (m / 2 ≡ l / 2) → Dec (m ≡ l) → valueOf (l ∷ G) m ≡ v

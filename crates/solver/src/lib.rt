@@ -22,10 +22,6 @@ const CONFLICT: usize = 1;
 
 const WAITING: usize = 2;
 
-const TRAIL: usize = 4;
-
-const BASES: usize = 4034;
-
 // No position.
 const NONE: u16 = 2016;
 
@@ -185,8 +181,7 @@ pub fn start(x: &[u16], n: usize, goals: &[u16], work: &mut [u16], masks: &mut [
     ensures { λ _. ⌜ Holds (indexNode (now (x .entry))) n (now (goals .entry)) (now (work .exit)) (now (masks .exit)) ⌝ }
     ensures { λ _. ⌜ gOf (now (work .exit)) ≡ [] ⌝ }
 {
-    state::blank(n, work);
     let waiting = goals.len() as u16;
-    work[TRAIL + BASES] = waiting;
+    state::blank(n, work, waiting);
     settle(work, masks, 0, waiting);
 }

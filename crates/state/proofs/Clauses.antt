@@ -74,18 +74,18 @@ module _ (p : State → Bool) where
       literalOf′ s = literalAt (s ∷ []) 0
 
   -- by elements
-  none-at : (ss : List State) (k : ℕ) → some p ss ≡ false → k < length ss → p (getD ss k met) ≡ false
+  pub none-at : (ss : List State) (k : ℕ) → some p ss ≡ false → k < length ss → p (getD ss k met) ≡ false
   unfolding some
   none-at [] k e h = absurd (omega arith)
   none-at (s ∷ ss) zero e h = or-left (p s) (some p ss) e
   none-at (s ∷ ss) (suc k) e h = none-at ss k (or-right (p s) (some p ss) e) (omega arith)
 
-  none-by : (ss : List State) → ((k : ℕ) → k < length ss → p (getD ss k met) ≡ false) → some p ss ≡ false
+  pub none-by : (ss : List State) → ((k : ℕ) → k < length ss → p (getD ss k met) ≡ false) → some p ss ≡ false
   unfolding some
   none-by [] f = refl
   none-by (s ∷ ss) f = rw (f 0 (omega arith)) (none-by ss (λ k h. f (suc k) (omega arith)))
 
-  first-at : (ss : List State) (k : ℕ) → k < length ss → p (getD ss k met) ≡ true → ((j : ℕ) → j < k → p (getD ss j met) ≡ false)
+  pub first-at : (ss : List State) (k : ℕ) → k < length ss → p (getD ss k met) ≡ true → ((j : ℕ) → j < k → p (getD ss j met) ≡ false)
       → (some p ss ≡ true) × (firstOf p ss ≡ k)
   unfolding some firstOf
   first-at [] k h e f = absurd (omega arith)

@@ -41,7 +41,13 @@ pub record Popped (n : ℕ) (w w′ : List ℕ) : Type 0 where
   pub count : tail w 0 ≡ suc (tail w′ 0)
   pub kept : (i : ℕ) → (i < 4) ⊎ (((4 < i) × (i < 2021)) ⊎ (((4038 ≤ i) × (i < 6055)) ⊎ (10089 ≤ i))) → getD w′ i 0 ≡ getD w i 0
 
--- nothing is held: the trail is empty, no literal has a value but the two of no node
-pub record Blank (w : List ℕ) (k : ℕ) (w′ : List ℕ) : Type 0 where
+-- the first k numbers are 0
+pub record Wiped (w : List ℕ) (k : ℕ) (w′ : List ℕ) : Type 0 where
   pub size : length w′ ≡ length w
   pub zero : (i : ℕ) → i < k → getD w′ i 0 ≡ 0
+
+-- nothing is held, and so many clauses stand before those of the first literal
+pub record Blank (n more : ℕ) (w : List ℕ) : Type 0 where
+  pub ready : Ready n w
+  pub count : tail w 0 ≡ 0
+  pub base : baseOf (tail w) 0 ≡ more

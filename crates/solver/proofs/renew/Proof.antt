@@ -14,7 +14,7 @@ code-requires : tie.Need-code-requires
 code-requires c κs =
     let s = c .before .before .before .before in
     let pre = s .pre .1 .1 .1 in
-    (s .pre .0, ((pre .0, omega arith, s .pre .1 .0 .size), (s .pre .1 .0 .values, s .pre .1 .0 .trail .good)))
+    (s .pre .0, ((pre .0, omega arith), (s .pre .1 .0 .size, s .pre .1 .0 .values, s .pre .1 .0 .trail .good)))
 
 sub-enter : tie.Need-sub-enter
 sub-enter c = search needs

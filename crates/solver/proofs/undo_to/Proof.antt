@@ -1,36 +1,39 @@
+-- `solver::undo_to` meets its contract. Assumes nothing.
+use Rattle.solver.proofs.Undoes.{undone, leave-low, cursor-low}
+use Rattle.state.proofs.Areas.{count-most}
+use Rattle.trail.proofs.Trails.{trail-length}
+use Rattle.state.specs.Work.{tail}
 use native.Mathlib.Omega.{arith}
 use borrow.Author.Needs.{needs}
 use Rattle.solver.proofs.undo_to.Statement.{statement}
 use Rattle.solver.proofs.undo_to.Tie as tie
-use Rattle.solver.proofs.undo_to.Reads as reads
-use Rattle.solver.proofs.undo_to.Lts as lts
-use Rattle.solver.proofs.leave.Reads as leave-reads
-use Rattle.solver.proofs.settle.Reads as settle-reads
-use Rattle.state.proofs.cursor_at.Reads as cursor-at-reads
 
--- src/lib.rt:175:5
 leave-requires : tie.Need-leave-requires
-leave-requires c κs = ?
+leave-requires c κs =
+    let s = c .before .before .before .before .before in
+    let w = s .args .work .now in
+    (s .pre .1 .1 .0 .ready, (s .pre .0 .few, omega (arith, s .pre .1 .1 .1 .0, trail-length (tail w 0) (tail w))))
 
--- src/lib.rt:176:9
 cursor-at-requires : tie.Need-cursor-at-requires
-cursor-at-requires c κs = ?
+cursor-at-requires c κs =
+    let s = c .before .before .before .before .before .before .before .before .before in
+    let H = s .pre .1 .1 .0 in
+    (c .before .before .before .leave .ensures .ready .size, cursor-low (s .pre .0 .few) H (s .pre .1 .1 .1 .0) (s .pre .1 .1 .1 .1) (c .before .before .before .leave .ensures))
 
--- src/lib.rt:177:5
 settle-requires : tie.Need-settle-requires
 settle-requires c κs = search needs
 
--- src/lib.rt:166:1
 same-length : tie.Need-same-length
 same-length c = search needs
 
--- src/lib.rt:166:1
 same-length-2 : tie.Need-same-length-2
 same-length-2 c = search needs
 
--- src/lib.rt:166:1
 returns : tie.Need-returns
-returns c = ?
+returns c =
+    let s = c .before .before .before .before .before .before .before .before .before .before .before .before .before .before .before .before .before in
+    let H = s .pre .1 .1 .0 in
+    undone (s .pre .0 .few) H (s .pre .1 .1 .1 .0) (s .pre .1 .1 .1 .1) (c .before .before .before .before .before .before .before .before .before .before .before .leave .ensures) (c .before .before .before .before .before .before .before .cursor-at .ensures) (c .before .before .before .before .settle .ensures)
 
 pub undo-to-spec : {M : Type 1} → statement M
 undo-to-spec =
