@@ -30,7 +30,7 @@ typedef struct { uint16_t number; size_t place; size_t literal; size_t used; } b
 typedef struct { uint16_t number; size_t place; size_t steps; } bev_derived;
 typedef struct { uint16_t number; size_t place; } bev_checked;
 typedef struct { uint16_t number; size_t place; size_t steps; } bev_opened;
-typedef struct { uint8_t left; uint8_t rule; uint8_t position; uint16_t value; } bev_stepped;
+typedef struct { uint16_t number; size_t place; uint8_t left; uint8_t rule; uint8_t position; uint16_t value; } bev_stepped;
 
 /* The node count of a table. Refusals: 10 to 17. */
 bev_counted bev_count(const uint8_t *table, size_t table_len);
@@ -62,7 +62,9 @@ bev_checked bev_check(const uint8_t *table, size_t table_len, size_t goal, uint1
 /* Opens a derivation: its step count. Refusals: 40 to 44. */
 bev_opened bev_open(const uint8_t *derivation, size_t derivation_len);
 
-/* The step at an index of a derivation that bev_open has answered: left 1 and the step, or left 0 where none is left. */
+/* The step at an index: left 1 and the step, or left 0 where none is left, at or past the count that the blocks state. In constant time:
+ * of the derivation it looks at the length (40), at one block, that of the index or, behind all blocks, the last (41 to 43), and at the
+ * step (44). bev_open says whether every block and every step passes. Refusals: 40 to 44. */
 bev_stepped bev_step(const uint8_t *derivation, size_t derivation_len, size_t index);
 
 /* Reads a DIMACS text (conjunctive normal form) and builds its table in an empty buffer: answers the goal literal and the used length.

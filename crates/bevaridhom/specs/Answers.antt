@@ -22,8 +22,7 @@ use Rattle.bevaridhom.specs.declared.BevDerived.{BevDerived}
 use Rattle.bevaridhom.specs.declared.BevChecked.{BevChecked}
 use Rattle.bevaridhom.specs.declared.BevOpened.{BevOpened}
 use Rattle.bevaridhom.specs.declared.BevStep.{BevStep}
-use Rattle.step_reader.specs.declared.Handed.{Handed}
-use Rattle.step_reader.specs.declared.Handed.the-variants.{Step, Done}
+use Rattle.step_reader.specs.Handed.{Next, one, none}
 
 abbrev pub countAnswer : Outcome ℕ → BevCount
 countAnswer (answer n) = record { number = 0; place = 0; nodes = n }
@@ -90,9 +89,10 @@ openAnswer (answer n) = record { number = 0; place = 0; steps = n }
 openAnswer (refused n p) = record { number = n; place = p; steps = 0 }
 
 -- a step, or that none is left
-abbrev pub stepAnswer : Handed → BevStep
-stepAnswer (Step s) = record { left = 1; rule = s .rule; position = s .position; value = s .value }
-stepAnswer Done = record { left = 0; rule = 0; position = 0; value = 0 }
+abbrev pub stepAnswer : Outcome Next → BevStep
+stepAnswer (answer (one s)) = record { number = 0; place = 0; left = 1; rule = s .rule; position = s .position; value = s .value }
+stepAnswer (answer none) = record { number = 0; place = 0; left = 0; rule = 0; position = 0; value = 0 }
+stepAnswer (refused n p) = record { number = n; place = p; left = 0; rule = 0; position = 0; value = 0 }
 
 -- the DIMACS reader for a host: the goal literal and the used length; the table's bytes; 60 and 61 change no byte, and after 51 or 52
 -- the buffer is free

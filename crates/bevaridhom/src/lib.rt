@@ -2,7 +2,7 @@
 ghost use mathlib.Core.Path.{_≡_};
 ghost use Rattle.scope.specs.Calls.{tableCount, tableRecord, evaluate, add, bytesAfter};
 ghost use Rattle.steps.specs.Opened.{stepCount};
-ghost use Rattle.step_reader.specs.Handed.{nextOf};
+ghost use Rattle.step_reader.specs.Handed.{stepHanded};
 ghost use Rattle.bevaridhom.specs.Answers.{countAnswer, recordAnswer, truthAnswer, addAnswer, openAnswer, stepAnswer, HostDecides, HostDerives, HostChecks, HostReads};
 use adding::Added;
 use checking::Checked;
@@ -245,26 +245,41 @@ pub extern "C" fn bev_open(d: &[u8]) -> BevOpened
 
 #[repr(C)]
 pub struct BevStep {
+    pub number: u16,
+    pub place: usize,
     pub left: u8,
     pub rule: u8,
     pub position: u8,
     pub value: u16,
 }
 
-// The reader as an entry: the step at an index, or that none is left there (left 0).
+// The reader as an entry: the step at an index (left 1), or that none is left there (left 0). Of the derivation it looks at the length
+// (row 40), at the block of the index or, behind all blocks, the last (rows 41 to 43), and at the step (row 44).
 #[no_mangle]
 pub extern "C" fn bev_step(d: &[u8], index: usize) -> BevStep
-    ensures { λ r. ⌜ r ≡ stepAnswer (nextOf (now (d .entry)) index) ⌝ }
+    ensures { λ r. ⌜ r ≡ stepAnswer (stepHanded (now (d .entry)) index) ⌝ }
 {
     let c = step_reader::step_of(d, index);
     match c {
         Handed::Step(s) => BevStep {
+            number: 0,
+            place: 0,
             left: 1,
             rule: s.rule,
             position: s.position,
             value: s.value,
         },
         Handed::Done => BevStep {
+            number: 0,
+            place: 0,
+            left: 0,
+            rule: 0,
+            position: 0,
+            value: 0,
+        },
+        Handed::Refused(f) => BevStep {
+            number: f.number,
+            place: f.place,
             left: 0,
             rule: 0,
             position: 0,

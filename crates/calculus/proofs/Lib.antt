@@ -11,3 +11,4 @@ pub mod Truth
 pub mod Sound
 pub mod Complete
 pub mod Setting
+pub mod Asked

@@ -4,6 +4,7 @@ use mathlib.Core.List.{List, [], _∷_, _++_, map}
 use mathlib.Core.Bool.{Bool, true, false, _&&_, _||_, or-true}
 use Prim.Native.Nat.{ℕ, zero, suc, _<_}
 use native.Mathlib.Nat.{le-of-suc-le-suc, not-suc-le-zero}
+use native.Mathlib.Omega.{arith}
 use lib.ListN.{length, getD}
 use Rattle.scope.proofs.Tests.{and-left, and-right, and-both}
 use Rattle.calculus.specs.Model.{All}
@@ -33,6 +34,11 @@ module _ {A : Type 0} (P : A → Type 0) where
   all-getD [] k d h a = h
   all-getD (x ∷ xs) zero d h a = a .0
   all-getD (x ∷ xs) (suc k) d h a = all-getD xs k d h (a .1)
+
+  -- .. and the other way
+  pub all-index : (xs : List A) (d : A) → ((k : ℕ) → k < length xs → P (getD xs k d)) → All P xs
+  all-index [] d f = tt
+  all-index (x ∷ xs) d f = (f 0 (omega arith), all-index xs d (λ k h. f (suc k) (omega arith)))
 
   pub all-each : ((x : A) → P x) → (xs : List A) → All P xs
   all-each f [] = tt

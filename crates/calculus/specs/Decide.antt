@@ -1,14 +1,18 @@
--- 01, 'The solver's order' and 'Where each call says no': decide. Assumes nothing.
+-- 01, 'The solver's order' and 'Where each call says no': what decide, derive and check ask of a table and a list of goals, and decide.
+-- Assumes nothing.
+use mathlib.Core.Path.{_≡_}
+use mathlib.Core.Bool.{true}
 use mathlib.Core.List.{List, [], _∷_, _++_}
-use Prim.Native.Nat.{ℕ, _*_}
+use Prim.Native.Nat.{ℕ, _*_, _≤_}
 use lib.Dec.{leb, ltb}
 use lib.ListN.{length, getD, drop}
 use Rattle.scope.specs.declared.Node.{Node}
-use Rattle.scope.specs.Outcome.{Outcome, answer, refused, require, _>>_, _>>=_}
+use Rattle.scope.specs.Outcome.{Outcome, answer, refused, require, first, _>>_, _>>=_}
 use Rattle.scope.specs.Table.{decode}
-use Rattle.scope.specs.Calls.{noNode}
+use Rattle.scope.specs.Calls.{noNode, evaluate}
 use Rattle.calculus.specs.Expansion.{expand}
 use Rattle.calculus.specs.Order.{Tree, tree, Answer, possible, impossible, unfinished, answerOf, settingOf}
+use Rattle.calculus.specs.Model.{Below}
 
 -- the nodes of a table as a function
 abbrev pub nodesOf : List Node → ℕ → Node
@@ -29,19 +33,54 @@ pub record Decided : Type 0 where
   pub verdict : Answer
   pub settings : List ℕ
 
+-- 20: 'not below 2 × nodes', of the goal at an index; and of each goal in turn
+abbrev pub goalRow : ℕ → List ℕ → ℕ → Outcome (Unit {0})
+goalRow nodes goals i = require (ltb (getD goals i 0) (2 * nodes)) 20 i
+
+abbrev pub goalsTest : ℕ → List ℕ → Outcome (Unit {0})
+goalsTest nodes goals = first (goalRow nodes goals) 0 (length goals)
+
+-- 20; 21: 'under 1,024 bytes', where a call needs so many; 23: 'under 32,768 16-bit numbers'
+unfoldable pub rowsTest : ℕ → List ℕ → ℕ → ℕ → ℕ → Outcome (Unit {0})
+rowsTest nodes goals needed points area =
+    goalsTest nodes goals
+    >> (require (leb needed points) 21 0
+    >> require (leb 32768 area) 23 0)
+
+-- none of these refuses
+pub record Admitted (nodes : ℕ) (goals : List ℕ) (needed points area : ℕ) : Type 0 where
+  pub below : Below nodes goals
+  pub settings : needed ≤ points
+  pub work : 32768 ≤ area
+
+-- the nodes of a table to which the goals may be put: rows 10 to 17, then these
+unfoldable pub asked : List ℕ → List ℕ → ℕ → ℕ → ℕ → Outcome (List Node)
+asked t goals needed points area = decode t >>= λ rs. rowsTest (length rs) goals needed points area >> answer rs
+
+-- what decide answers of the nodes of a table
+abbrev pub decided : List Node → List ℕ → List ℕ → Decided
+decided rs goals s = record { verdict = answerOf (searchOf rs goals); settings = settingsOn rs s (answerOf (searchOf rs goals)) }
+
 -- rows 10 to 17, 20, 21, 23
 unfoldable pub decide : List ℕ → ℕ → List ℕ → List ℕ → Outcome Decided
 decide t goal s work =
-    decode t
-    >>= λ rs. require (ltb goal (2 * length rs)) 20 0
-    >> (require (leb 1024 (length s)) 21 0
-    >> (require (leb 32768 (length work)) 23 0
-    >> answer (record {
-      verdict = answerOf (searchOf rs (goal ∷ []));
-      settings = settingsOn rs s (answerOf (searchOf rs (goal ∷ [])));
-    })))
+    asked t (goal ∷ []) 1024 (length s) (length work)
+    >>= λ rs. answer (decided rs (goal ∷ []) s)
 
 -- the settings bytes after a call: a refusal changes none
 abbrev pub settingsAfter : List ℕ → Outcome Decided → List ℕ
 settingsAfter s (answer d) = d .settings
 settingsAfter s (refused number place) = s
+
+-- 'A setting makes a goal true when the goal's truth under it is true': one of 0 and 1 for the 1,024 points, which evaluate takes
+abbrev pub Satisfies : List ℕ → ℕ → List ℕ → Type 0
+Satisfies t goal v = evaluate t goal v ≡ answer true
+
+-- no setting does
+abbrev pub Unsatisfiable : List ℕ → ℕ → Type 0
+Unsatisfiable t goal = (v : List ℕ) → Satisfies t goal v → ⊥
+
+-- two statements that imply each other
+infixl 1 _⇔_
+abbrev pub _⇔_ : Type 0 → Type 0 → Type 0
+A ⇔ B = (A → B) × (B → A)

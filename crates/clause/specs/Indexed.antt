@@ -1,24 +1,9 @@
--- What the solver is given: an index of n nodes. Assumes nothing.
+-- What the solver is given: an index of n nodes, and the operand slots of a node that are yet to be looked at. Assumes nothing.
 use mathlib.Core.Path.{_≡_}
-use mathlib.Core.List.{List}
-use Prim.Native.Nat.{ℕ, _/_, _<_, _≤_}
-use lib.ListN.{length}
+use Prim.Native.Nat.{ℕ, _/_, _<_}
 use Rattle.scope.specs.declared.Node.{Node}
-use Rattle.calculus.specs.Model.{Table}
-use Rattle.index.specs.Index.{indexSize, mostNodes, indexNode, opNode, Links, Fills}
-
--- 'a and b are literals of two different .. nodes'
-abbrev pub Apart : ℕ → (ℕ → Node) → Type 0
-Apart n t = (i : ℕ) → i < n → 2 < t i .kind → t i .a / 2 ≡ t i .b / 2 → ⊥
-
--- an index of n nodes
-pub record Indexed (x : List ℕ) (n : ℕ) : Type 0 where
-  pub size : length x ≡ indexSize
-  pub few : n ≤ mostNodes
-  pub table : Table n (indexNode x)
-  pub apart : Apart n (indexNode x)
-  pub links : Links x n
-  pub fill : Fills x n
+use Rattle.index.specs.Index.{opNode}
+pub use Rattle.index.specs.Indexed.{Apart, Indexed}
 
 -- an operand slot of node p below s is of a node
 abbrev pub Pending : (ℕ → Node) → ℕ → ℕ → ℕ → Type 0

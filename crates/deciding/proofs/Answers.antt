@@ -1,182 +1,122 @@
--- Where decide ends: at a refusal of the table, of the goal, of the settings or of the work area, or with what the search found.
--- Assumes nothing.
+-- Where decide ends: at the first row's refusal, or with what the search came to; and what the answer means. Assumes nothing.
 use mathlib.Core.Path.{_≡_, refl, sym, ap, _∙_}
-use mathlib.Core.List.{List, [], _∷_, _++_}
-use mathlib.Core.Bool.{Bool, true, false}
-use Prim.Native.Nat.{ℕ, _*_, _<_, _≤_}
+use mathlib.Core.Bool.{true}
+use mathlib.Core.List.{List, [], _∷_}
+use Prim.Native.Nat.{ℕ, _≤_, min}
 use native.Mathlib.Omega.{arith}
-use lib.Dec.{leb, ltb}
 use lib.ListN.{length, drop}
-use borrow.Author.Tests.{lt-ltb, le-ltb, le-leb, lt-leb, ltb-true, leb-true}
 use Rattle.scope.specs.declared.Node.{Node}
 use Rattle.scope.specs.declared.Refusal.{Refusal}
-use Rattle.scope.specs.Outcome.{Outcome, answer, refused, fine, require, _>>_}
-use Rattle.scope.specs.Table.{nodeAt, listFrom, decode}
-use Rattle.scope.specs.Calls.{tableCount}
-use Rattle.scope.proofs.Lists.{listFrom-same}
-use Rattle.scope.proofs.Tests.{required, then-first, then-next, passed-on}
+use Rattle.scope.specs.Outcome.{Outcome, answer, refused, _>>=_}
+use Rattle.scope.specs.Calls.{evaluate}
+use Rattle.scope.proofs.Tests.{refused-no, bound}
 use Rattle.codec.specs.Valid.{Bytes}
-use Rattle.table.proofs.Rows.{counted}
-use Rattle.calculus.specs.Order.{possible, impossible, answerOf, settingOf}
-use Rattle.calculus.specs.Decide.{nodesOf, searchOf, settingsOn, Decided as Given, decide}
-use Rattle.index.specs.Index.{indexNode, Built}
-use Rattle.state.specs.Work.{gOf, Ready}
-use Rattle.searching.specs.Search.{foundOf, Searched}
-use Rattle.deciding.specs.Setting.{Points}
-use Rattle.deciding.specs.Decides.{rowsTest, Prepared, Decides}
+use Rattle.calculus.specs.Order.{Answer, possible, impossible, unfinished, answerOf}
+use Rattle.calculus.specs.Decide.{searchOf, settingsOn, Decided as Given, asked, decided, decide, settingsAfter, Unsatisfiable, _⇔_}
+use Rattle.calculus.proofs.Asked.{asked-read}
+use Rattle.index.specs.Index.{indexNode}
+use Rattle.asking.specs.Asks.{Prepared}
+use Rattle.asking.proofs.Models.{setting-satisfies, search-exact}
+use Rattle.asking.proofs.Nodes.{search-in, listed}
+use Rattle.asking.proofs.Answers.{literal-small, asked-same}
+use Rattle.deciding.specs.Decides.{Word, can, cannot, nothing, wordOf, decidedOf, Room, Solved, Decides}
 use Rattle.deciding.specs.declared.Decided.{Decided}
 use Rattle.deciding.specs.declared.Decided.the-variants.{Possible, Impossible, Refused}
-use Rattle.searching.specs.declared.Found.{Found}
-use Rattle.searching.specs.declared.Found.the-variants.{Model, Closed}
-use Rattle.deciding.proofs.Bridge.{low, never-true, made-true}
-use Rattle.deciding.proofs.Nodes.{nodesIn, size-in, nodes-read, read, same-nodes, node-in, indexed, search-in}
 
--- ---- the cases of a `Decided` are apart
+-- ---- what the definition's answer means
 
-possible-impossible : {P : Type 0} → _≡_ {A = Decided} Possible Impossible → P
-possible-impossible e = absurd (let z : _≡_ {A = ℕ} 0 1 = cc in omega arith)
+module _ (t : List ℕ) (goal : ℕ) (s w : List ℕ) (all : Bytes t) where
+  -- the nodes of a table that was asked
+  pub answered-by : {d : Given} → decide t goal s w ≡ answer d
+      → (rs : List Node) × (asked t (goal ∷ []) 1024 (length s) (length w) ≡ answer rs) × (answer (decided rs (goal ∷ []) s) ≡ answer d)
+  unfolding decide
+  answered-by e = bound (asked t (goal ∷ []) 1024 (length s) (length w)) _ e
 
-possible-refused : {P : Type 0} {f : Refusal} → _≡_ {A = Decided} Possible (Refused f) → P
-possible-refused e = absurd (let z : _≡_ {A = ℕ} 0 1 = cc in omega arith)
+  -- impossible exactly when no setting makes the goal true
+  pub decide-exact : {d : Given} → decide t goal s w ≡ answer d → (d .verdict ≡ impossible) ⇔ Unsatisfiable t goal
+  decide-exact {d} e =
+      let b = answered-by e in
+      let a = asked-read t (goal ∷ []) 1024 (length s) (length w) (b .1) in
+      let z : answer (decided (b .0) (goal ∷ []) s) ≡ answer d = b .2 in
+      let q : d ≡ decided (b .0) (goal ∷ []) s = cc in
+      rw (ap (λ (y : Given). y .verdict) q) (search-exact t (b .0) all (a .0) goal (a .1 .below .0))
 
-impossible-refused : {P : Type 0} {f : Refusal} → _≡_ {A = Decided} Impossible (Refused f) → P
-impossible-refused e = absurd (let z : _≡_ {A = ℕ} 0 1 = cc in omega arith)
+  -- evaluate of the settings that decide gives answers yes
+  pub decide-evaluates : {d : Given} {G : List ℕ} → decide t goal s w ≡ answer d → d .verdict ≡ possible G → evaluate t goal (d .settings) ≡ answer true
+  decide-evaluates {d} {G} e v =
+      let b = answered-by e in
+      let a = asked-read t (goal ∷ []) 1024 (length s) (length w) (b .1) in
+      let z : answer (decided (b .0) (goal ∷ []) s) ≡ answer d = b .2 in
+      let q : decided (b .0) (goal ∷ []) s ≡ d = cc in
+      let p : answerOf (searchOf (b .0) (goal ∷ [])) ≡ possible G = ap (λ (y : Given). y .verdict) q ∙ v in
+      ap (evaluate t goal) (ap (λ (y : Given). y .settings) (sym q) ∙ ap (settingsOn (b .0) s) p)
+      ∙ setting-satisfies t (b .0) all (a .0) goal (a .1 .below .0) p (drop 1024 s)
 
--- ---- rows 20, 21 and 23
+-- ---- the contract, where its first three fields hold
 
-module _ (nodes goal points area : ℕ) where
-  pub row-goal : 2 * nodes ≤ goal → refused 20 0 ≡ rowsTest nodes goal points area
-  unfolding rowsTest
-  row-goal h = rw (le-ltb goal (2 * nodes) h)
+word-impossible : (a : Answer) → (wordOf a ≡ cannot) ⇔ (a ≡ impossible)
+word-impossible (possible G) = (λ e. absurd (let z : _≡_ {A = ℕ} 0 1 = cc in omega arith), λ e. absurd (let z : _≡_ {A = ℕ} 0 1 = cc in omega arith))
+word-impossible impossible = (λ e. refl, λ e. refl)
+word-impossible unfinished = (λ e. absurd (let z : _≡_ {A = ℕ} 0 1 = cc in omega arith), λ e. absurd (let z : _≡_ {A = ℕ} 0 1 = cc in omega arith))
 
-  module _ (g : goal < 2 * nodes) where
-    pub row-settings : points < 1024 → refused 21 0 ≡ rowsTest nodes goal points area
-    unfolding rowsTest
-    row-settings h = rw (lt-ltb goal (2 * nodes) g, lt-leb 1024 points h)
+word-possible : {P : Type 0} (a : Answer) → wordOf a ≡ can → ((G : List ℕ) → a ≡ possible G → P) → P
+word-possible (possible G) e f = f G refl
+word-possible impossible e f = absurd (let z : _≡_ {A = ℕ} 0 1 = cc in omega arith)
+word-possible unfinished e f = absurd (let z : _≡_ {A = ℕ} 0 1 = cc in omega arith)
 
-    module _ (p : 1024 ≤ points) where
-      pub row-area : area < 32768 → refused 23 0 ≡ rowsTest nodes goal points area
-      unfolding rowsTest
-      row-area h = rw (lt-ltb goal (2 * nodes) g, le-leb 1024 points p, lt-leb 32768 area h)
+module _ (t : List ℕ) (goal : ℕ) (s w : List ℕ) (all : Bytes t) (r : Decided) {s′ : List ℕ}
+    (answers : decidedOf r ≡ (decide t goal s w >>= λ d. answer (wordOf (d .verdict)))) (bytes : s′ ≡ settingsAfter s (decide t goal s w)) where
+  -- what was said is what the definition's answer says
+  said-by : {said : Word} → decidedOf r ≡ answer said → (d : Given) × (decide t goal s w ≡ answer d) × (answer (wordOf (d .verdict)) ≡ answer said)
+  said-by q = bound (decide t goal s w) (λ d. answer (wordOf (d .verdict))) (sym answers ∙ q)
 
-      pub row-fine : 32768 ≤ area → fine ≡ rowsTest nodes goal points area
-      unfolding rowsTest
-      row-fine h = rw (lt-ltb goal (2 * nodes) g, le-leb 1024 points p, le-leb 32768 area h)
-
-  -- no row refuses
-  pub rows-met : rowsTest nodes goal points area ≡ fine → (goal < 2 * nodes) × (1024 ≤ points) × (32768 ≤ area)
-  unfolding rowsTest
-  rows-met e =
-      let a = then-first (require (ltb goal (2 * nodes)) 20 0) _ e in
-      let r = then-next (require (ltb goal (2 * nodes)) 20 0) _ e in
-      let b = then-first (require (leb 1024 points) 21 0) _ r in
-      let c = then-next (require (leb 1024 points) 21 0) _ r in
-      (ltb-true goal (2 * nodes) (required _ 20 0 a), leb-true 1024 points (required _ 21 0 b), leb-true 32768 area (required _ 23 0 c))
-
--- the rows one after another, whatever comes after them
-rows-then : {A : Type 0} (a b c : Bool) (x : Outcome A)
-    → (require a 20 0 >> (require b 21 0 >> (require c 23 0 >> x))) ≡ ((require a 20 0 >> (require b 21 0 >> require c 23 0)) >> x)
-rows-then true true true x = refl
-rows-then true true false x = refl
-rows-then true false c x = refl
-rows-then false b c x = refl
-
--- ---- refusals
-
-module _ (t : List ℕ) (goal : ℕ) (s w : List ℕ) where
-  -- what the search of the nodes rs gives
-  abbrev given : List Node → Given
-  given rs = record {
-    verdict = answerOf (searchOf rs (goal ∷ []));
-    settings = settingsOn rs s (answerOf (searchOf rs (goal ∷ [])));
+  pub decides : {w′ : List ℕ} → ((f : Refusal) → r ≡ Refused f → w′ ≡ w) → Decides t goal s w s′ w′ r
+  decides kept = record {
+    answered = answers;
+    settings = bytes;
+    work = kept;
+    exact = λ said q.
+        let b = said-by q in
+        let z : answer (wordOf (b .0 .verdict)) ≡ answer said = b .2 in
+        let v : wordOf (b .0 .verdict) ≡ said = cc in
+        let i = word-impossible (b .0 .verdict) in
+        let x = decide-exact t goal s w all (b .1) in
+        (λ c. x .0 (i .0 (v ∙ c)), λ none. sym v ∙ i .1 (x .1 none));
+    satisfied = λ q.
+        let b = said-by (ap decidedOf q) in
+        let z : answer (wordOf (b .0 .verdict)) ≡ answer can = b .2 in
+        let v : wordOf (b .0 .verdict) ≡ can = cc in
+        word-possible (b .0 .verdict) v
+        (λ G g. ap (evaluate t goal) (bytes ∙ ap (settingsAfter s) (b .1)) ∙ decide-evaluates t goal s w all (b .1) g);
   }
 
-  pub refuses : (f : Refusal) → decide t goal s w ≡ refused (f .number) (f .place) → Decides t goal s w s w (Refused f)
-  refuses f e = record {
-    answered = rw e;
-    settings = rw e;
-    work = λ g q. refl;
-    sound = λ q. impossible-refused (sym q);
-    complete = λ q. possible-refused (sym q);
-  }
+-- ---- where decide ends
 
-  pub table-refused : {number place : ℕ} → tableCount t ≡ refused number place → decide t goal s w ≡ refused number place
-  unfolding tableCount decide
-  table-refused e = passed-on (decode t) length _ e
+module _ (t : List ℕ) (goal : ℕ) (s w : List ℕ) (all : Bytes t) {l : ℕ} (e : l ≡ min goal 65535) where
+  refused-by : {number place : ℕ} → asked t (l ∷ []) 1024 (length s) (length w) ≡ refused number place → decide t goal s w ≡ refused number place
+  unfolding decide
+  refused-by q = rw (← asked-same t all goal l e 1024 (length s) (length w), q)
 
-  rows-of : (rs : List Node) → decode t ≡ answer rs → decide t goal s w ≡ (rowsTest (length rs) goal (length s) (length w) >> answer (given rs))
-  unfolding decide rowsTest
-  rows-of rs e = rw e (rows-then (ltb goal (2 * length rs)) (leb 1024 (length s)) (leb 32768 (length w)) (answer (given rs)))
+  pub refuses : (f : Refusal) → asked t (l ∷ []) 1024 (length s) (length w) ≡ refused (f .number) (f .place) → Decides t goal s w s w (Refused f)
+  refuses f q =
+      let d = refused-by q in
+      decides t goal s w all (Refused f) (rw d) (rw d) (λ g z. refl)
 
-  pub rows-decide : (nodes : ℕ) → decode t ≡ answer (nodesIn t nodes)
-      → decide t goal s w ≡ (rowsTest nodes goal (length s) (length w) >> answer (given (nodesIn t nodes)))
-  rows-decide nodes e =
-      rows-of (nodesIn t nodes) e
-      ∙ ap (λ (k : ℕ). rowsTest k goal (length s) (length w) >> answer (given (nodesIn t nodes))) (size-in t nodes)
+  module _ {x : List ℕ} {n : ℕ} (p : Prepared t (l ∷ []) 1024 (length s) (length w) x n) where
+    pub roomy : Room x n s w
+    roomy = record { points = p .points; settings = p .admitted .settings; work = p .admitted .work }
 
-  pub rows-refused : {nodes number place : ℕ} → tableCount t ≡ answer nodes → rowsTest nodes goal (length s) (length w) ≡ refused number place
-      → decide t goal s w ≡ refused number place
-  rows-refused {nodes} e q = rows-decide nodes (nodes-read t e) ∙ rw q
+    same-goal : l ≡ goal
+    same-goal = literal-small n goal l (p .indexed .few) e (p .admitted .below .0)
 
-  pub prepared : {nodes : ℕ} → tableCount t ≡ answer nodes → rowsTest nodes goal (length s) (length w) ≡ fine → Prepared t nodes goal s w
-  prepared {nodes} e q =
-      let c = counted t e in
-      let m = rows-met nodes goal (length s) (length w) q in
-      record { readable = c .0; all = c .1; inside = m .0; points = m .1; area = m .2 }
+    ends-on : decide t goal s w ≡ answer (decided (p .nodes) (l ∷ []) s)
+    unfolding decide
+    ends-on = rw (← same-goal, p .answered)
 
--- ---- the search
-
-module _ (t : List ℕ) (nodes goal : ℕ) (s w : List ℕ) (all : Bytes t) (p : Prepared t nodes goal s w) where
-  abbrev rs₀ : List Node
-  rs₀ = nodesIn t nodes
-
-  reads : decode t ≡ answer rs₀
-  reads = read t nodes (p .readable) (p .all)
-
-  module _ (x : List ℕ) (size : length x ≡ 16128) (b : Built t nodes x) where
-    node-is : (i : ℕ) → i < nodes → indexNode x i ≡ nodesOf rs₀ i
-    node-is = node-in t nodes (p .readable) (p .all) all x b
-
-    pub point-low : (i : ℕ) → i < nodes → indexNode x i .kind ≡ 2 → indexNode x i .a < 1024
-    point-low i h = rw (node-is i h) (low t rs₀ all reads i (omega (arith, size-in t nodes)) .point)
-
-    pub pointed : {w₂ : List ℕ} → Ready nodes w₂ → Points x nodes w₂ s
-    pointed r = record { indexed = indexed t nodes (p .readable) (p .all) all x b size; points = point-low; ready = r; room = p .points }
-
-    listed : listFrom (indexNode x) 0 nodes ≡ rs₀
-    listed = listFrom-same (indexNode x) (nodeAt t) nodes 0 (λ k a h. b .nodes k (omega arith))
-
-    -- the search over the index is that over the nodes
-    module _ {w₁ w₂ m₂ : List ℕ} {r : Found} (z : gOf w₁ ≡ []) (f : Searched (indexNode x) nodes (goal ∷ []) w₁ w₂ m₂ r) where
-      whole : foundOf r (gOf w₂) ≡ answerOf (searchOf rs₀ (goal ∷ []))
-      whole = search-in t nodes (p .readable) (p .all) all x b goal (p .inside) z f
-
-      decided : decide t goal s w ≡ answer (given t goal s w rs₀)
-      decided = rows-decide t goal s w nodes reads ∙ ap (_>> answer (given t goal s w rs₀)) (sym (row-fine nodes goal (length s) (length w) (p .inside) (p .points) (p .area)))
-
-      inside-in : goal < 2 * length rs₀
-      inside-in = rw (size-in t nodes) (p .inside)
-
-      pub ends-closed : r ≡ Closed → Decides t goal s w s w₂ Impossible
-      ends-closed c =
-          let v : answerOf (searchOf rs₀ (goal ∷ [])) ≡ impossible = sym whole ∙ ap (λ (y : Found). foundOf y (gOf w₂)) c in
-          record {
-            answered = rw (decided, v);
-            settings = rw (decided, v);
-            work = λ g q. impossible-refused q;
-            sound = λ q rs e. rw (← same-nodes t nodes (p .readable) (p .all) rs e) (never-true t rs₀ all reads goal inside-in v);
-            complete = λ q. possible-impossible (sym q);
-          }
-
-      pub ends-model : r ≡ Model → {s′ : List ℕ} → s′ ≡ settingOf (listFrom (indexNode x) 0 nodes) (gOf w₂) ++ drop 1024 s
-          → Decides t goal s w s′ w₂ Possible
-      ends-model c {s′} y =
-          let v : answerOf (searchOf rs₀ (goal ∷ [])) ≡ possible (gOf w₂) = sym whole ∙ ap (λ (y : Found). foundOf y (gOf w₂)) c in
-          let u : s′ ≡ settingOf rs₀ (gOf w₂) ++ drop 1024 s = rw listed at y in
-          record {
-            answered = rw (decided, v);
-            settings = rw (decided, v) u;
-            work = λ g q. possible-refused q;
-            sound = λ q. possible-impossible q;
-            complete = λ q rs e. rw (← same-nodes t nodes (p .readable) (p .all) rs e, u) (made-true t rs₀ all reads goal inside-in v (drop 1024 s));
-          }
+    pub ends : {s′ w′ : List ℕ} (r : Decided) → Solved (indexNode x) n (l ∷ []) s s′ r → Decides t goal s w s′ w′ r
+    ends r h =
+        let a = ap answerOf (search-in p) in
+        decides t goal s w all r
+        (h .verdict ∙ ap (λ (y : Answer). answer (wordOf y)) a ∙ ap (_>>= λ d. answer (wordOf (d .verdict))) (sym ends-on))
+        (h .settings ∙ rw (listed p, a) (ap (settingsAfter s) (sym ends-on)))
+        (λ f q. refused-no (sym (ap decidedOf q) ∙ h .verdict))

@@ -1,5 +1,4 @@
 -- Laws for the proofs of decide's functions. Assumes nothing.
-pub mod Bridge
-pub mod Nodes
 pub mod Settings
+pub mod Solves
 pub mod Answers

@@ -1,18 +1,18 @@
 -- What decide does: the answer of the definition `decide`, its settings, and what the answer means. Assumes nothing.
 use mathlib.Core.Path.{_≡_}
-use mathlib.Core.Bool.{true, false}
-use mathlib.Core.List.{List}
-use Prim.Native.Nat.{ℕ, _*_, _<_, _≤_}
-use lib.Dec.{leb, ltb}
+use mathlib.Core.Bool.{true}
+use mathlib.Core.List.{List, []}
+use Prim.Native.Nat.{ℕ, _<_, _≤_}
 use lib.ListN.{length}
 use Rattle.scope.specs.declared.Node.{Node}
 use Rattle.scope.specs.declared.Refusal.{Refusal}
-use Rattle.scope.specs.Outcome.{Outcome, answer, refused, fine, require, _>>_, _>>=_}
-use Rattle.scope.specs.Block.{recordsIn}
-use Rattle.scope.specs.Table.{tables, tableTest, decode}
-use Rattle.scope.specs.Truth.{truth}
-use Rattle.calculus.specs.Order.{Answer, possible, impossible, unfinished}
-use Rattle.calculus.specs.Decide.{decide, settingsAfter}
+use Rattle.scope.specs.Outcome.{Outcome, answer, refused, _>>=_}
+use Rattle.scope.specs.Table.{listFrom}
+use Rattle.scope.specs.Calls.{evaluate}
+use Rattle.calculus.specs.Expansion.{expand}
+use Rattle.calculus.specs.Order.{tree, Answer, possible, impossible, unfinished, answerOf}
+use Rattle.calculus.specs.Decide.{settingsOn, decide, settingsAfter, Unsatisfiable, _⇔_}
+use Rattle.index.specs.Index.{indexNode}
 use Rattle.deciding.specs.declared.Decided.{Decided}
 use Rattle.deciding.specs.declared.Decided.the-variants.{Possible, Impossible, Refused}
 
@@ -34,20 +34,16 @@ decidedOf Possible = answer can
 decidedOf Impossible = answer cannot
 decidedOf (Refused r) = refused (r .number) (r .place)
 
--- rows 20, 21 and 23
-unfoldable pub rowsTest : ℕ → ℕ → ℕ → ℕ → Outcome (Unit {0})
-rowsTest nodes goal points area =
-    require (ltb goal (2 * nodes)) 20 0
-    >> (require (leb 1024 points) 21 0
-    >> require (leb 32768 area) 23 0)
+-- a point for each ATOM of the index, a byte for each point, and a whole work area
+pub record Room (x : List ℕ) (n : ℕ) (s w : List ℕ) : Type 0 where
+  pub points : (i : ℕ) → i < n → indexNode x i .kind ≡ 2 → indexNode x i .a < 1024
+  pub settings : 1024 ≤ length s
+  pub work : 32768 ≤ length w
 
--- no row refuses
-pub record Prepared (t : List ℕ) (nodes goal : ℕ) (s w : List ℕ) : Type 0 where
-  pub readable : tableTest t ≡ fine
-  pub all : nodes ≡ recordsIn tables t
-  pub inside : goal < 2 * nodes
-  pub points : 1024 ≤ length s
-  pub area : 32768 ≤ length w
+-- the search over the nodes t ends on the answer, and the settings are those of it
+pub record Solved (t : ℕ → Node) (n : ℕ) (goals s s′ : List ℕ) (r : Decided) : Type 0 where
+  pub verdict : decidedOf r ≡ answer (wordOf (answerOf (tree (expand t) goals n [])))
+  pub settings : s′ ≡ settingsOn (listFrom t 0 n) s (answerOf (tree (expand t) goals n []))
 
 -- Decide, of the table t, a goal, and the settings s and the work area w, which it leaves as s′ and w′
 pub record Decides (t : List ℕ) (goal : ℕ) (s w s′ w′ : List ℕ) (r : Decided) : Type 0 where
@@ -57,7 +53,7 @@ pub record Decides (t : List ℕ) (goal : ℕ) (s w s′ w′ : List ℕ) (r : D
   pub settings : s′ ≡ settingsAfter s (decide t goal s w)
   -- a refusal leaves the work area as it was
   pub work : (f : Refusal) → r ≡ Refused f → w′ ≡ w
-  -- impossible: no setting makes the goal true
-  pub sound : r ≡ Impossible → (rs : List Node) → decode t ≡ answer rs → (v : List ℕ) → truth v rs goal ≡ false
-  -- possible: the setting that was written makes it true
-  pub complete : r ≡ Possible → (rs : List Node) → decode t ≡ answer rs → truth s′ rs goal ≡ true
+  -- impossible is said exactly when no setting makes the goal true (demand 3)
+  pub exact : (said : Word) → decidedOf r ≡ answer said → (said ≡ cannot) ⇔ Unsatisfiable t goal
+  -- possible: evaluate of the settings that were written answers yes (demand 3)
+  pub satisfied : r ≡ Possible → evaluate t goal s′ ≡ answer true

@@ -1,19 +1,19 @@
 // Decide: whether some setting makes a goal true, and such a setting.
 use scope::Refusal;
-use scope::Verdict;
 use searching::Found;
 use table::Counted;
 ghost use mathlib.Core.Path.{_≡_};
 ghost use mathlib.Core.List.{_++_};
 ghost use Prim.Native.Nat.{_<_, _≤_};
 ghost use lib.ListN.{length, drop};
-ghost use Rattle.scope.specs.Outcome.{verdictOf};
 ghost use Rattle.scope.specs.Table.{listFrom};
 ghost use Rattle.calculus.specs.Order.{settingOf};
+ghost use Rattle.calculus.specs.Model.{Goals};
 ghost use Rattle.index.specs.Index.{indexNode};
+ghost use Rattle.index.specs.Indexed.{Indexed};
 ghost use Rattle.state.specs.Work.{gOf};
 ghost use Rattle.deciding.specs.Setting.{Cleared, Points, Marked};
-ghost use Rattle.deciding.specs.Decides.{rowsTest, Prepared, Decides};
+ghost use Rattle.deciding.specs.Decides.{Room, Solved, Decides};
 
 // What decide answers.
 pub enum Decided {
@@ -63,47 +63,20 @@ fn set_points(x: &[u16], n: usize, work: &[u16], settings: &mut [u8])
     }
 }
 
-// Rows 20, 21 and 23.
-fn rows(nodes: usize, goal: usize, points: usize, area: usize) -> Verdict
-    requires { ⌜ nodes ≤ 2016 ⌝ }
-    ensures { λ r. ⌜ verdictOf r ≡ rowsTest nodes goal points area ⌝ }
+// The search of goals over an index, from the start: whether there is a model; if so, the settings become its own.
+fn solve(x: &[u16], n: usize, goals: &[u16], settings: &mut [u8], work: &mut [u16]) -> Decided
+    requires { ⌜ Indexed (now x) n ⌝ }
+    requires { ⌜ Goals n (now goals) ⌝ }
+    requires { ⌜ Room (now x) n (now settings) (now work) ⌝ }
+    ensures { λ r. ⌜ Solved (indexNode (now (x .entry))) n (now (goals .entry)) (now (settings .entry)) (now (settings .exit)) r ⌝ }
 {
-    if 2 * nodes <= goal {
-        return Verdict::Refused(Refusal {
-            number: 20,
-            place: 0,
-        });
-    }
-    if points < 1024 {
-        return Verdict::Refused(Refusal {
-            number: 21,
-            place: 0,
-        });
-    }
-    if area < 32768 {
-        return Verdict::Refused(Refusal {
-            number: 23,
-            place: 0,
-        });
-    }
-    Verdict::Fine
-}
-
-// The search of a goal, where no row refuses.
-fn run(t: &[u8], nodes: usize, goal: usize, settings: &mut [u8], work: &mut [u16]) -> Decided
-    requires { ⌜ Prepared (now t) nodes goal (now settings) (now work) ⌝ }
-    ensures { λ r. ⌜ Decides (now (t .entry)) goal (now (settings .entry)) (now (work .entry)) (now (settings .exit)) (now (work .exit)) r ⌝ }
-{
-    let mut x = [0u16; 16128];
-    index::build(t, nodes, &mut x);
-    let goals = [goal as u16; 1];
     let mut masks = [0u64; 392];
-    solver::start(&x, nodes, &goals, work, &mut masks);
-    let found = searching::search(&x, nodes, &goals, work, &mut masks);
+    solver::start(x, n, goals, work, &mut masks);
+    let found = searching::search(x, n, goals, work, &mut masks);
     match found {
         Found::Closed => Decided::Impossible,
         Found::Model => {
-            set_points(&x, nodes, work, settings);
+            set_points(x, n, work, settings);
             Decided::Possible
         }
     }
@@ -113,15 +86,12 @@ fn run(t: &[u8], nodes: usize, goal: usize, settings: &mut [u8], work: &mut [u16
 pub fn decide(t: &[u8], goal: usize, settings: &mut [u8], work: &mut [u16]) -> Decided
     ensures { λ r. ⌜ Decides (now (t .entry)) goal (now (settings .entry)) (now (work .entry)) (now (settings .exit)) (now (work .exit)) r ⌝ }
 {
-    let c = table::count(t);
-    match c {
+    let l = asking::literal(goal);
+    let goals = [l; 1];
+    let mut x = [0u16; 16128];
+    let a = asking::ask(t, &goals, 1024, settings.len(), work.len(), &mut x);
+    match a {
         Counted::Refused(r) => Decided::Refused(r),
-        Counted::Nodes(nodes) => {
-            let v = rows(nodes, goal, settings.len(), work.len());
-            match v {
-                Verdict::Refused(r) => Decided::Refused(r),
-                Verdict::Fine => run(t, nodes, goal, settings, work),
-            }
-        }
+        Counted::Nodes(n) => solve(&x, n, &goals, settings, work),
     }
 }

@@ -1,2 +1,3 @@
 -- What the index of a table holds. Assumes nothing.
 pub mod Index
+pub mod Indexed

@@ -1,3 +1,3 @@
--- What a reader hands out, in the terms of `decodeSteps`, and a law for the walks. Assumes nothing.
+-- What a reader hands out, in the terms of `decodeSteps`, and what the walks share. Assumes nothing.
 pub mod Steps
-pub mod Numbers
+mod Held

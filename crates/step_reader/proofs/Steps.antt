@@ -1,88 +1,92 @@
--- A reader hands out the steps of a derivation that reads, one after another, and then none (`hands-out`, `none-left`,
--- `reads-all`); of a derivation that is refused it hands out none at all (`reads-none`). Assumes nothing.
-use mathlib.Core.Path.{_≡_, _∙_, ap, sym, refl}
-use mathlib.Core.List.{List, []}
-use Prim.Native.Nat.{ℕ, zero, suc, _+_, _*_, _/_, _%_, _<_, _≤_}
+-- A reader hands out the steps of a derivation that reads, one after another, and then says that none is left (`hands-out`, `none-left`,
+-- `reads-all`); of a derivation that is refused it says the refusal (`next-refused`). Assumes nothing.
+use mathlib.Core.Path.{_≡_, _∙_, ap, sym}
+use mathlib.Core.List.{List}
+use mathlib.Core.Bool.{true, false}
+use Prim.Native.Nat.{ℕ, zero, suc, _+_, _-_, _/_, _<_, _≤_, min}
 use native.Mathlib.Numerals.{add-one}
 use native.Mathlib.Omega.{arith}
 use lib.Dec.{ltb}
 use lib.ListN.{length, getD, drop, drop-of-length-le}
 use lib.Seq.{drop-cons}
 use borrow.Author.Tests.{lt-ltb, le-ltb, ltb-true, ltb-false}
-use Rattle.scope.specs.Outcome.{answer, refused, fine}
-use Rattle.scope.specs.Block.{blockAt}
+use Rattle.scope.specs.Outcome.{Outcome, answer, refused, fine}
+use Rattle.scope.specs.Block.{recordsIn}
 use Rattle.rules.specs.declared.Step.{Step}
-use Rattle.rules.specs.Steps.{stepAt, formTest, decodeSteps}
+use Rattle.rules.specs.Steps.{derivations, stepAt, stepOk, sizeOk, formTest, decodeSteps}
 use Rattle.rules.proofs.Laws.{by-test}
-use Rattle.steps.proofs.Form.{block-of, block-past, read-fine, read-length, read-step}
-use Rattle.step_reader.specs.declared.Handed.the-variants.{Step as One, Done}
-use Rattle.step_reader.specs.Handed.{nextOf, startOf, afterOf, readFrom}
+use Rattle.steps.specs.Opened.{placeOf, blockRow}
+use Rattle.steps.proofs.Form.{whole-blocks, steps-most, block-fine, size-right, size-met, blocks-met, few-steps, step-formed, read-fine, read-length, read-step}
+use Rattle.step_reader.specs.Handed.{one, none, countedStep, blockOf, stepHanded, nextOf, afterOf, readFrom}
 
--- the three ways of the test: no block; none in the block; a step
+-- a step's test and its rows, as the code meets them
 module _ (d : List ℕ) (at : ℕ) where
-  pub no-block : length d / 512 ≤ at / 126 → nextOf d at ≡ Done
-  unfolding nextOf
-  no-block h = simp (le-ltb (at / 126) (length d / 512) h)
+  pub past-count : recordsIn derivations d ≤ at → countedStep d at ≡ answer none
+  unfolding countedStep
+  past-count h = simp (le-ltb at (recordsIn derivations d) h)
 
-  pub block-ends : at / 126 < length d / 512 → getD (blockAt d (at / 126)) 1 0 ≤ at % 126 → nextOf d at ≡ Done
-  unfolding nextOf
-  block-ends h l = simp (lt-ltb (at / 126) (length d / 512) h, le-ltb (at % 126) (getD (blockAt d (at / 126)) 1 0) l)
+  module _ (h : at < recordsIn derivations d) where
+    pub ill-formed : stepOk (stepAt d at) ≡ false → countedStep d at ≡ refused 44 at
+    unfolding countedStep
+    ill-formed e = simp (lt-ltb at (recordsIn derivations d) h, e)
 
-  pub a-step : at / 126 < length d / 512 → at % 126 < getD (blockAt d (at / 126)) 1 0 → nextOf d at ≡ One (stepAt d at)
-  unfolding nextOf
-  a-step h l = simp (lt-ltb (at / 126) (length d / 512) h, lt-ltb (at % 126) (getD (blockAt d (at / 126)) 1 0) l)
+    pub well-formed : stepOk (stepAt d at) ≡ true → countedStep d at ≡ answer (one (stepAt d at))
+    unfolding countedStep
+    well-formed e = simp (lt-ltb at (recordsIn derivations d) h, e)
 
--- where reading starts
-module _ (d : List ℕ) where
-  pub start-fine : formTest d ≡ fine → startOf d ≡ 0
-  unfolding startOf
-  start-fine e = rw e
+  pub size-refused : sizeOk (length d) ≡ false → stepHanded d at ≡ refused 40 0
+  unfolding stepHanded
+  size-refused e = rw e
 
-  pub start-refused : {number place : ℕ} → formTest d ≡ refused number place → startOf d ≡ 126 * (length d / 512)
-  unfolding startOf
-  start-refused e = rw e
+  module _ (size : sizeOk (length d) ≡ true) where
+    pub block-refused : {number place : ℕ} → blockRow d (blockOf d at) ≡ refused number place → stepHanded d at ≡ refused number place
+    unfolding stepHanded
+    block-refused e = rw (size, e)
 
--- the index after one: where a step was handed out, and where none was
-module _ (d : List ℕ) (at : ℕ) where
-  pub after-step : {s : Step} → nextOf d at ≡ One s → afterOf d at ≡ at + 1
-  unfolding afterOf
-  after-step e = rw e
+    module _ (block : blockRow d (blockOf d at) ≡ fine) where
+      pub block-passes : stepHanded d at ≡ countedStep d at
+      unfolding stepHanded
+      block-passes = rw (size, block)
 
-  pub after-done : nextOf d at ≡ Done → afterOf d at ≡ at
-  unfolding afterOf
-  after-done e = rw e
+      -- a step below the count lies within the bytes: in a block before the last, or in the last, which has passed
+      pub within : at < recordsIn derivations d → placeOf at + 4 ≤ length d
+      within h =
+          let some = whole-blocks (length d) size .0 in
+          by-test (ltb (at / 126) (length d / 512 - 1))
+          (λ q. omega (arith, ltb-true (at / 126) (length d / 512 - 1) q))
+          (λ q.
+          let last : min (at / 126) (length d / 512 - 1) ≡ length d / 512 - 1 = omega (arith, ltb-false (at / 126) (length d / 512 - 1) q) in
+          omega (arith, steps-most d some (rw last at block), ltb-false (at / 126) (length d / 512 - 1) q))
 
-  -- a step that was handed out has a block
-  pub step-block : {s : Step} → nextOf d at ≡ One s → at / 126 < length d / 512
-  step-block e =
-      by-test (ltb (at / 126) (length d / 512)) (ltb-true (at / 126) (length d / 512))
-      (λ q. let z : _≡_ {A = ℕ} 0 1 = (let none = no-block d at (ltb-false (at / 126) (length d / 512) q) in cc) in absurd (omega arith))
+  -- with what opening met
+  pub next-fine : {form : Outcome (Unit {0})} → form ≡ fine → nextOf d at form ≡ stepHanded d at
+  next-fine e = rw e
+
+  pub next-refused : {number place : ℕ} {form : Outcome (Unit {0})} → form ≡ refused number place → nextOf d at form ≡ refused number place
+  next-refused e = rw e
 
 -- a derivation that reads: its steps, and then none
 module _ (d : List ℕ) (ss : List Step) (e : decodeSteps d ≡ answer ss) where
-  pub starts : startOf d ≡ 0
-  starts = start-fine d (read-fine d ss e)
+  opens : (k : ℕ) → nextOf d k (formTest d) ≡ countedStep d k
+  opens k =
+      let test = read-fine d ss e in
+      let met = size-met d test in
+      next-fine d k test ∙ block-passes d k (size-right d test) (block-fine d (met .0) (blocks-met d test) (blockOf d k) (omega (arith, met .0)))
 
-  pub hands-out : (k : ℕ) (z : Step) → k < length ss → nextOf d k ≡ One (getD ss k z)
+  pub hands-out : (k : ℕ) (z : Step) → k < length ss → nextOf d k (formTest d) ≡ answer (one (getD ss k z))
   hands-out k z h =
-      let b = block-of d (read-fine d ss e) k (omega (arith, read-length d ss e)) in
-      a-step d k (b .0) (b .1) ∙ ap One (sym (read-step d ss e k z h))
+      let below : k < recordsIn derivations d = omega (arith, read-length d ss e) in
+      opens k ∙ well-formed d k below (step-formed d (read-fine d ss e) k below) ∙ ap (λ s. answer (one s)) (sym (read-step d ss e k z h))
 
-  pub none-left : (k : ℕ) → length ss ≤ k → nextOf d k ≡ Done
-  none-left k h =
-      by-test (ltb (k / 126) (length d / 512))
-      (λ q. let l = ltb-true (k / 126) (length d / 512) q in block-ends d k l (block-past d (read-fine d ss e) k (omega (arith, read-length d ss e)) l))
-      (λ q. no-block d k (ltb-false (k / 126) (length d / 512) q))
+  pub none-left : (k : ℕ) → length ss ≤ k → nextOf d k (formTest d) ≡ answer none
+  none-left k h = opens k ∙ past-count d k (omega (arith, read-length d ss e))
 
-  -- the reader goes from one to the next, and stays behind the last
-  pub goes-on : (k : ℕ) → k < length ss → afterOf d k ≡ k + 1
-  goes-on k h = after-step d k (hands-out k (stepAt d k) h)
-
-  pub stays : (k : ℕ) → length ss ≤ k → afterOf d k ≡ k
-  stays k h = after-done d k (none-left k h)
+  goes-on : (k : ℕ) → k < length ss → afterOf k ≡ k + 1
+  unfolding afterOf
+  goes-on k h = simp (lt-ltb k 8257536 (omega (arith, read-length d ss e, few-steps d (read-fine d ss e))))
 
   -- all of them in order: as many calls as there are steps, or more, hand out the derivation's steps from k on
-  left : (n k : ℕ) → length ss ≤ k + n → readFrom d k n ≡ drop k ss
+  left : (n k : ℕ) → length ss ≤ k + n → readFrom d (formTest d) k n ≡ drop k ss
   unfolding readFrom
   left zero k h = sym (drop-of-length-le ss {i = k} (omega arith))
   left (suc n) k h =
@@ -92,11 +96,5 @@ module _ (d : List ℕ) (ss : List Step) (e : decodeSteps d ≡ answer ss) where
       rw (hands-out k z l, goes-on k l, left n (k + 1) (omega arith), drop-cons ss k z l, add-one))
       (λ q. let l = ltb-false k (length ss) q in rw (none-left k l) (sym (drop-of-length-le ss {i = k} l)))
 
-  pub reads-all : (n : ℕ) → length ss ≤ n → readFrom d (startOf d) n ≡ ss
-  reads-all n h = rw starts (left n 0 (omega arith))
-
--- a derivation that is refused: none
-pub reads-none : (d : List ℕ) {number place : ℕ} → formTest d ≡ refused number place → (n : ℕ) → readFrom d (startOf d) n ≡ []
-unfolding readFrom
-reads-none d e zero = refl
-reads-none d e (suc n) = rw (no-block d (startOf d) (omega (arith, start-refused d e)))
+  pub reads-all : (n : ℕ) → length ss ≤ n → readFrom d (formTest d) 0 n ≡ ss
+  reads-all n h = left n 0 (omega arith)

@@ -1,84 +1,128 @@
-// A reader over a derivation's bytes, which hands out one step at a time: a struct with the byte slice and a step index, and
-// thin functions over covered ones that take the slice and the index by themselves.
+// A reader over a derivation's bytes, which hands out one step at a time: a struct with the byte slice, a step index and what opening
+// says of the form, and thin functions over a covered one that takes these by themselves.
 ghost use mathlib.Core.Path.{_≡_};
-ghost use Rattle.step_reader.specs.Handed.{nextOf, startOf, afterOf};
+ghost use Prim.Native.Nat.{_+_, _-_, _/_, _<_, _≤_, min};
+ghost use lib.ListN.{length};
+ghost use Rattle.scope.specs.Outcome.{verdictOf};
+ghost use Rattle.scope.specs.Block.{recordsIn};
+ghost use Rattle.rules.specs.Steps.{derivations, formTest};
+ghost use Rattle.steps.specs.Opened.{placeOf};
+ghost use Rattle.step_reader.specs.Handed.{handedOf, countedStep, stepHanded, nextOf, afterOf};
 use rules::Step;
+use scope::Refusal;
 use scope::Verdict;
 
 pub struct Reader<'a> {
     pub src: &'a [u8],
     pub at: usize,
+    pub form: Verdict,
 }
 
-// What the reader hands out: a step, or that none is left.
+// What is handed out: a step, that none is left, or a refusal.
 pub enum Handed {
     Step(Step),
     Done,
+    Refused(Refusal),
 }
 
-// The step at an index, where a block has one there.
+// The block that an index falls in; behind all blocks, the last.
+fn block_of(blocks: usize, at: usize) -> usize
+    requires { ⌜ 0 < blocks ⌝ }
+    ensures { λ r. ⌜ r ≡ min (at / 126) (blocks - 1) ⌝ }
+{
+    let own = at / 126;
+    if own < blocks {
+        return own;
+    }
+    blocks - 1
+}
+
+// A step below the count that the blocks state, and its row 44.
+fn counted_step(d: &[u8], at: usize) -> Handed
+    requires { ⌜ 0 < length (now d) / 512 ⌝ }
+    requires { ⌜ (at < recordsIn derivations (now d) → placeOf at + 4 ≤ length (now d)) ⌝ }
+    ensures { λ r. ⌜ handedOf r ≡ countedStep (now (d .entry)) at ⌝ }
+{
+    if steps::stated(d) <= at {
+        return Handed::Done;
+    }
+    let s = steps::step_at(d, at);
+    if !steps::step_ok(s) {
+        return Handed::Refused(Refusal {
+            number: 44,
+            place: at,
+        });
+    }
+    Handed::Step(s)
+}
+
+// The step at an index: row 40, rows 41 to 43 of its block, row 44.
 pub fn step_of(d: &[u8], at: usize) -> Handed
-    ensures { λ r. ⌜ r ≡ nextOf (now (d .entry)) at ⌝ }
+    ensures { λ r. ⌜ handedOf r ≡ stepHanded (now (d .entry)) at ⌝ }
 {
-    let block = at / 126;
-    if d.len() / 512 <= block {
-        return Handed::Done;
+    if !steps::size_ok(d.len()) {
+        return Handed::Refused(Refusal {
+            number: 40,
+            place: 0,
+        });
     }
-    let count = d[512 * block + 1] as usize;
-    if count <= at % 126 {
-        return Handed::Done;
-    }
-    Handed::Step(steps::step_at(d, at))
-}
-
-// The index at which reading starts: step 0, or behind all blocks where one of 40 to 44 applies.
-pub fn start_of(d: &[u8]) -> usize
-    ensures { λ r. ⌜ r ≡ startOf (now (d .entry)) ⌝ }
-{
-    let v = steps::form_verdict(d);
+    let v = steps::block_verdict(d, block_of(d.len() / 512, at));
     match v {
-        Verdict::Fine => 0,
-        Verdict::Refused(_) => 126 * (d.len() / 512),
+        Verdict::Fine => counted_step(d, at),
+        Verdict::Refused(f) => Handed::Refused(f),
     }
 }
 
-// The index after one that has a step; without a step it stays.
-pub fn after(d: &[u8], at: usize) -> usize
-    ensures { λ r. ⌜ r ≡ afterOf (now (d .entry)) at ⌝ }
+// The same of bytes whose form is known: where it was refused, the refusal.
+pub fn step_from(d: &[u8], at: usize, form: Verdict) -> Handed
+    ensures { λ r. ⌜ handedOf r ≡ nextOf (now (d .entry)) at (verdictOf form) ⌝ }
 {
-    let h = step_of(d, at);
-    match h {
-        Handed::Step(_) => at + 1,
-        Handed::Done => at,
+    match form {
+        Verdict::Fine => step_of(d, at),
+        Verdict::Refused(f) => Handed::Refused(f),
     }
 }
 
-// A reader at the first step. Over a derivation that `steps::count` refuses it has none.
+// The index after one, as long as a derivation may have more steps.
+pub fn after(at: usize) -> usize
+    ensures { λ r. ⌜ r ≡ afterOf at ⌝ }
+{
+    if at < 8257536 {
+        return at + 1;
+    }
+    at
+}
+
+// A reader at the first step. It holds the first refusal of 40 to 44, if there is one.
 pub fn opened<'a>(src: &'a [u8]) -> Reader<'a>
-    ensures { λ r. ⌜ (r .src ≡ src .entry) × (r .at ≡ startOf (now (src .entry))) ⌝ }
+    ensures { λ r. ⌜ (r .src ≡ src .entry) × (r .at ≡ 0) × (verdictOf (r .form) ≡ formTest (now (src .entry))) ⌝ }
 {
-    let at = start_of(src);
-    Reader { src, at }
+    let form = steps::form_verdict(src);
+    Reader { src, at: 0, form }
 }
 
-// The step that the reader is at, or that none is left.
+// The step that the reader is at, that none is left, or the refusal.
 pub fn next<'a>(r: Reader<'a>) -> Handed
-    ensures { λ s. ⌜ s ≡ nextOf (now (r .entry .src)) (r .entry .at) ⌝ }
+    ensures { λ s. ⌜ handedOf s ≡ nextOf (now (r .entry .src)) (r .entry .at) (verdictOf (r .entry .form)) ⌝ }
 {
-    step_of(r.src, r.at)
+    step_from(r.src, r.at, r.form)
 }
 
-// The reader, one step further if one is left.
+// The reader, one step further.
 pub fn moved<'a>(r: Reader<'a>) -> Reader<'a>
-    ensures { λ q. ⌜ (q .src ≡ r .entry .src) × (q .at ≡ afterOf (now (r .entry .src)) (r .entry .at)) ⌝ }
+    ensures { λ q. ⌜ (q .src ≡ r .entry .src) × (q .at ≡ afterOf (r .entry .at)) × (q .form ≡ r .entry .form) ⌝ }
 {
-    let at = after(r.src, r.at);
-    Reader { src: r.src, at }
+    let at = after(r.at);
+    Reader {
+        src: r.src,
+        at,
+        form: r.form,
+    }
 }
 
 // The first step of a derivation.
 pub fn first(d: &[u8]) -> Handed
-    ensures { λ r. ⌜ r ≡ nextOf (now (d .entry)) (startOf (now (d .entry))) ⌝ }
+    ensures { λ r. ⌜ handedOf r ≡ nextOf (now (d .entry)) 0 (formTest (now (d .entry))) ⌝ }
 {
     next(opened(d))
 }

@@ -3,7 +3,7 @@
 use mathlib.Core.Path.{_≡_, _∙_, ap, sym, refl}
 use mathlib.Core.List.{List}
 use mathlib.Core.Bool.{true}
-use Prim.Native.Nat.{ℕ, suc, _+_, _-_, _*_, _/_, _%_, _<_, _≤_}
+use Prim.Native.Nat.{ℕ, suc, _+_, _-_, _*_, _/_, _<_, _≤_}
 use native.Mathlib.Nat.{zero-add}
 use native.Mathlib.Omega.{arith}
 use lib.Dec.{eqb, lit<}
@@ -17,7 +17,7 @@ use Rattle.scope.proofs.Tests.{required, then-first, then-next}
 use Rattle.codec.specs.Valid.{Fits}
 use Rattle.codec.proofs.Rows.{row}
 use Rattle.codec.proofs.Blocks.{Passed, passed}
-use Rattle.codec.proofs.Files.{whole-length, block-of as record-block}
+use Rattle.codec.proofs.Files.{whole-length}
 use Rattle.rules.specs.declared.Step.{Step}
 use Rattle.rules.specs.Steps.{derivations, stepAt, stepOk, sizeOk, formTest, decodeSteps}
 use Rattle.steps.specs.Opened.{placeOf, blockRow, stepRow}
@@ -30,15 +30,11 @@ pub whole-blocks : (n : ℕ) → sizeOk n ≡ true → (0 < n / 512) × (n ≡ 5
 unfolding sizeOk
 whole-blocks = whole-length 65536
 
--- blocks that pass rows 41 to 43
-module _ (d : List ℕ) (some : 0 < length d / 512) (blocks : first (blockRow d) 0 (length d / 512) ≡ fine) where
-  pub block-fine : (j : ℕ) → j < length d / 512 → blockRow d j ≡ fine
-  block-fine j h = fine-each (blockRow d) (length d / 512) 0 blocks j (omega arith) (omega arith)
-
+-- a last block that passes rows 41 to 43: there are steps, and no more than the blocks can hold
+module _ (d : List ℕ) (some : 0 < length d / 512) (last : blockRow d (length d / 512 - 1) ≡ fine) where
   last-passed : Passed derivations (blockAt d (length d / 512 - 1)) (length d / 512 - 1) (eqb (suc (length d / 512 - 1)) (length d / 512))
-  last-passed = passed derivations _ _ _ (block-fine (length d / 512 - 1) (omega arith))
+  last-passed = passed derivations _ _ _ last
 
-  -- there are steps, and no more than the blocks can hold
   pub steps-some : 0 < recordsIn derivations d
   unfolding recordsIn
   steps-some = omega (arith, last-passed .some)
@@ -47,15 +43,25 @@ module _ (d : List ℕ) (some : 0 < length d / 512) (blocks : first (blockRow d)
   unfolding recordsIn
   steps-most = omega (arith, last-passed .most)
 
-  -- every step lies within the bytes
-  pub steps-inside : (k : ℕ) → k < recordsIn derivations d → placeOf k + 4 ≤ length d
-  steps-inside k h = omega (arith, steps-most)
+-- all blocks pass
+module _ (d : List ℕ) (some : 0 < length d / 512) (blocks : first (blockRow d) 0 (length d / 512) ≡ fine) where
+  pub block-fine : (j : ℕ) → j < length d / 512 → blockRow d j ≡ fine
+  block-fine j h = fine-each (blockRow d) (length d / 512) 0 blocks j (omega arith) (omega arith)
+
+  last-fine : blockRow d (length d / 512 - 1) ≡ fine
+  last-fine = block-fine (length d / 512 - 1) (omega arith)
+
+  pub steps-fit : recordsIn derivations d ≤ 126 * (length d / 512)
+  steps-fit = steps-most d some last-fine
 
 -- a derivation whose form passes
 module _ (d : List ℕ) (test : formTest d ≡ fine) where
-  pub size-met : (0 < length d / 512) × (length d ≡ 512 * (length d / 512)) × (length d / 512 ≤ 65536)
+  pub size-right : sizeOk (length d) ≡ true
   unfolding formTest
-  size-met = whole-blocks (length d) (row (sizeOk (length d)) 40 0 _ test .0)
+  size-right = row (sizeOk (length d)) 40 0 _ test .0
+
+  pub size-met : (0 < length d / 512) × (length d ≡ 512 * (length d / 512)) × (length d / 512 ≤ 65536)
+  size-met = whole-blocks (length d) size-right
 
   pub blocks-met : first (blockRow d) 0 (length d / 512) ≡ fine
   unfolding formTest
@@ -67,14 +73,14 @@ module _ (d : List ℕ) (test : formTest d ≡ fine) where
 
   -- 1 to 8,257,536 steps
   pub some-steps : 0 < recordsIn derivations d
-  some-steps = steps-some d (size-met .0) blocks-met
+  some-steps = steps-some d (size-met .0) (last-fine d (size-met .0) blocks-met)
 
   pub few-steps : recordsIn derivations d ≤ 8257536
-  few-steps = omega (arith, steps-most d (size-met .0) blocks-met, size-met .2)
+  few-steps = omega (arith, steps-fit d (size-met .0) blocks-met, size-met .2)
 
   -- each lies within the bytes
   pub step-within : (k : ℕ) → k < recordsIn derivations d → placeOf k + 4 ≤ length d
-  step-within = steps-inside d (size-met .0) blocks-met
+  step-within k h = omega (arith, steps-fit d (size-met .0) blocks-met)
 
   -- .. and is formed
   pub step-formed : (k : ℕ) → k < recordsIn derivations d → stepOk (stepAt d k) ≡ true
@@ -85,19 +91,6 @@ module _ (d : List ℕ) (test : formTest d ≡ fine) where
   pub steps-read : decodeSteps d ≡ answer (listFrom (stepAt d) 0 (recordsIn derivations d))
   unfolding decodeSteps
   steps-read = rw test
-
-  -- the block of a step, and the step's place in it
-  pub block-of : (k : ℕ) → k < recordsIn derivations d → (k / 126 < length d / 512) × (k % 126 < getD (blockAt d (k / 126)) 1 0)
-  block-of k h =
-      let b = record-block derivations fits d (length d / 512) (size-met .1) (size-met .0) (block-fine d (size-met .0) blocks-met) k h in
-      (b .0, omega (arith, b .1))
-
-  -- behind the last step there is no block, or the block's count is reached
-  pub block-past : (k : ℕ) → recordsIn derivations d ≤ k → k / 126 < length d / 512 → getD (blockAt d (k / 126)) 1 0 ≤ k % 126
-  unfolding recordsIn
-  block-past k h l =
-      let q : length d / 512 - 1 ≡ k / 126 = omega arith in
-      omega (arith, rw q at h)
 
 -- a derivation that reads: its form passes, and its steps are those of its places
 module _ (d : List ℕ) (ss : List Step) (e : decodeSteps d ≡ answer ss) where

@@ -1,6 +1,5 @@
 // Reading a derivation: the first refusal of 40 to 44, the step count, the step at an index.
 ghost use mathlib.Core.Path.{_≡_};
-ghost use mathlib.Core.Bool.{Bool};
 ghost use Prim.Native.Nat.{_+_, _*_, _/_, _<_, _≤_, _^_};
 ghost use lib.ListN.{length};
 ghost use Rattle.scope.specs.Outcome.{verdictOf, first};
@@ -31,7 +30,7 @@ fn derivations() -> Format
 }
 
 // Row 40.
-fn size_ok(n: usize) -> bool
+pub fn size_ok(n: usize) -> bool
     ensures { λ r. ⌜ r ≡ sizeOk n ⌝ }
 {
     if n == 0 {
@@ -96,7 +95,7 @@ pub fn stated(d: &[u8]) -> usize
 }
 
 // Rows 41 to 43 of block j.
-fn block_verdict(d: &[u8], j: usize) -> Verdict
+pub fn block_verdict(d: &[u8], j: usize) -> Verdict
     requires { ⌜ j < length (now d) / 512 ⌝ }
     ensures { λ r. ⌜ verdictOf r ≡ blockRow (now (d .entry)) j ⌝ }
 {

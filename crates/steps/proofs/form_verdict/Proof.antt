@@ -7,7 +7,7 @@ use borrow.Author.Tests.{not-true, not-false}
 use Rattle.scope.specs.Outcome.{fine, verdictOf, first}
 use Rattle.rules.specs.Steps.{sizeOk}
 use Rattle.steps.specs.Opened.{blockRow, stepRow}
-use Rattle.steps.proofs.Form.{whole-blocks, steps-most}
+use Rattle.steps.proofs.Form.{whole-blocks, steps-fit}
 use Rattle.steps.proofs.Rows.{size-refused, blocks-refused, forms-left}
 use native.Mathlib.Omega.{arith}
 use borrow.Author.Needs.{needs}
@@ -18,7 +18,7 @@ use Rattle.steps.proofs.form_verdict.Tie as tie
 size : (c : tie.Else1) → sizeOk (length (c .before .before .before .args .d .now)) ≡ true
 size c = sym (c .before .size-ok .ensures) ∙ not-false _ (c .if1 .left)
 
-blocks : (c : tie.After-enum-told) → first (blockRow (c .before .before .before .before .before .before .args .d .now)) 0 (length (c .before .before .before .before .before .before .args .d .now) / 512) ≡ fine
+blocks : (c : tie.After-enum-told) → let d = c .before .before .before .before .before .before .args .d .now in first (blockRow d) 0 (length d / 512) ≡ fine
 blocks c = sym (c .before .before .blocks-verdict .ensures) ∙ ap verdictOf (c .enum-told .given .1)
 
 size-ok-requires : tie.Need-size-ok-requires
@@ -46,7 +46,7 @@ stated-requires c κs = whole-blocks _ (size (c .before .before .before)) .0
 
 forms-verdict-requires : tie.Need-forms-verdict-requires
 forms-verdict-requires c κs =
-    let most = steps-most _ (whole-blocks _ (size (c .before .before .before .before)) .0) (blocks (c .before)) in
+    let most = steps-fit _ (whole-blocks _ (size (c .before .before .before .before)) .0) (blocks (c .before)) in
     omega (arith, most, c .stated .ensures)
 
 returns-3 : tie.Need-returns-3

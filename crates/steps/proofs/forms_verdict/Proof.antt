@@ -19,7 +19,8 @@ abbrev μ-loop : tie.MeasureT-loop
 μ-loop d steps k₀ k = steps - k
 
 -- the test of step k is that of its four bytes
-tested : (c : tie.After-step-ok Inv-loop μ-loop) → c .step-ok .result ≡ stepOk (stepAt (c .before .before .before .before .before .args .d .now) (c .before .before .before .loop .k))
+tested : (c : tie.After-step-ok Inv-loop μ-loop) → let l = c .before .before .before in
+    c .step-ok .result ≡ stepOk (stepAt (l .before .before .args .d .now) (l .loop .k))
 tested c = c .step-ok .ensures ∙ ap stepOk (c .before .step-at .ensures)
 
 loop-holds : tie.Need-loop-holds Inv-loop μ-loop

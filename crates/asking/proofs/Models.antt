@@ -1,36 +1,36 @@
 -- From the search to the truth of goals: a readable table's nodes are a Table, the truths under a setting are a Model, and so the
--- calculus' theorems speak of settings. And nodes that agree below n give one search. Assumes nothing.
+-- calculus' theorems speak of settings, as evaluate takes them. Assumes nothing.
 use mathlib.Core.Path.{_≡_, refl, sym, ap, _∙_}
 use mathlib.Core.List.{List, [], _∷_, _++_}
 use mathlib.Core.Bool.{Bool, true, false, cond, false≢true}
-use Prim.Native.Nat.{ℕ, zero, suc, _+_, _*_, _/_, _<_, _≤_}
+use Prim.Native.Nat.{ℕ, _*_, _/_, _<_, _≤_}
 use native.Mathlib.Omega.{arith}
 use native.Mathlib.Decide.{decLt}
-use lib.Dec.{eqb}
-use lib.ListN.{length, List·getD-append}
-use borrow.Author.Tests.{eq-eqb, eqb-true, le-ltb}
+use lib.Dec.{eqb, ltb}
+use lib.ListN.{length, getD, length-append, List·getD-append}
+use borrow.Author.Tests.{eq-eqb, eqb-true, le-ltb, lt-ltb, le-leb}
 use Rattle.scope.specs.declared.Node.{Node}
-use Rattle.scope.specs.Outcome.{answer}
+use Rattle.scope.specs.Outcome.{answer, fine, require}
 use Rattle.scope.specs.Table.{nodeBytes, formOk, orderOk, sameNode, decode}
 use Rattle.scope.specs.Truth.{litTruth, truth}
-use Rattle.scope.proofs.Tests.{and-right}
+use Rattle.scope.specs.Calls.{settingsTest, evaluate}
+use Rattle.scope.proofs.Tests.{and-right, met, then-next}
+use Rattle.scope.proofs.First.{all-fine}
 use Rattle.codec.specs.Valid.{Bytes, Valid}
 use Rattle.codec.proofs.Records.{reads, small}
 use Rattle.codec.proofs.Tables.{read-valid, valid-ordered}
 use Rattle.truth.specs.Evaluated.{Low}
 use Rattle.truth.proofs.Low.{readable-low}
 use Rattle.truth.proofs.Truths.{lit-even, true-true, atom-point, node-joins}
-use Rattle.calculus.specs.Expansion.{expand}
-use Rattle.calculus.specs.Order.{mem, bit, settingOf, clauses, move, Tree, tree, possible, impossible, answerOf}
-use Rattle.calculus.specs.Model.{Table, litTrue, Model, ByAtoms, Below, Good}
-use Rattle.calculus.specs.Decide.{nodesOf, searchOf}
-use Rattle.calculus.proofs.Literals.{is-false}
-use Rattle.calculus.proofs.Count.{room}
-use Rattle.calculus.proofs.Search.{Grown, closes, joins, ends, parts, grown-whole}
+use Rattle.calculus.specs.Order.{mem, bit, settingOf, Answer, possible, impossible, unfinished, answerOf}
+use Rattle.calculus.specs.Model.{All, Table, litTrue, Model, ByAtoms, Below}
+use Rattle.calculus.specs.Decide.{nodesOf, searchOf, Satisfies, Unsatisfiable, _⇔_}
+use Rattle.calculus.proofs.Lists.{all-imply}
+use Rattle.calculus.proofs.Search.{never-cut}
 use Rattle.calculus.proofs.Sound.{sound}
 use Rattle.calculus.proofs.Complete.{complete}
-use Rattle.calculus.proofs.Setting.{setting-atom, setting-length}
-use Rattle.clause.specs.Indexed.{Apart}
+use Rattle.calculus.proofs.Setting.{setting-atom, setting-length, setting-bits}
+use Rattle.index.specs.Indexed.{Apart}
 
 -- ---- a readable table's nodes
 
@@ -115,60 +115,55 @@ module _ (t : List ℕ) (rs : List Node) (all : Bytes t) (e : decode t ≡ answe
       ∙ ap (λ (x : ℕ). eqb x 1) (List·getD-append (settingOf rs G) rest 0 (nodesOf rs i .a) (omega (arith, setting-length rs G)) ∙ setting-atom rs G (table-of t rs all e) i h k b)
       ∙ bit-test (mem (2 * i) G)
 
-  module _ (goal : ℕ) (b : goal < 2 * length rs) where
-    -- impossible: no setting makes the goal true
-    pub never-true : answerOf (searchOf rs (goal ∷ [])) ≡ impossible → (s : List ℕ) → truth s rs goal ≡ false
-    never-true q s =
-        is-false (truth s rs goal)
-        (λ h. sound (length rs) (nodesOf rs) (goal ∷ []) (table-of t rs all e) (b, tt) q (λ i. truth s rs (2 * i)) (model-of s)
-        (literal-truth s rs goal ∙ h, tt))
+  module _ (goals : List ℕ) (B : Below (length rs) goals) where
+    -- impossible: no setting makes all goals true
+    pub never-true : answerOf (searchOf rs goals) ≡ impossible → (s : List ℕ) → All (λ g. truth s rs g ≡ true) goals → ⊥
+    never-true q s h =
+        sound (length rs) (nodesOf rs) goals (table-of t rs all e) B q (λ i. truth s rs (2 * i)) (model-of s)
+        (all-imply (λ g. truth s rs g ≡ true) _ (λ g z. literal-truth s rs g ∙ z) goals h)
 
-    -- possible: the final list's setting makes it true
-    pub made-true : {G : List ℕ} → answerOf (searchOf rs (goal ∷ [])) ≡ possible G → (rest : List ℕ) → truth (settingOf rs G ++ rest) rs goal ≡ true
+    -- possible: the final list's setting does
+    pub made-true : {G : List ℕ} → answerOf (searchOf rs goals) ≡ possible G → (rest : List ℕ) → All (λ g. truth (settingOf rs G ++ rest) rs g ≡ true) goals
     made-true {G} q rest =
-        sym (literal-truth (settingOf rs G ++ rest) rs goal)
-        ∙ complete (length rs) (nodesOf rs) (goal ∷ []) (table-of t rs all e) (b, tt) G q .1 (λ i. truth (settingOf rs G ++ rest) rs (2 * i))
-        (model-of (settingOf rs G ++ rest)) (atoms-of G rest) .1 .0
+        let s : List ℕ = settingOf rs G ++ rest in
+        all-imply _ (λ g. truth s rs g ≡ true) (λ g z. sym (literal-truth s rs g) ∙ z) goals
+        (complete (length rs) (nodesOf rs) goals (table-of t rs all e) B G q .1 (λ i. truth s rs (2 * i)) (model-of s) (atoms-of G rest) .1)
 
--- ---- nodes that agree below n
+-- ---- one goal, and evaluate
 
-module _ (n : ℕ) (t u : ℕ → Node) (same : (i : ℕ) → i < n → t i ≡ u i) where
-  expand-same : (l : ℕ) → l < 2 * n → expand t l ≡ expand u l
-  unfolding expand
-  expand-same l h = rw (same (l / 2) (omega arith))
+-- the bytes of a setting are 0 and 1
+setting-taken : (rs : List Node) (G rest : List ℕ) → settingsTest (settingOf rs G ++ rest) ≡ fine
+unfolding settingsTest
+setting-taken rs G rest =
+    let long : 1024 ≤ length (settingOf rs G ++ rest) = omega (arith, length-append (settingOf rs G) rest, setting-length rs G) in
+    rw (le-leb 1024 (length (settingOf rs G ++ rest)) long)
+    (all-fine _ 1024 0 (λ p a h.
+    met _ 22 p (lt-ltb (getD (settingOf rs G ++ rest) p 0) 2
+    (rw (List·getD-append (settingOf rs G) rest 0 p (omega (arith, setting-length rs G))) (setting-bits rs G p)))))
 
-  pub table-same : Table n u → Table n t
-  table-same T = record {
-    kinds = λ i h. rw (same i h) (T .kinds i h);
-    left = λ i h. rw (same i h) (T .left i h);
-    right = λ i h. rw (same i h) (T .right i h);
-    atoms = λ i j h b. rw (same i h, same j b) (T .atoms i j h b);
-  }
+module _ (t : List ℕ) (rs : List Node) (all : Bytes t) (e : decode t ≡ answer rs) (goal : ℕ) where
+  -- what evaluate calls true is
+  pub evaluated-true : (v : List ℕ) → Satisfies t goal v → truth v rs goal ≡ true
+  unfolding evaluate
+  evaluated-true v q =
+      let a = then-next (require (ltb goal (2 * length rs)) 20 0) _ (rw e at q) in
+      let z : answer (truth v rs goal) ≡ answer true = then-next (settingsTest v) _ a in
+      cc
 
-  pub apart-same : Apart n u → Apart n t
-  apart-same A i h = rw (same i h) (A i h)
+  module _ (b : goal < 2 * length rs) where
+    pub none-satisfies : answerOf (searchOf rs (goal ∷ [])) ≡ impossible → Unsatisfiable t goal
+    none-satisfies q v h = never-true t rs all e (goal ∷ []) (b, tt) q v (evaluated-true v h, tt)
 
-  module _ (goals : List ℕ) where
-    pub clauses-same : (G : List ℕ) → Good n G → clauses (expand t) goals G ≡ clauses (expand u) goals G
-    unfolding clauses
-    clauses-same [] g = refl
-    clauses-same (l ∷ G) g = rw (clauses-same G (g .1), expand-same l (g .0 .0))
+    pub setting-satisfies : {G : List ℕ} → answerOf (searchOf rs (goal ∷ [])) ≡ possible G → (rest : List ℕ) → Satisfies t goal (settingOf rs G ++ rest)
+    unfolding evaluate
+    setting-satisfies {G} q rest =
+        rw (e, lt-ltb goal (2 * length rs) b, setting-taken rs G rest) (ap answer (made-true t rs all e (goal ∷ []) (b, tt) q rest .0))
 
-    move-same : (G : List ℕ) → Good n G → move (expand t) goals G ≡ move (expand u) goals G
-    unfolding move
-    move-same G g = rw (clauses-same G g)
-
-    -- the tree that is grown over t is that over u
-    pub grown-same : (fuel : ℕ) {G : List ℕ} {tr : Tree} → Grown n t goals G tr → n ≤ fuel + length G → tree (expand u) goals fuel G ≡ tr
-    unfolding tree
-    grown-same zero {G} (closes g m) h = rw (← move-same G g, m)
-    grown-same (suc fuel) {G} (closes g m) h = rw (← move-same G g, m)
-    grown-same zero {G} (ends g m) h = rw (← move-same G g, m)
-    grown-same (suc fuel) {G} (ends g m) h = rw (← move-same G g, m)
-    grown-same zero {G} (joins {l = l} g m f r) h = absurd (omega (arith, room n G l g f))
-    grown-same (suc fuel) {G} (joins {l = l} g m f r) h = rw (← move-same G g, m, grown-same fuel r (omega arith))
-    grown-same zero {G} (parts {l = l} g m f p q) h = absurd (omega (arith, room n G l g f))
-    grown-same (suc fuel) {G} (parts {l = l} g m f p q) h = rw (← move-same G g, m, grown-same fuel p (omega arith), grown-same fuel q (omega arith))
-
-    pub search-same : Table n t → Below n goals → tree (expand t) goals n [] ≡ tree (expand u) goals n []
-    search-same T B = sym (grown-same n (grown-whole n t goals T B) (omega arith))
+    -- impossible exactly when no setting makes the goal true
+    pub search-exact : (answerOf (searchOf rs (goal ∷ [])) ≡ impossible) ⇔ Unsatisfiable t goal
+    search-exact = (none-satisfies, λ none. go none (answerOf (searchOf rs (goal ∷ []))) refl)
+      where
+        go : Unsatisfiable t goal → (a : Answer) → answerOf (searchOf rs (goal ∷ [])) ≡ a → a ≡ impossible
+        go none (possible G) q = absurd (none (settingOf rs G ++ []) (setting-satisfies q []))
+        go none impossible q = refl
+        go none unfinished q = absurd (never-cut (length rs) (nodesOf rs) (goal ∷ []) (table-of t rs all e) (b, tt) q)

@@ -1,0 +1,2 @@
+-- What a search is given. Assumes nothing.
+pub mod Asks

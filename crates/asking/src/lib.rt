@@ -1,0 +1,98 @@
+// What decide, derive and check ask before they search: rows 10 to 17, 20, 21 and 23 in one place, over a list of goals; and the index
+// of the table's nodes, which they work on.
+use scope::Refusal;
+use scope::Verdict;
+use table::Counted;
+ghost use mathlib.Core.Path.{_≡_};
+ghost use Prim.Native.Nat.{_≤_, min};
+ghost use lib.ListN.{length};
+ghost use Rattle.scope.specs.Outcome.{verdictOf};
+ghost use Rattle.calculus.specs.Decide.{goalsTest, rowsTest};
+ghost use Rattle.index.specs.Index.{indexSize, mostNodes};
+ghost use Rattle.asking.specs.Asks.{mostGoals, Asks};
+
+// A goal as a 16-bit number; one that is too large for that is too large for any table, and stays so.
+pub fn literal(goal: usize) -> u16
+    ensures { λ r. ⌜ r ≡ min goal 65535 ⌝ }
+{
+    if goal < 65535 { goal as u16 } else { 65535 }
+}
+
+fn wide(l: u16) -> usize
+    ensures { λ r. ⌜ r ≡ l ⌝ }
+{
+    l as usize
+}
+
+// Row 20: each goal in turn.
+fn goal_row(nodes: usize, goals: &[u16]) -> Verdict
+    requires { ⌜ nodes ≤ mostNodes ⌝ }
+    ensures { λ r. ⌜ verdictOf r ≡ goalsTest nodes (now (goals .entry)) ⌝ }
+{
+    let mut i = 0;
+    while i < goals.len() {
+        if 2 * nodes <= wide(goals[i]) {
+            return Verdict::Refused(Refusal {
+                number: 20,
+                place: i,
+            });
+        }
+        i += 1;
+    }
+    Verdict::Fine
+}
+
+// Rows 20, 21 and 23.
+fn rows(nodes: usize, goals: &[u16], needed: usize, points: usize, area: usize) -> Verdict
+    requires { ⌜ nodes ≤ mostNodes ⌝ }
+    ensures { λ r. ⌜ verdictOf r ≡ rowsTest nodes (now (goals .entry)) needed points area ⌝ }
+{
+    let v = goal_row(nodes, goals);
+    match v {
+        Verdict::Refused(f) => Verdict::Refused(f),
+        Verdict::Fine => {
+            if points < needed {
+                return Verdict::Refused(Refusal {
+                    number: 21,
+                    place: 0,
+                });
+            }
+            if area < 32768 {
+                return Verdict::Refused(Refusal {
+                    number: 23,
+                    place: 0,
+                });
+            }
+            Verdict::Fine
+        }
+    }
+}
+
+// The node count of a table to which the goals may be put, and the index of its nodes; or the first row's refusal.
+pub fn ask(
+    t: &[u8],
+    goals: &[u16],
+    needed: usize,
+    points: usize,
+    area: usize,
+    x: &mut [u16],
+) -> Counted
+    requires { ⌜ length (now goals) ≤ mostGoals ⌝ }
+    requires { ⌜ length (now x) ≡ indexSize ⌝ }
+    ensures { λ r. ⌜ Asks (now (t .entry)) (now (goals .entry)) needed points area (now (x .exit)) r ⌝ }
+{
+    let c = table::count(t);
+    match c {
+        Counted::Refused(f) => Counted::Refused(f),
+        Counted::Nodes(nodes) => {
+            let v = rows(nodes, goals, needed, points, area);
+            match v {
+                Verdict::Refused(f) => Counted::Refused(f),
+                Verdict::Fine => {
+                    index::build(t, nodes, x);
+                    Counted::Nodes(nodes)
+                }
+            }
+        }
+    }
+}

@@ -1,0 +1,55 @@
+-- Laws of `asked`: when the rows before a search refuse nothing, and what is then known. Assumes nothing.
+use mathlib.Core.Path.{_≡_, ap, _∙_}
+use mathlib.Core.List.{List}
+use Prim.Native.Nat.{ℕ, _*_, _<_, _≤_}
+use native.Mathlib.Omega.{arith}
+use lib.Dec.{leb}
+use lib.ListN.{length, getD}
+use borrow.Author.Tests.{lt-ltb, le-leb, ltb-true, leb-true}
+use Rattle.scope.specs.declared.Node.{Node}
+use Rattle.scope.specs.Outcome.{answer, fine, require, _>>_}
+use Rattle.scope.specs.Table.{decode}
+use Rattle.scope.proofs.Tests.{met, required, then-first, then-next, bound}
+use Rattle.scope.proofs.First.{all-fine, fine-each}
+use Rattle.calculus.specs.Model.{Below}
+use Rattle.calculus.specs.Decide.{goalRow, goalsTest, rowsTest, Admitted, asked}
+use Rattle.calculus.proofs.Lists.{all-at, all-index}
+
+module _ (nodes : ℕ) (goals : List ℕ) (needed points area : ℕ) where
+  pub rows-fine : Admitted nodes goals needed points area → rowsTest nodes goals needed points area ≡ fine
+  unfolding rowsTest
+  rows-fine r =
+      let g : goalsTest nodes goals ≡ fine =
+      all-fine (goalRow nodes goals) (length goals) 0 (λ k a h.
+      met _ 20 k (lt-ltb (getD goals k 0) (2 * nodes) (all-at (λ l. l < 2 * nodes) goals k 0 (r .below) (omega arith)))) in
+      rw (g, le-leb needed points (r .settings), le-leb 32768 area (r .work))
+
+  pub rows-met : rowsTest nodes goals needed points area ≡ fine → Admitted nodes goals needed points area
+  unfolding rowsTest
+  rows-met e =
+      let g = then-first (goalsTest nodes goals) _ e in
+      let r = then-next (goalsTest nodes goals) _ e in
+      record {
+        below = all-index (λ l. l < 2 * nodes) goals 0
+            (λ k h. ltb-true (getD goals k 0) (2 * nodes) (required _ 20 k (fine-each (goalRow nodes goals) (length goals) 0 g k (omega arith) (omega arith))));
+        settings = leb-true needed points (required _ 21 0 (then-first (require (leb needed points) 21 0) _ r));
+        work = leb-true 32768 area (required _ 23 0 (then-next (require (leb needed points) 21 0) _ r));
+      }
+
+-- a table that reads
+module _ (t goals : List ℕ) (needed points area : ℕ) where
+  pub asked-rows : {rs : List Node} → decode t ≡ answer rs → asked t goals needed points area ≡ (rowsTest (length rs) goals needed points area >> answer rs)
+  unfolding asked
+  asked-rows e = rw e
+
+  pub asked-fine : {rs : List Node} → decode t ≡ answer rs → Admitted (length rs) goals needed points area → asked t goals needed points area ≡ answer rs
+  asked-fine {rs} e r = asked-rows e ∙ rw (rows-fine (length rs) goals needed points area r)
+
+  pub asked-read : {rs : List Node} → asked t goals needed points area ≡ answer rs → (decode t ≡ answer rs) × Admitted (length rs) goals needed points area
+  unfolding asked
+  asked-read {rs} e =
+      let b = bound (decode t) _ e in
+      let r : rowsTest (length (b .0)) goals needed points area ≡ fine = then-first _ _ (b .2) in
+      let s : answer (b .0) ≡ answer rs = then-next (rowsTest (length (b .0)) goals needed points area) _ (b .2) in
+      let q : b .0 ≡ rs = cc in
+      (b .1 ∙ ap answer q, rw q at (rows-met (length (b .0)) goals needed points area r))
