@@ -1,7 +1,4 @@
--- Laws of the clauses of a literal, for the proofs of the functions. Assumes nothing.
+-- Laws of the clauses of a literal and of its code. Assumes nothing.
 pub mod Rows
-pub mod Choices
-pub mod Storing
-pub mod Falls
-pub mod After
-pub mod Room
+pub mod States
+pub mod Codes

@@ -1,245 +1,239 @@
--- The clauses of a literal as four numbers: the code's rows against the calculus' templates, and what the numbers say. Assumes nothing.
+-- The rows of the code against the calculus' templates: each choice is of an operand, and three choices are a clause. Assumes nothing.
 use mathlib.Core.Path.{_≡_, refl, sym, ap, _∙_}
 use mathlib.Core.Bool.{true, false≢true}
-use mathlib.Core.Logic.{_⊎_, inl, inr}
 use mathlib.Core.List.{List, [], _∷_, map}
-use Prim.Native.Nat.{ℕ, zero, suc, _+_, _*_, _/_, _%_, _<_, _≤_}
+use Prim.Native.Nat.{ℕ, zero, suc, _+_, _-_, _*_, _/_, _%_, _<_, _≤_}
 use native.Mathlib.Omega.{arith}
+use native.Mathlib.Nat.{zero-add}
 use native.Mathlib.Decide.{decLt}
 use lib.Dec.{ltb}
 use lib.ListN.{length, getD, length-map, List·getD-map}
-use borrow.Author.Tests.{ltb-true, lt-ltb, ne-eqb}
+use borrow.Author.Tests.{ltb-true}
 use Rattle.scope.specs.declared.Node.{Node}
+use Rattle.scope.specs.Table.{listFrom}
+use Rattle.scope.proofs.Lists.{getD-listFrom}
 use Rattle.calculus.specs.Expansion.{chosen, templates, expand}
-use Rattle.calculus.specs.Order.{mem, Value, holds, fails, undecided, valueOf, empty, joined, stateOf, clauses}
-use Rattle.calculus.specs.Model.{All, Table, Below}
-use Rattle.calculus.proofs.Lists.{every, every-all, all-getD, all-imply, getD-map}
+use Rattle.calculus.specs.Order.{clauses}
+use Rattle.calculus.specs.Model.{All}
+use Rattle.calculus.proofs.Lists.{every, every-all, all-getD, all-imply, all-each, getD-map}
 use Rattle.calculus.proofs.Rows.{bare, row-bare}
 use Rattle.calculus.proofs.Sizes.{Short, expand-few, clauses-short}
-use Rattle.calculus.proofs.Fresh.{clauses-below}
-use Rattle.trail.specs.Trail.{valueCode}
-use Rattle.index.specs.Index.{always, never}
-use Rattle.clause.specs.Templates.{choiceAt, rowFor, rows, cell, choice}
-use Rattle.clause.specs.Classes.{classOf, classAt, filled, unfilled, wideValue, pairClass}
+use Rattle.index.specs.Index.{indexNode, operands, always}
+use Rattle.index.specs.Indexed.{Indexed}
+use Rattle.index.proofs.Cells.{operands-none, operands-two}
+use Rattle.clause.specs.Templates.{choiceAt, rows, cell}
 
--- ---- the rows of the code and the templates of the calculus
+-- ---- the choices of the templates
 
--- the choices of the templates are below 4
-choices-right : (y : Node) → map (map (map (chosen y))) templates ≡ map (map (map (choice y))) templates
-unfolding templates choice
-choices-right y = refl
+-- a choice of an operand, of a node that has operands
+abbrev pub Chooses : Node → ℕ → Type 0
+Chooses y c = (2 < y .kind) × (c < 4)
 
--- a row's choices and its count
-row-choice : (row i : ℕ) → row < 14 → i < 4 → cell row i ≡ choiceAt (getD templates row []) i
-unfolding rows templates
-row-choice row i h k = ap (λ (r : List ℕ). getD r i 0) (getD-map rowFor templates row [] [] h) ∙ go i k
-  where
-    cs : List (List ℕ)
-    cs = getD templates row []
-
-    go : (i : ℕ) → i < 4 → getD (rowFor cs) i 0 ≡ choiceAt cs i
-    go zero k = refl
-    go (suc zero) k = refl
-    go (suc (suc zero)) k = refl
-    go (suc (suc (suc zero))) k = refl
-    go (suc (suc (suc (suc i)))) k = absurd (omega arith)
-
-row-count : (row : ℕ) → row < 14 → cell row 4 ≡ length (getD templates row [])
-unfolding rows templates
-row-count row h = ap (λ (r : List ℕ). getD r 4 0) (getD-map rowFor templates row [] [] h)
-
--- what 4, 5 and the choices of the clauses have, each choice has
-choice-low : (cs : List (List ℕ)) (P : ℕ → Type 0) → P 4 → P 5 → All (All P) cs → (i : ℕ) → P (choiceAt cs i)
-choice-low cs P p q a i =
-    all-getD P (getD cs (i / 2) (4 ∷ 4 ∷ [])) (i % 2) 5 q (all-getD (All P) cs (i / 2) (4 ∷ 4 ∷ []) (p, (p, tt)) a)
-
--- no choice is above 5, and a clause without literals has none below 4
-rows-low : every (every (every (λ c. ltb c 6))) templates ≡ true
+rows-low : every (every (every (λ c. ltb c 4))) templates ≡ true
 unfolding templates
 rows-low = refl
 
-row-low : (row : ℕ) → All (All (λ c. c < 6)) (getD templates row [])
+row-low : (row : ℕ) → All (All (λ c. c < 4)) (getD templates row [])
 row-low row =
-    all-imply (λ c. every (λ m. ltb m 6) c ≡ true) (All (λ c. c < 6))
-    (λ c e. all-imply (λ m. ltb m 6 ≡ true) (λ m. m < 6) (λ m. ltb-true m 6) c (every-all (λ m. ltb m 6) c e)) (getD templates row [])
-    (every-all (every (λ m. ltb m 6)) (getD templates row [])
-    (all-getD (λ r. every (every (λ m. ltb m 6)) r ≡ true) templates row [] refl (every-all (every (every (λ m. ltb m 6))) templates rows-low)))
+    all-imply (λ c. every (λ m. ltb m 4) c ≡ true) (All (λ c. c < 4))
+    (λ c e. all-imply (λ m. ltb m 4 ≡ true) (λ m. m < 4) (λ m. ltb-true m 4) c (every-all (λ m. ltb m 4) c e)) (getD templates row [])
+    (every-all (every (λ m. ltb m 4)) (getD templates row [])
+    (all-getD (λ r. every (every (λ m. ltb m 4)) r ≡ true) templates row [] refl (every-all (every (every (λ m. ltb m 4))) templates rows-low)))
 
-bare-high : (c : List ℕ) → bare c ≡ true → All (λ m. 4 ≤ m) c
-bare-high [] e = tt
-bare-high (m ∷ c) e = absurd (false≢true e)
+-- a clause without literals has none
+bare-all : (P : ℕ → Type 0) (c : List ℕ) → bare c ≡ true → All P c
+bare-all P [] e = tt
+bare-all P (m ∷ c) e = absurd (false≢true e)
 
--- ---- a literal's numbers by its row
+-- the clauses of a node's literal of a sign, as choices
+abbrev pub rowOf : Node → ℕ → List (List ℕ)
+rowOf y sign = getD templates (2 * y .kind + sign) []
 
--- what a choice of a row gives is the literal of the clauses
-filled-choice : (y : Node) (cs : List (List ℕ)) (i : ℕ) → filled (map (map (choice y)) cs) i ≡ choice y (choiceAt cs i)
-unfolding filled choice
-filled-choice y cs i =
-    ap (λ (c : List ℕ). getD c (i % 2) never) (List·getD-map (map (choice y)) cs (i / 2) (4 ∷ 4 ∷ []))
-    ∙ List·getD-map (choice y) (getD cs (i / 2) (4 ∷ 4 ∷ [])) (i % 2) 5
+pub row-chooses : (y : Node) (sign : ℕ) → sign < 2 → All (All (Chooses y)) (rowOf y sign)
+row-chooses y sign s = go (decLt (y .kind) 3)
+  where
+    go : Dec (y .kind < 3) → All (All (Chooses y)) (rowOf y sign)
+    go (yes h) = all-imply (λ c. bare c ≡ true) (All (Chooses y)) (bare-all (Chooses y)) (rowOf y sign) (row-bare (y .kind) sign h s)
+    go (no h) =
+        all-imply (All (λ c. c < 4)) (All (Chooses y)) (all-imply (λ c. c < 4) (Chooses y) (λ c l. (omega (arith, h), l))) (rowOf y sign)
+        (row-low (2 * y .kind + sign))
 
-module _ (t : ℕ → Node) (l : ℕ) where
-  -- the number of a literal's row
-  abbrev rowOf : ℕ
-  rowOf = 2 * t (l / 2) .kind + l % 2
+-- such a choice is of an operand
+pub of-operand : (y : Node) (c : ℕ) → Chooses y c → c / 2 < length (operands y)
+of-operand y c h = omega (arith, ap length (operands-two y (omega arith)), h .1)
 
-  expand-choice : expand t l ≡ map (map (choice (t (l / 2)))) (getD templates rowOf [])
+-- and the operands are the index's
+module _ {x : List ℕ} {n : ℕ} (I : Indexed x n) (m : ℕ) (h : m < n) where
+  -- the number that is read of node m for choice c
+  abbrev operand : ℕ → ℕ
+  operand c = getD x (4 * m + (1 + c / 2)) 0
+
+  module _ (c : ℕ) (k : c / 2 < length (operands (indexNode x m))) where
+    -- a node without operands has no choices
+    pub has : (2 < indexNode x m .kind) × (c < 4)
+    has = go (decLt (indexNode x m .kind) 3)
+      where
+        go : Dec (indexNode x m .kind < 3) → (2 < indexNode x m .kind) × (c < 4)
+        go (yes q) = absurd (omega (arith, k, ap length (operands-none (indexNode x m) q)))
+        go (no q) = (omega (arith, q), omega (arith, k, ap length (operands-two (indexNode x m) (omega (arith, q)))))
+
+    pub operand-low : operand c < always
+    unfolding indexNode
+    operand-low = go c (has .1)
+      where
+        go : (c : ℕ) → c < 4 → operand c < always
+        go zero l = omega (arith, I .table .left m h (has .0), I .few)
+        go (suc zero) l = omega (arith, I .table .left m h (has .0), I .few)
+        go (suc (suc zero)) l = omega (arith, I .table .right m h (has .0), I .few)
+        go (suc (suc (suc zero))) l = omega (arith, I .table .right m h (has .0), I .few)
+        go (suc (suc (suc (suc c)))) l = absurd (omega arith)
+
+    -- an odd choice is the negation of the number
+    pub operand-chosen : operand c - operand c % 2 + (operand c + c) % 2 ≡ chosen (indexNode x m) c
+    unfolding indexNode chosen
+    operand-chosen = go c (has .1)
+      where
+        go : (c : ℕ) → c < 4 → operand c - operand c % 2 + (operand c + c) % 2 ≡ chosen (indexNode x m) c
+        go zero l = omega arith
+        go (suc zero) l = omega arith
+        go (suc (suc zero)) l = omega arith
+        go (suc (suc (suc zero))) l = omega arith
+        go (suc (suc (suc (suc c)))) l = absurd (omega arith)
+
+-- ---- clause j of a row, by three numbers
+
+-- choice i of a clause, 6 past its end
+abbrev at : List ℕ → ℕ → ℕ
+at c i = getD c i 6
+
+-- what a clause's choices have, a number that is below 6 has
+choice-has : (P : ℕ → Type 0) (c : List ℕ) (i : ℕ) → All P c → at c i < 6 → P (at c i)
+choice-has P [] zero a h = absurd (omega arith)
+choice-has P [] (suc i) a h = absurd (omega arith)
+choice-has P (m ∷ c) zero a h = a .0
+choice-has P (m ∷ c) (suc i) a h = choice-has P c i (a .1) h
+
+-- so a clause is as long as its numbers say
+ends : (c : List ℕ) (i : ℕ) → All (λ m. m < 4) c → 5 < at c i → length c ≤ i
+ends [] i a h = omega arith
+ends (m ∷ c) zero a h = absurd (omega (arith, a .0))
+ends (m ∷ c) (suc i) a h = omega (arith, ends c i (a .1) h)
+
+goes : (c : List ℕ) (i : ℕ) → at c i < 6 → i < length c
+goes [] zero h = absurd (omega arith)
+goes [] (suc i) h = absurd (omega arith)
+goes (m ∷ c) zero h = omega arith
+goes (m ∷ c) (suc i) h = omega (arith, goes c i h)
+
+list-none : (c : List ℕ) → length c ≤ 0 → c ≡ []
+list-none [] h = refl
+list-none (a ∷ c) h = absurd (omega arith)
+
+list-one : (c : List ℕ) → 0 < length c → length c ≤ 1 → c ≡ at c 0 ∷ []
+list-one [] h k = absurd (omega arith)
+list-one (a ∷ c) h k = ap (a ∷_) (list-none c (omega arith))
+
+list-two : (c : List ℕ) → 1 < length c → length c ≤ 2 → c ≡ at c 0 ∷ at c 1 ∷ []
+list-two [] h k = absurd (omega arith)
+list-two (a ∷ c) h k = ap (a ∷_) (list-one c (omega arith) (omega arith))
+
+list-three : (c : List ℕ) → 2 < length c → length c ≤ 3 → c ≡ at c 0 ∷ at c 1 ∷ at c 2 ∷ []
+list-three [] h k = absurd (omega arith)
+list-three (a ∷ c) h k = ap (a ∷_) (list-two c (omega arith) (omega arith))
+
+module _ (t : ℕ → Node) (l j : ℕ) (k : j < length (expand t l)) where
+  abbrev node : Node
+  node = t (l / 2)
+
+  -- the clause, as choices
+  abbrev choices : List ℕ
+  choices = getD (rowOf node (l % 2)) j []
+
+  j-low : j < length (rowOf node (l % 2))
   unfolding expand
-  expand-choice =
-      sym (List·getD-map (map (map (chosen (t (l / 2))))) templates rowOf [])
-      ∙ ap (λ (ts : List (List (List ℕ))). getD ts rowOf []) (choices-right (t (l / 2)))
-      ∙ List·getD-map (map (map (choice (t (l / 2))))) templates rowOf []
+  j-low = omega (arith, k, length-map (rowOf node (l % 2)) (map (chosen node)))
 
-  pub expand-most : length (expand t l) ≤ 2
-  expand-most = expand-few t l
+  pub j-most : j < 3
+  j-most = omega (arith, k, expand-few t l)
 
-  -- of a row that was read
-  module _ {row : ℕ} (e : (row ≡ 2 * t (l / 2) .kind + l % 2) × (row < 14)) where
-    -- how many clauses it has
-    pub row-many : {m : ℕ} → m ≡ cell row 4 → m ≡ length (expand t l)
-    unfolding expand
-    row-many p =
-        p ∙ row-count row (e .1) ∙ ap (λ (r : ℕ). length (getD templates r [])) (e .0)
-        ∙ sym (length-map (getD templates rowOf []) (map (chosen (t (l / 2)))))
+  -- its literals
+  chosen-clause : getD (expand t l) j [] ≡ map (chosen node) choices
+  unfolding expand
+  chosen-clause = List·getD-map (map (chosen node)) (rowOf node (l % 2)) j []
 
-    module _ (i : ℕ) (k : i < 4) {c : ℕ} (p : c ≡ cell row i) where
-      cell-is : c ≡ choiceAt (getD templates rowOf []) i
-      cell-is = p ∙ row-choice row i (e .1) k ∙ ap (λ (r : ℕ). choiceAt (getD templates r []) i) (e .0)
+  chooses : All (Chooses node) choices
+  chooses = all-getD (All (Chooses node)) (rowOf node (l % 2)) j [] tt (row-chooses node (l % 2) (omega arith))
 
-      -- literal i of its clauses
-      pub row-filled : {r : ℕ} → r ≡ choice (t (l / 2)) c → r ≡ filled (expand t l) i
-      row-filled q =
-          q ∙ ap (choice (t (l / 2))) cell-is ∙ sym (filled-choice (t (l / 2)) (getD templates rowOf []) i)
-          ∙ ap (λ (cs : List (List ℕ)). filled cs i) (sym expand-choice)
+  short : Short choices
+  unfolding clauses
+  short =
+      omega (arith, length-map choices (chosen node), ap length chosen-clause, all-getD Short (expand t l) j [] (omega arith) (clauses-short t [] (l ∷ [])))
 
-      -- a choice, which is of an operand only where there are operands
-      pub row-choices : (c < 6) × (c < 4 → 2 < t (l / 2) .kind)
-      row-choices = (omega (arith, cell-is, choice-low (getD templates rowOf []) (λ m. m < 6) (omega arith) (omega arith) (row-low rowOf) i), λ h. go h (decLt (t (l / 2) .kind) 3))
-        where
-          go : c < 4 → Dec (t (l / 2) .kind < 3) → 2 < t (l / 2) .kind
-          go h (no q) = omega (arith, q)
-          go h (yes q) =
-              absurd (omega (
-                arith,
-                h,
-                cell-is,
-                choice-low (getD templates rowOf []) (λ m. 4 ≤ m) (omega arith) (omega arith)
-                    (all-imply (λ c. bare c ≡ true) (All (λ m. 4 ≤ m)) bare-high (getD templates rowOf []) (row-bare (t (l / 2) .kind) (l % 2) q (omega arith))) i,
-              ))
+  low : All (λ m. m < 4) choices
+  low = all-imply (Chooses node) (λ m. m < 4) (λ m h. h .1) choices chooses
 
--- ---- two numbers and their clause
+  of-choice : (i a : ℕ) → a ≡ at choices i → (5 < a → ⊥) → a / 2 < length (operands node)
+  of-choice i a e h = rw e (of-operand node (at choices i) (choice-has (Chooses node) choices i chooses (omega (arith, h, e))))
 
--- a literal of a node has its value
-pub wide-low : (G : List ℕ) (l : ℕ) → l < 4032 → wideValue G l ≡ valueCode (valueOf G l)
-unfolding wideValue
-wide-low G l h = simp (lt-ltb l 4032 h)
+  -- a number of the row that was read
+  module _ {row : ℕ} (e : (row ≡ 2 * node .kind + l % 2) × (row < 14)) where
+    cell-is : (i column r : ℕ) → i < 3 → column ≡ 3 * j + i → r ≡ cell row column → r ≡ at choices i
+    unfolding rows templates
+    cell-is i column r h q p =
+        p ∙ ap (λ (c : List ℕ). getD c column 0) (getD-map (λ cs. listFrom (choiceAt cs) 0 9) templates row [] [] (e .1))
+        ∙ getD-listFrom (choiceAt (getD templates row [])) 9 0 column 0 (omega (arith, j-most)) ∙ ap (choiceAt (getD templates row [])) (zero-add column)
+        ∙ ap (λ (s : ℕ). choiceAt (getD templates s []) column) (e .0) ∙ same
+      where
+        d : column / 3 ≡ j
+        d = omega arith
 
--- the numbers of clause j
-pub filled-first : (cs : List (List ℕ)) (j : ℕ) → filled cs (2 * j) ≡ getD (getD cs j (always ∷ always ∷ [])) 0 never
-unfolding filled
-filled-first cs j =
-    let d : (2 * j) / 2 ≡ j = omega arith in
-    let m : (2 * j) % 2 ≡ 0 = omega arith in
-    rw (d, m)
+        m : column % 3 ≡ i
+        m = omega arith
 
-pub filled-second : (cs : List (List ℕ)) (j : ℕ) → filled cs (2 * j + 1) ≡ getD (getD cs j (always ∷ always ∷ [])) 1 never
-unfolding filled
-filled-second cs j =
-    let d : (2 * j + 1) / 2 ≡ j = omega arith in
-    let m : (2 * j + 1) % 2 ≡ 1 = omega arith in
-    rw (d, m)
+        inside : (cs : List (List ℕ)) (j : ℕ) → j < length cs → getD cs j (7 ∷ 7 ∷ 7 ∷ []) ≡ getD cs j []
+        inside [] j h = absurd (omega arith)
+        inside (c ∷ cs) zero h = refl
+        inside (c ∷ cs) (suc j) h = inside cs j (omega arith)
 
--- literals of at most 2016 nodes
-abbrev Low : List ℕ → Type 0
-Low c = All (λ l. l < 4032) c
+        same : choiceAt (rowOf node (l % 2)) column ≡ at choices i
+        same = rw (d, m, inside (rowOf node (l % 2)) j j-low)
 
--- the class of a clause of one literal, and of two
-pub class-one : (v : Value) (l : ℕ) → pairClass (valueCode v) 2 ≡ classOf (joined v l empty)
-unfolding pairClass
-class-one undecided l = refl
-class-one holds l = refl
-class-one fails l = refl
+    module _ {a : ℕ} (pa : a ≡ cell row (3 * j)) where
+      ea : a ≡ at choices 0
+      ea = cell-is 0 (3 * j) a (omega arith) (omega arith) pa
 
-class-two : (v u : Value) (l m : ℕ) → pairClass (valueCode v) (valueCode u) ≡ classOf (joined v l (joined u m empty))
-unfolding pairClass
-class-two undecided undecided l m = refl
-class-two undecided holds l m = refl
-class-two undecided fails l m = refl
-class-two holds u l m = refl
-class-two fails undecided l m = refl
-class-two fails holds l m = refl
-class-two fails fails l m = refl
+      pub first-of : (5 < a → ⊥) → a / 2 < length (operands node)
+      first-of h = of-choice 0 a ea h
 
--- of a clause of at most two literals
-clause-class : (G c : List ℕ) → Short c → Low c → pairClass (wideValue G (getD c 0 never)) (wideValue G (getD c 1 never)) ≡ classOf (stateOf G c)
-unfolding stateOf wideValue pairClass
-clause-class G [] h b = refl
-clause-class G (l ∷ []) h b = ap (λ (v : ℕ). pairClass v 2) (wide-low G l (b .0)) ∙ class-one (valueOf G l) l
-clause-class G (l ∷ m ∷ []) h b =
-    ap (λ (v : ℕ). pairClass v (wideValue G m)) (wide-low G l (b .0)) ∙ ap (pairClass (valueCode (valueOf G l))) (wide-low G m (b .1 .0))
-    ∙ class-two (valueOf G l) (valueOf G m) l m
-clause-class G (l ∷ m ∷ k ∷ c) h b = absurd (omega arith)
+      pub clause-none : 5 < a → [] ≡ getD (expand t l) j []
+      clause-none h = sym (chosen-clause ∙ ap (map (chosen node)) (list-none choices (ends choices 0 low (omega (arith, ea)))))
 
-clause-whole : (c : List ℕ) → Short c → Low c → unfilled (getD c 0 never) (getD c 1 never) ≡ c
-clause-whole [] h b = refl
-clause-whole (l ∷ []) h b = simp (ne-eqb l never (λ e. omega (arith, e, b .0)))
-clause-whole (l ∷ m ∷ []) h b = simp (ne-eqb l never (λ e. omega (arith, e, b .0)), ne-eqb m never (λ e. omega (arith, e, b .1 .0)))
-clause-whole (l ∷ m ∷ k ∷ c) h b = absurd (omega arith)
+      module _ (ha : 5 < a → ⊥) {r : ℕ} (er : r ≡ chosen node a) {b : ℕ} (pb : b ≡ cell row (3 * j + 1)) where
+        eb : b ≡ at choices 1
+        eb = cell-is 1 (3 * j + 1) b (omega arith) refl pb
 
--- of clause j of a list
-list-class : (G : List ℕ) (cs : List (List ℕ)) → All Short cs → All Low cs → (j : ℕ)
-    → pairClass (wideValue G (getD (getD cs j (always ∷ always ∷ [])) 0 never)) (wideValue G (getD (getD cs j (always ∷ always ∷ [])) 1 never)) ≡ classAt G cs j
-unfolding classAt wideValue pairClass
-list-class G [] s b j = refl
-list-class G (c ∷ cs) s b zero = clause-class G c (s .0) (b .0)
-list-class G (c ∷ cs) s b (suc j) = list-class G cs (s .1) (b .1) j
+        pub second-of : (5 < b → ⊥) → b / 2 < length (operands node)
+        second-of h = of-choice 1 b eb h
 
-list-whole : (cs : List (List ℕ)) → All Short cs → All Low cs → (j : ℕ) → j < length cs
-    → unfilled (getD (getD cs j (always ∷ always ∷ [])) 0 never) (getD (getD cs j (always ∷ always ∷ [])) 1 never) ≡ getD cs j []
-list-whole [] s b j h = absurd (omega arith)
-list-whole (c ∷ cs) s b zero h = clause-whole c (s .0) (b .0)
-list-whole (c ∷ cs) s b (suc j) h = list-whole cs (s .1) (b .1) j (omega arith)
+        pub clause-one : 5 < b → r ∷ [] ≡ getD (expand t l) j []
+        clause-one h =
+            ap (_∷ []) (er ∙ ap (chosen node) ea)
+            ∙ sym (chosen-clause ∙ ap (map (chosen node)) (list-one choices (goes choices 0 (omega (arith, ea))) (ends choices 1 low (omega (arith, eb)))))
 
--- ---- the clauses of a literal of a table
+        module _ (hb : 5 < b → ⊥) {s : ℕ} (es : s ≡ chosen node b) {c : ℕ} (pc : c ≡ cell row (3 * j + 2)) where
+          ec : c ≡ at choices 2
+          ec = cell-is 2 (3 * j + 2) c (omega arith) refl pc
 
-expand-short : (t : ℕ → Node) (l : ℕ) → All Short (expand t l)
-unfolding clauses
-expand-short t l = clauses-short t [] (l ∷ [])
+          pub third-of : (5 < c → ⊥) → c / 2 < length (operands node)
+          third-of h = of-choice 2 c ec h
 
-module _ {n : ℕ} {t : ℕ → Node} (T : Table n t) (l : ℕ) (h : l < 2 * n) where
-  expand-below : All (Below n) (expand t l)
-  unfolding clauses valueOf mem
-  expand-below = clauses-below n t T [] tt (l ∷ []) ((h, refl), tt)
+          pub clause-two : 5 < c → r ∷ s ∷ [] ≡ getD (expand t l) j []
+          clause-two h =
+              ap (_∷ s ∷ []) (er ∙ ap (chosen node) ea) ∙ ap (λ (m : ℕ). chosen node (at choices 0) ∷ m ∷ []) (es ∙ ap (chosen node) eb)
+              ∙ sym (chosen-clause ∙ ap (map (chosen node)) (list-two choices (goes choices 1 (omega (arith, eb))) (ends choices 2 low (omega (arith, ec)))))
 
-  -- each number is a literal of a node, `always` or `never`
-  pub wide-filled : (i : ℕ) → i < 4 → (filled (expand t l) i < 2 * n) ⊎ ((always ≤ filled (expand t l) i) × (filled (expand t l) i ≤ never))
-  unfolding filled
-  wide-filled i k =
-      all-getD Wide (getD (expand t l) (i / 2) (always ∷ always ∷ [])) (i % 2) never (inr (omega arith, omega arith))
-      (all-getD (All Wide) (expand t l) (i / 2) (always ∷ always ∷ []) (first, (first, tt))
-      (all-imply (Below n) (All Wide) (all-imply (λ m. m < 2 * n) Wide (λ m b. inl b)) (expand t l) expand-below))
-    where
-      Wide : ℕ → Type 0
-      Wide m = (m < 2 * n) ⊎ ((always ≤ m) × (m ≤ never))
-
-      first : Wide always
-      first = inr (omega arith, omega arith)
-
-  module _ (few : n ≤ 2016) where
-    expand-low : All Low (expand t l)
-    expand-low = all-imply (Below n) Low (all-imply (λ m. m < 2 * n) (λ m. m < 4032) (λ m b. omega arith)) (expand t l) expand-below
-
-    -- the class of clause j by the values of its numbers
-    pub own-class : (G : List ℕ) (j : ℕ) → j < 2
-        → pairClass (wideValue G (filled (expand t l) (2 * j))) (wideValue G (filled (expand t l) (2 * j + 1))) ≡ classAt G (expand t l) j
-    own-class G j k =
-        ap (λ (m : ℕ). pairClass (wideValue G m) (wideValue G (filled (expand t l) (2 * j + 1)))) (filled-first (expand t l) j)
-        ∙ ap (λ (m : ℕ). pairClass (wideValue G (getD (getD (expand t l) j (always ∷ always ∷ [])) 0 never)) (wideValue G m)) (filled-second (expand t l) j)
-        ∙ list-class G (expand t l) (expand-short t l) expand-low j
-
-    -- clause j by its numbers
-    pub whole : (j : ℕ) → j < length (expand t l) → unfilled (filled (expand t l) (2 * j)) (filled (expand t l) (2 * j + 1)) ≡ getD (expand t l) j []
-    whole j k =
-        ap (λ (m : ℕ). unfilled m (filled (expand t l) (2 * j + 1))) (filled-first (expand t l) j)
-        ∙ ap (unfilled (getD (getD (expand t l) j (always ∷ always ∷ [])) 0 never)) (filled-second (expand t l) j)
-        ∙ list-whole (expand t l) (expand-short t l) expand-low j k
+          pub clause-three : (5 < c → ⊥) → {q : ℕ} → q ≡ chosen node c → r ∷ s ∷ q ∷ [] ≡ getD (expand t l) j []
+          clause-three h {q} eq =
+              ap (_∷ s ∷ q ∷ []) (er ∙ ap (chosen node) ea) ∙ ap (λ (m : ℕ). chosen node (at choices 0) ∷ m ∷ q ∷ []) (es ∙ ap (chosen node) eb)
+              ∙ ap (λ (m : ℕ). chosen node (at choices 0) ∷ chosen node (at choices 1) ∷ m ∷ []) (eq ∙ ap (chosen node) ec)
+              ∙ sym (chosen-clause ∙ ap (map (chosen node)) (list-three choices (goes choices 2 (omega (arith, ec))) (omega (arith, short))))

@@ -1,6 +1,4 @@
--- The clauses of a literal as four numbers, and the class of a clause. Assumes nothing.
+-- The clauses of a literal, and what its code says of them. Assumes nothing.
 pub mod Templates
-pub mod Classes
-pub mod Indexed
-pub mod Stored
-pub mod Room
+pub mod Literals
+pub mod Coded

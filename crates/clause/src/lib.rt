@@ -1,50 +1,59 @@
-// The clauses of a literal as four numbers, two a clause, and the class of a clause. A shorter clause is filled up with a literal
-// that is always false, and a missing one is two that are always true: so no length is looked at.
+// The clauses of a literal by TEMPLATES, and its code: what the clauses come to under the values of its node's operands.
 ghost use mathlib.Core.Path.{_≡_};
+ghost use mathlib.Core.List.{[]};
 ghost use Prim.Native.Nat.{_+_, _*_, _/_, _%_, _≤_, _<_};
-ghost use lib.ListN.{length};
-ghost use Rattle.calculus.specs.Expansion.{neg, expand};
-ghost use Rattle.index.specs.Index.{mostNodes, indexNode};
-ghost use Rattle.clause.specs.Templates.{rows, cell, choice};
-ghost use Rattle.clause.specs.Classes.{pairClass, classAfter, unfilled};
-ghost use Rattle.clause.specs.Indexed.{Indexed};
-ghost use Rattle.clause.specs.Stored.{literals, Stored};
+ghost use lib.ListN.{length, getD};
+ghost use Rattle.calculus.specs.Expansion.{neg, chosen, expand};
+ghost use Rattle.calculus.specs.Model.{Good};
+ghost use Rattle.index.specs.Index.{mostNodes, always, indexNode, operands};
+ghost use Rattle.index.specs.Indexed.{Indexed};
+ghost use Rattle.clause.specs.Templates.{rows, cell};
+ghost use Rattle.clause.specs.Literals.{literals};
+ghost use Rattle.clause.specs.Coded.{tail, gOf, wideValue, Valued, statesOf, Coded};
 
-// A clause: how many literals it has, 0 to 2, and which.
+// A clause: how many literals it has, 0 to 3, and which.
 pub struct Clause {
     pub len: u8,
     pub first: u16,
     pub second: u16,
+    pub third: u16,
 }
 
-// The clauses of a literal, by kind and sign, row 2 * kind + sign: for each of two clauses two choices, 0 is a, 1 is not a, 2 is b,
-// 3 is not b, 4 is always true, 5 always false; then how many clauses there are.
-const TEMPLATES: [[u8; 5]; 14] = [
+// The clauses of a literal, by kind and sign, row 2 * kind + sign: for each of three clauses three choices, 0 is a, 1 is not a, 2 is b,
+// 3 is not b, 6 where the clause has no more; a missing clause is 7 three times.
+const TEMPLATES: [[u8; 9]; 14] = [
     // there is no kind 0
-    [4, 4, 4, 4, 0],
-    [4, 4, 4, 4, 0],
+    [7, 7, 7, 7, 7, 7, 7, 7, 7],
+    [7, 7, 7, 7, 7, 7, 7, 7, 7],
     // TRUE
-    [4, 4, 4, 4, 0],
-    [5, 5, 4, 4, 1],
+    [7, 7, 7, 7, 7, 7, 7, 7, 7],
+    [6, 6, 6, 7, 7, 7, 7, 7, 7],
     // ATOM
-    [4, 4, 4, 4, 0],
-    [4, 4, 4, 4, 0],
+    [7, 7, 7, 7, 7, 7, 7, 7, 7],
+    [7, 7, 7, 7, 7, 7, 7, 7, 7],
     // AND
-    [0, 5, 2, 5, 2],
-    [1, 3, 4, 4, 1],
+    [0, 6, 6, 2, 6, 6, 7, 7, 7],
+    [1, 3, 6, 7, 7, 7, 7, 7, 7],
     // OR
-    [0, 2, 4, 4, 1],
-    [1, 5, 3, 5, 2],
+    [0, 2, 6, 7, 7, 7, 7, 7, 7],
+    [1, 6, 6, 3, 6, 6, 7, 7, 7],
     // IMP
-    [1, 2, 4, 4, 1],
-    [0, 5, 3, 5, 2],
+    [1, 2, 6, 7, 7, 7, 7, 7, 7],
+    [0, 6, 6, 3, 6, 6, 7, 7, 7],
     // IFF
-    [1, 2, 0, 3, 2],
-    [0, 2, 1, 3, 2],
+    [1, 2, 6, 0, 3, 6, 7, 7, 7],
+    [0, 2, 6, 1, 3, 6, 7, 7, 7],
 ];
 
-// A literal that is never true.
-const NEVER: u16 = 4033;
+// A choice above this is of no operand.
+const LAST_CHOICE: u8 = 5;
+
+// Where the index has the codes (crate index), and the work area the trail and in it the values of the literals (crate state).
+const CODES_AT: usize = 18144;
+
+const TRAIL: usize = 4;
+
+const VALUES: usize = 6051;
 
 // The negation of a literal.
 pub fn negated(l: u16) -> u16
@@ -54,97 +63,105 @@ pub fn negated(l: u16) -> u16
     l + 1 - 2 * (l % 2)
 }
 
+// TEMPLATES, to be lent: an index into a constant copies the constant.
+pub fn templates() -> [[u8; 9]; 14]
+    ensures { λ r. ⌜ r ≡ rows ⌝ }
+{
+    TEMPLATES
+}
+
 // A number of TEMPLATES, which is lent.
-fn template(templates: &[[u8; 5]; 14], row: usize, column: usize) -> u8
+fn template(templates: &[[u8; 9]; 14], row: usize, column: usize) -> u8
     requires { ⌜ now templates ≡ rows ⌝ }
-    requires { ⌜ (row < 14) × (column < 5) ⌝ }
+    requires { ⌜ (row < 14) × (column < 9) ⌝ }
     ensures { λ r. ⌜ r ≡ cell row column ⌝ }
 {
     templates[row][column]
 }
 
-// The row of a literal.
-fn row_of(x: &[u16], n: usize, l: u16) -> usize
+// The row of a literal of a node.
+fn row_of(x: &[u16], n: usize, node: usize, sign: usize) -> usize
     requires { ⌜ Indexed (now x) n ⌝ }
-    requires { ⌜ l < 2 * n ⌝ }
-    ensures { λ r. ⌜ (r ≡ 2 * indexNode (now (x .entry)) (l / 2) .kind + l % 2) × (r < 14) ⌝ }
+    requires { ⌜ (node < n) × (sign < 2) ⌝ }
+    ensures { λ r. ⌜ (r ≡ 2 * indexNode (now (x .entry)) node .kind + sign) × (r < 14) ⌝ }
 {
-    let kind = x[4 * ((l / 2) as usize)];
-    (2 * kind + l % 2) as usize
+    2 * (x[4 * node] as usize) + sign
 }
 
-// The literal that a template chooses of a node's operands: an even choice is the number, an odd one its negation.
-fn choose(x: &[u16], n: usize, node: usize, c: u8) -> u16
+// The literal that a choice is, of a node's operands: an even choice is the operand, an odd one its negation.
+pub fn choose(x: &[u16], n: usize, node: usize, c: usize) -> u16
     requires { ⌜ Indexed (now x) n ⌝ }
-    requires { ⌜ (node < n) × (c < 6) × (c < 4 → 2 < indexNode (now x) node .kind) ⌝ }
-    ensures { λ r. ⌜ r ≡ choice (indexNode (now (x .entry)) node) c ⌝ }
+    requires { ⌜ (node < n) × (c / 2 < length (operands (indexNode (now x) node))) ⌝ }
+    ensures { λ r. ⌜ r ≡ chosen (indexNode (now (x .entry)) node) c ⌝ }
 {
-    let l = x[4 * node + (1 + (c / 2) as usize)];
+    let l = x[4 * node + (1 + c / 2)];
     l - l % 2 + (l + c as u16) % 2
 }
 
-// The literals of l's clauses, from a place of the work area on; the answer is how many clauses there are.
-pub fn store(x: &[u16], n: usize, work: &mut [u16], l: u16, at: usize) -> u16
+// Clause j of literal l.
+pub fn clause_of(templates: &[[u8; 9]; 14], x: &[u16], n: usize, l: u16, j: usize) -> Clause
+    requires { ⌜ now templates ≡ rows ⌝ }
     requires { ⌜ Indexed (now x) n ⌝ }
-    requires { ⌜ (l < 2 * n) × (at + 4 ≤ length (now work)) ⌝ }
-    ensures { λ _. ⌜ Stored (expand (indexNode (now (x .entry))) l) (now (work .entry)) at (now (work .exit)) ⌝ }
-    ensures { λ r. ⌜ (r ≡ length (expand (indexNode (now (x .entry))) l)) × (r ≤ 2) ⌝ }
+    requires { ⌜ (l < 2 * n) × (j < length (expand (indexNode (now x)) l)) ⌝ }
+    ensures { λ r. ⌜ literals r ≡ getD (expand (indexNode (now (x .entry))) l) j [] ⌝ }
 {
-    let templates = &TEMPLATES;
-    let row = row_of(x, n, l);
     let node = (l / 2) as usize;
-    let mut i = 0;
-    while i < 4 {
-        work[at + i] = choose(x, n, node, template(templates, row, i));
-        i += 1;
-    }
-    template(templates, row, 4) as u16
-}
-
-// The class of a clause of two literals, by their values.
-pub fn class_of(v: u16, u: u16) -> u16
-    requires { ⌜ (v ≤ 2) × (u ≤ 2) ⌝ }
-    ensures { λ r. ⌜ r ≡ pairClass v u ⌝ }
-{
-    if (v == 1) | (u == 1) {
-        0
-    } else {
-        3 - (v + u) / 2
-    }
-}
-
-// The class of a clause of literals a and b that was of class c, more than 1, after l joined.
-pub fn class_after(c: u16, a: u16, b: u16, l: u16) -> u16
-    requires { ⌜ (1 < c) × (c < 4) × (l < 2 * mostNodes) ⌝ }
-    ensures { λ r. ⌜ r ≡ classAfter c a b l ⌝ }
-{
-    let other = negated(l);
-    let left = c - (((a == other) | (b == other)) as u16);
-    let met = ((a == l) | (b == l)) as u16;
-    (1 - met) * left
-}
-
-// The clause of two literals as they are stored.
-pub fn clause_of(first: u16, second: u16) -> Clause
-    ensures { λ r. ⌜ literals r ≡ unfilled first second ⌝ }
-{
-    if first == NEVER {
+    let row = row_of(x, n, node, (l % 2) as usize);
+    let a = template(templates, row, 3 * j);
+    if LAST_CHOICE < a {
         return Clause {
             len: 0,
-            first,
-            second,
+            first: 0,
+            second: 0,
+            third: 0,
         };
     }
-    if second == NEVER {
+    let first = choose(x, n, node, a as usize);
+    let b = template(templates, row, 3 * j + 1);
+    if LAST_CHOICE < b {
         return Clause {
             len: 1,
             first,
-            second,
+            second: 0,
+            third: 0,
         };
     }
+    let second = choose(x, n, node, b as usize);
+    let c = template(templates, row, 3 * j + 2);
+    if LAST_CHOICE < c {
+        return Clause {
+            len: 2,
+            first,
+            second,
+            third: 0,
+        };
+    }
+    let third = choose(x, n, node, c as usize);
     Clause {
-        len: 2,
+        len: 3,
         first,
         second,
+        third,
     }
+}
+
+// The value of a literal: 0 undecided, 1 true, 2 false.
+fn value(work: &[u16], l: u16) -> usize
+    requires { ⌜ (l < always + 2) × (32768 ≤ length (now work)) × Valued (tail (now work)) ⌝ }
+    ensures { λ r. ⌜ (r ≡ wideValue (gOf (now (work .entry))) l) × (r < 3) ⌝ }
+{
+    work[TRAIL + (VALUES + l as usize)] as usize
+}
+
+// What the clauses of a node's literal of a sign come to.
+pub fn code(x: &[u16], n: usize, work: &[u16], node: usize, sign: usize) -> u16
+    requires { ⌜ Indexed (now x) n ⌝ }
+    requires { ⌜ (node < n) × (sign < 2) ⌝ }
+    requires { ⌜ (32768 ≤ length (now work)) × Valued (tail (now work)) × Good n (gOf (now work)) ⌝ }
+    ensures { λ r. ⌜ Coded (indexNode (now (x .entry)) node) (statesOf (indexNode (now (x .entry))) (gOf (now (work .entry))) (2 * node + sign)) r ⌝ }
+{
+    let a = value(work, x[4 * node + 1]);
+    let b = value(work, x[4 * node + 2]);
+    let row = row_of(x, n, node, sign);
+    x[CODES_AT + (9 * row + (3 * a + b))]
 }

@@ -1,3 +1,3 @@
--- Laws of the index, for the proofs of the functions. Assumes nothing.
+-- Laws of the index, for the proofs of the functions and of the crates above. Assumes nothing.
 pub mod Nodes
-pub mod Slots
+pub mod Cells

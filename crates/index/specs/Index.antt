@@ -1,84 +1,114 @@
--- The index of a table, a slice of 16,128 numbers: four numbers a node, and links from each node to the operand slots that name it.
--- Assumes nothing.
+-- The index of a table, a slice of 18,270 numbers: four numbers a node, links from each node to the operand cells that name it, and the
+-- codes. Assumes nothing.
 use mathlib.Core.Path.{_≡_}
 use mathlib.Core.Bool.{cond}
-use mathlib.Core.List.{List}
-use Prim.Native.Nat.{ℕ, _+_, _-_, _*_, _/_, _%_, _<_, _≤_}
-use lib.Dec.{eqb, ltb}
+use mathlib.Core.List.{List, [], _∷_, map}
+use Prim.Native.Nat.{ℕ, _+_, _*_, _/_, _%_, _<_, _≤_}
+use lib.Dec.{ltb}
 use lib.ListN.{getD, length}
 use Rattle.scope.specs.declared.Node.{Node}
 use Rattle.scope.specs.Table.{nodeAt}
-
-abbrev pub indexSize : ℕ
-indexSize = 16128
+use Rattle.index.specs.Codes.{codesSize, codeAt}
 
 abbrev pub mostNodes : ℕ
 mostNodes = 2016
+
+-- ---- the layout: node m has its kind at 4 m and its operands' cells behind it; then the nodes' heads, the cells' links and the codes
+
+abbrev pub headsAt : ℕ
+headsAt = 8064
+
+abbrev pub linksAt : ℕ
+linksAt = 10080
+
+abbrev pub codesAt : ℕ
+codesAt = 18144
+
+abbrev pub indexSize : ℕ
+indexSize = 18270
+
+-- a literal of no node, always true: what a cell holds that no operand has
+abbrev pub always : ℕ
+always = 4032
+
+-- the third cell of each of the first n nodes holds it: no node has three operands
+abbrev pub Fills : List ℕ → ℕ → Type 0
+Fills x n = (m : ℕ) → m < n → getD x (4 * m + 3) 0 ≡ always
 
 -- node m of the index
 unfoldable pub indexNode : List ℕ → ℕ → Node
 indexNode x m = record { kind = getD x (4 * m) 0; a = getD x (4 * m + 1) 0; b = getD x (4 * m + 2) 0 }
 
--- two literals of no node, which stand for 'always true' and 'always false'
-abbrev pub always : ℕ
-always = 4032
+-- ---- operands and links
 
-abbrev pub never : ℕ
-never = 4033
-
--- the fourth number of each of the first n nodes is the literal that is always true
-abbrev pub Fills : List ℕ → ℕ → Type 0
-Fills x n = (m : ℕ) → m < n → getD x (4 * m + 3) 0 ≡ always
+-- 'For 3 to 6, a and b are literals of two different earlier nodes'; TRUE and ATOM have no operands
+unfoldable pub operands : Node → List ℕ
+operands y = cond (ltb (y .kind) 3) [] (y .a ∷ y .b ∷ [])
 
 -- no node
 abbrev pub none : ℕ
 none = 9999
 
--- the node of an operand slot: 3 p is the first of node p, 3 p + 1 the second; TRUE and ATOM have none, and there is no third
+-- the node that a cell names: 4 p + i is operand i of node p, i from 1 on
 unfoldable pub opNode : (ℕ → Node) → ℕ → ℕ
-opNode t s =
-    cond (ltb (t (s / 3) .kind) 3) none
-    (cond (eqb (s % 3) 0) (t (s / 3) .a / 2)
-    (cond (eqb (s % 3) 1) (t (s / 3) .b / 2)
-    none))
+opNode t s = getD (none ∷ map (_/ 2) (operands (t (s / 4)))) (s % 4) none
 
--- a link is a slot + 1, and 0 ends: the link of node m to its last slot, and that of slot s to the one before it
+-- a link is a cell, and 0 ends: the link of node m to its last cell, and that of cell s to the one before it
 abbrev pub headOf : List ℕ → ℕ → ℕ
-headOf x m = getD x (8064 + m) 0
+headOf x m = getD x (headsAt + m) 0
 
 abbrev pub nextOf : List ℕ → ℕ → ℕ
-nextOf x s = getD x (10080 + s) 0
+nextOf x s = getD x (linksAt + s) 0
 
--- the slots below b are linked: the links of each node lead down through the slots that name it, and skip none
+-- the cells below b are linked: the links of each node lead down through the cells that name it, and skip none
 pub record Linked (t : ℕ → Node) (n b : ℕ) (x : List ℕ) : Type 0 where
-  pub head-low : (m : ℕ) → m < n → headOf x m ≤ b
-  pub head-on : (m : ℕ) → m < n → (headOf x m ≡ 0 → ⊥) → opNode t (headOf x m - 1) ≡ m
-  pub head-all : (m s : ℕ) → m < n → s < b → opNode t s ≡ m → s < headOf x m
-  pub next-low : (s : ℕ) → s < b → nextOf x s ≤ s
-  pub next-on : (s : ℕ) → s < b → opNode t s < n → (nextOf x s ≡ 0 → ⊥) → opNode t (nextOf x s - 1) ≡ opNode t s
-  pub next-all : (s y : ℕ) → s < b → opNode t s < n → y < s → opNode t y ≡ opNode t s → y < nextOf x s
+  pub head-low : (m : ℕ) → m < n → (headOf x m ≡ 0 → ⊥) → headOf x m < b
+  pub head-on : (m : ℕ) → m < n → (headOf x m ≡ 0 → ⊥) → opNode t (headOf x m) ≡ m
+  pub head-all : (m s : ℕ) → m < n → s < b → opNode t s ≡ m → s ≤ headOf x m
+  pub next-low : (s : ℕ) → s < b → opNode t s < n → nextOf x s < s
+  pub next-on : (s : ℕ) → s < b → opNode t s < n → (nextOf x s ≡ 0 → ⊥) → opNode t (nextOf x s) ≡ opNode t s
+  pub next-all : (s y : ℕ) → s < b → opNode t s < n → y < s → opNode t y ≡ opNode t s → y ≤ nextOf x s
 
--- all slots of an index of n nodes are
+-- all cells of an index of n nodes are
 abbrev pub Links : List ℕ → ℕ → Type 0
-Links x n = Linked (indexNode x) n (3 * n) x
+Links x n = Linked (indexNode x) n (4 * n) x
+
+-- ---- the codes behind the links: the first k stand there, and all do
+
+abbrev pub FirstCodes : ℕ → List ℕ → Type 0
+FirstCodes k x = (i : ℕ) → i < k → getD x (codesAt + i) 0 ≡ codeAt i
+
+abbrev pub Codes : List ℕ → Type 0
+Codes x = FirstCodes codesSize x
 
 -- ---- what each function does
 
--- the slots below b are linked, and the nodes are as they were
+-- two indices agree below b
+abbrev pub Same : ℕ → List ℕ → List ℕ → Type 0
+Same b x x′ = (i : ℕ) → i < b → getD x′ i 0 ≡ getD x i 0
+
+-- the cells below b are linked, and the nodes are as they were
 pub record Entered (n b : ℕ) (x x′ : List ℕ) : Type 0 where
   pub size : length x′ ≡ indexSize
-  pub nodes : (i : ℕ) → i < 8064 → getD x′ i 0 ≡ getD x i 0
+  pub nodes : Same headsAt x x′
   pub linked : Linked (indexNode x′) n b x′
 
--- the first b nodes are those of the table t, and have no slots yet
+-- the first b nodes are those of the table t, and no cell is linked yet
 pub record Loaded (t : List ℕ) (b : ℕ) (x : List ℕ) : Type 0 where
   pub size : length x ≡ indexSize
   pub nodes : (m : ℕ) → m < b → indexNode x m ≡ nodeAt t m
   pub fill : Fills x b
   pub heads : (m : ℕ) → m < b → headOf x m ≡ 0
 
+-- the first k codes stand in x′, and what is before them is as it was
+pub record Copied (k : ℕ) (x x′ : List ℕ) : Type 0 where
+  pub size : length x′ ≡ indexSize
+  pub before : Same codesAt x x′
+  pub codes : FirstCodes k x′
+
 -- the index of the n nodes of the table t
 pub record Built (t : List ℕ) (n : ℕ) (x : List ℕ) : Type 0 where
   pub nodes : (m : ℕ) → m < n → indexNode x m ≡ nodeAt t m
   pub fill : Fills x n
   pub links : Links x n
+  pub codes : Codes x

@@ -1,3 +1,4 @@
 -- What the index of a table holds. Assumes nothing.
+pub mod Codes
 pub mod Index
 pub mod Indexed

@@ -1,59 +1,135 @@
-// The index of a table, built once a call: the nodes' fields as numbers, four a node, and for each node the links to the operand
-// slots that name it, so that a node's parents are found without a look at the others.
+// The index of a table, built once a call: the nodes' fields as numbers, four a node, for each node the links to the operand cells that
+// name it, so that a node's parents are found without a look at the others, and the codes of the literals' clauses.
 ghost use mathlib.Core.Path.{_≡_};
 ghost use Prim.Native.Nat.{ℕ, _+_, _*_, _<_, _≤_};
 ghost use lib.ListN.{length};
 ghost use Rattle.repeats.specs.Chains.{placeOf};
-ghost use Rattle.index.specs.Index.{indexSize, mostNodes, indexNode, opNode, Linked, Entered, Loaded, Built};
+ghost use Rattle.index.specs.Codes.{codesSize, codeRows, codeAt};
+ghost use Rattle.index.specs.Index.{indexSize, mostNodes, indexNode, opNode, Linked, Entered, Loaded, Copied, Built};
 
-// The layout: node m has its kind at 4 m, then a, b and ALWAYS; from HEADS on each node's link to its last slot; from NEXT on each
-// slot's link to the slot before it that names the same node. Slot 3 p + i is operand i of node p; a link is a slot + 1, and 0 ends.
+// The layout: node m has its kind at 4 m, then its operands; from HEADS on each node's link to the last operand cell that names it; from
+// LINKS on each cell's link to the cell before it that names the same node; from CODES_AT on the codes. A link is the place of the cell
+// itself, 4 p + 1 to 4 p + 3, and 0 ends.
 const HEADS: usize = 8064;
 
-const NEXT: usize = 10080;
+const LINKS: usize = 10080;
 
-// The fourth number of each node, a literal of no node: it stands for 'always true', and 4033, its negation, for 'always false'.
+const CODES_AT: usize = 18144;
+
+const CODES_SIZE: usize = 126;
+
+// What a cell holds that no operand has: a literal of no node, always true.
 const ALWAYS: u16 = 4032;
 
-// Slot s, which names m, is linked: it becomes the last slot of node m, or ends where the table has no such node.
+// What the clauses of a literal come to, a row for each kind and sign, in it 3 a + b for the values of the operands (0 undecided, 1 true,
+// 2 false). `codeOf` in specs/Codes.antt says what a code is, and computes these.
+const CODES: [[u16; 9]; 14] = [
+    // there is no kind 0
+    [0, 0, 0, 0, 0, 0, 0, 0, 0],
+    [0, 0, 0, 0, 0, 0, 0, 0, 0],
+    // TRUE
+    [0, 0, 0, 0, 0, 0, 0, 0, 0],
+    [8194, 8194, 8194, 8194, 8194, 8194, 8194, 8194, 8194],
+    // ATOM
+    [0, 0, 0, 0, 0, 0, 0, 0, 0],
+    [0, 0, 0, 0, 0, 0, 0, 0, 0],
+    // AND
+    [
+        16389,
+        16389,
+        16647,
+        18509,
+        16384,
+        16642,
+        18511,
+        16386,
+        16386,
+    ],
+    [9220, 9253, 8192, 11365, 8194, 8192, 8192, 8192, 8192],
+    // OR
+    [8196, 8192, 8197, 8192, 8192, 8192, 10309, 8192, 8194],
+    [
+        17445,
+        17703,
+        17445,
+        19567,
+        16386,
+        16386,
+        19565,
+        16642,
+        16384,
+    ],
+    // IMP
+    [9220, 8192, 9253, 10309, 8192, 8194, 8192, 8192, 8192],
+    [
+        16389,
+        16647,
+        16389,
+        19565,
+        16642,
+        16384,
+        19567,
+        16386,
+        16386,
+    ],
+    // IFF
+    [
+        17412,
+        16397,
+        17445,
+        18501,
+        16384,
+        16386,
+        19565,
+        16642,
+        16384,
+    ],
+    [
+        16388,
+        17453,
+        16389,
+        19565,
+        16642,
+        16384,
+        18501,
+        16384,
+        16386,
+    ],
+];
+
+// Cell s, which names node m, is linked: it becomes the last cell of m. A node that the table does not have has no cells.
 fn enter(x: &mut [u16], n: usize, s: usize, m: usize)
-    requires { ⌜ (length (now x) ≡ indexSize) × (n ≤ mostNodes) × (s < 3 * n) × (m ≡ opNode (indexNode (now x)) s) ⌝ }
+    requires { ⌜ (length (now x) ≡ indexSize) × (n ≤ mostNodes) × (s < 4 * n) × (m ≡ opNode (indexNode (now x)) s) ⌝ }
     requires { ⌜ Linked (indexNode (now x)) n s (now x) ⌝ }
     ensures { λ _. ⌜ Entered n (s + 1) (now (x .entry)) (now (x .exit)) ⌝ }
 {
     if n <= m {
-        x[NEXT + s] = 0;
         return;
     }
-    x[NEXT + s] = x[HEADS + m];
-    x[HEADS + m] = (s + 1) as u16;
+    x[LINKS + s] = x[HEADS + m];
+    x[HEADS + m] = s as u16;
 }
 
-// The three slots of node p are linked. The third names no node, and neither do those of TRUE and of an ATOM.
+// The cells of node p are linked. TRUE and ATOM have no operands, and no node has three.
 fn enter_node(x: &mut [u16], n: usize, p: usize)
     requires { ⌜ (length (now x) ≡ indexSize) × (n ≤ mostNodes) × (p < n) ⌝ }
-    requires { ⌜ Linked (indexNode (now x)) n (3 * p) (now x) ⌝ }
-    ensures { λ _. ⌜ Entered n (3 * (p + 1)) (now (x .entry)) (now (x .exit)) ⌝ }
+    requires { ⌜ Linked (indexNode (now x)) n (4 * p) (now x) ⌝ }
+    ensures { λ _. ⌜ Entered n (4 * (p + 1)) (now (x .entry)) (now (x .exit)) ⌝ }
 {
-    let s = 3 * p;
     if x[4 * p] < 3 {
-        x[NEXT + s] = 0;
-        x[NEXT + (s + 1)] = 0;
-        x[NEXT + (s + 2)] = 0;
         return;
     }
     let a = x[4 * p + 1] / 2;
     let b = x[4 * p + 2] / 2;
-    enter(x, n, s, a as usize);
-    enter(x, n, s + 1, b as usize);
-    x[NEXT + (s + 2)] = 0;
+    enter(x, n, 4 * p + 1, a as usize);
+    enter(x, n, 4 * p + 2, b as usize);
 }
 
-// All slots are linked, node by node.
+// All cells are linked, node by node.
 fn link(x: &mut [u16], n: usize)
     requires { ⌜ (length (now x) ≡ indexSize) × (n ≤ mostNodes) ⌝ }
     requires { ⌜ Linked (indexNode (now x)) n 0 (now x) ⌝ }
-    ensures { λ _. ⌜ Entered n (3 * n) (now (x .entry)) (now (x .exit)) ⌝ }
+    ensures { λ _. ⌜ Entered n (4 * n) (now (x .entry)) (now (x .exit)) ⌝ }
 {
     let mut p = 0;
     while p < n {
@@ -62,7 +138,7 @@ fn link(x: &mut [u16], n: usize)
     }
 }
 
-// Node m is read from its record in the table, with no slots yet.
+// Node m is read from its record in the table, with no links yet.
 fn load_node(t: &[u8], x: &mut [u16], m: usize)
     requires { ⌜ (m < mostNodes) × (placeOf m + 8 ≤ length (now t)) ⌝ }
     requires { ⌜ Loaded (now t) m (now x) ⌝ }
@@ -91,6 +167,27 @@ fn load(t: &[u8], nodes: usize, x: &mut [u16])
     }
 }
 
+// Code i of CODES, which is lent: an index into a constant copies the constant.
+fn code_at(codes: &[[u16; 9]; 14], i: usize) -> u16
+    requires { ⌜ (now codes ≡ codeRows) × (i < codesSize) ⌝ }
+    ensures { λ r. ⌜ r ≡ codeAt i ⌝ }
+{
+    codes[i / 9][i % 9]
+}
+
+// The codes are copied behind the links.
+fn copy_codes(x: &mut [u16])
+    requires { ⌜ length (now x) ≡ indexSize ⌝ }
+    ensures { λ _. ⌜ Copied codesSize (now (x .entry)) (now (x .exit)) ⌝ }
+{
+    let codes = &CODES;
+    let mut i = 0;
+    while i < CODES_SIZE {
+        x[CODES_AT + i] = code_at(codes, i);
+        i += 1;
+    }
+}
+
 // The index of the nodes of a table. Nothing is assumed of what x held: each number that belongs to a node is stored.
 pub fn build(t: &[u8], nodes: usize, x: &mut [u16])
     requires { ⌜ (nodes ≤ mostNodes) × ((m : ℕ) → m < nodes → placeOf m + 8 ≤ length (now t)) ⌝ }
@@ -99,4 +196,5 @@ pub fn build(t: &[u8], nodes: usize, x: &mut [u16])
 {
     load(t, nodes, x);
     link(x, nodes);
+    copy_codes(x);
 }

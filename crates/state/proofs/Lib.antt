@@ -1,6 +1,4 @@
--- Laws of the work area, for the proofs of the functions. Assumes nothing.
+-- Laws of the work area. Assumes nothing.
 pub mod Areas
 pub mod Values
-pub mod Pushes
-pub mod Pops
-pub mod Numbers
+pub mod Joins

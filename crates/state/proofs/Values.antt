@@ -1,63 +1,73 @@
--- A literal's value by its node's entry, as a number. Assumes nothing.
-use mathlib.Core.Path.{_≡_, sym, ap, _∙_}
-use mathlib.Core.Logic.{inl, inr}
-use mathlib.Core.List.{List}
-use Prim.Native.Nat.{ℕ, _+_, _-_, _/_, _%_, _≤_}
+-- The values of literals: as a literal joins, as it leaves, and where none is held. Assumes nothing.
+use mathlib.Core.Path.{_≡_, refl, sym, ap, _∙_}
+use mathlib.Core.List.{List, [], _∷_}
+use Prim.Native.Nat.{ℕ, suc, _+_, _-_, _*_, _/_, _%_, _<_, _≤_}
 use native.Mathlib.Omega.{arith}
-use native.Mathlib.Decide.{ℕ-discrete}
-use borrow.Author.Tests.{le-ltb}
-use Rattle.calculus.specs.Order.{Value, valueOf}
-use Rattle.trail.proofs.Trails.{side-none, side-true, side-false}
-use Rattle.index.specs.Index.{always, never}
-use Rattle.clause.specs.Classes.{wideValue}
-use Rattle.clause.proofs.Rows.{wide-low}
-use Rattle.state.specs.Work.{tail, entryOf, side, valueCode, gOf, Wide, Ready}
-use Rattle.state.proofs.Areas.{count-most}
+use native.Mathlib.Decide.{ℕ-discrete, decLt}
+use lib.ListN.{length, getD, set, length-set}
+use lib.Seq.{getD-set-same, getD-set-other}
+use borrow.Author.Tests.{lt-ltb, le-ltb}
+use Rattle.calculus.specs.Expansion.{neg}
+use Rattle.calculus.specs.Order.{mem, holds, fails, undecided, valueOf}
+use Rattle.calculus.specs.Model.{Fresh}
+use Rattle.calculus.proofs.Literals.{value-joined, value-negated, value-other, undecided-neg}
+use Rattle.clause.specs.Coded.{wideValue}
+use Rattle.state.specs.Work.{tail, valueAt, valueCode}
+use Rattle.state.specs.Changes.{valuesSet}
 
--- an entry has the literal's sign, or the other
-entry-value : (e l : ℕ) (v : Value) → (e ≡ 0 → ⊥) → side e (l % 2) ≡ v → 2 - (e + l) % 2 ≡ valueCode v
-entry-value e l v z h = go (ℕ-discrete ((e - 1) % 2) (l % 2))
-  where
-    go : Dec ((e - 1) % 2 ≡ l % 2) → 2 - (e + l) % 2 ≡ valueCode v
-    go (yes s) =
-        let x : 2 - (e + l) % 2 ≡ 1 = omega (arith, z) in
-        x ∙ side-true e (l % 2) v z s h
-    go (no s) =
-        let x : 2 - (e + l) % 2 ≡ 2 = omega (arith, z) in
-        x ∙ side-false e (l % 2) v z s h
-
--- a literal past the nodes has the value that it stands for
-wide-high : (G : List ℕ) (l : ℕ) → always ≤ l → l - 4031 ≡ wideValue G l
+-- a literal of a node
+pub wide-node : (G : List ℕ) (l : ℕ) → l < 4032 → wideValue G l ≡ valueCode (valueOf G l)
 unfolding wideValue
-wide-high G l h = simp (le-ltb l always h)
+wide-node G l h = rw (lt-ltb l 4032 h)
 
-module _ {n : ℕ} {w : List ℕ} (l : ℕ) (few : n ≤ 2016) (h : Ready n w) where
-  abbrev entry : ℕ
-  entry = entryOf (tail w) (l / 2)
+-- one of no node has the same value in every list
+pub wide-none : (G F : List ℕ) (l : ℕ) → 4032 ≤ l → wideValue G l ≡ wideValue F l
+unfolding wideValue
+wide-none G F l h = rw (le-ltb l 4032 h)
 
-  -- past the nodes it is 1
-  fill : always ≤ l → l ≤ never → entry ≡ 1
-  fill a b =
-      let z : l / 2 ≡ 2016 = omega arith in
-      ap (λ (m : ℕ). entryOf (tail w) m) z ∙ h .fill
+-- nothing is held
+pub wide-nil : (l : ℕ) → l < 4032 → wideValue [] l ≡ 0
+unfolding valueOf mem
+wide-nil l h = wide-node [] l h
 
-  -- the entry's number is small
-  pub entry-most : Wide n l → entry ≤ 4032
-  entry-most (inl b) = omega (arith, h .trail .low (l / 2) (omega arith), count-most h)
-  entry-most (inr b) = omega (arith, fill (b .0) (b .1))
+-- ---- l joins G
 
-  pub wide-most : Wide n l → l ≤ never
-  wide-most (inl b) = omega arith
-  wide-most (inr b) = b .1
+module _ (G : List ℕ) (l : ℕ) (b : l < 4032) (f : valueOf G l ≡ undecided) where
+  pub wide-joined : wideValue (l ∷ G) l ≡ 1
+  wide-joined = wide-node (l ∷ G) l b ∙ ap valueCode (value-joined G l)
 
-  -- no entry: undecided
-  pub value-none : Wide n l → entry ≡ 0 → 0 ≡ wideValue (gOf w) l
-  value-none (inl b) z = side-none entry (l % 2) (valueOf (gOf w) l) z (h .trail .vals l b) ∙ sym (wide-low (gOf w) l (omega arith))
-  value-none (inr b) z = absurd (omega (arith, z, fill (b .0) (b .1)))
+  pub wide-negated : wideValue (l ∷ G) (neg l) ≡ 2
+  wide-negated = wide-node (l ∷ G) (neg l) (omega (arith, b)) ∙ ap valueCode (value-negated G l f)
 
-  -- an entry: true or false
-  pub value-some : Wide n l → (entry ≡ 0 → ⊥) → 2 - (entry + l) % 2 ≡ wideValue (gOf w) l
-  value-some (inl b) z = entry-value entry l (valueOf (gOf w) l) z (h .trail .vals l b) ∙ sym (wide-low (gOf w) l (omega arith))
-  value-some (inr b) z =
-      let x : 2 - (entry + l) % 2 ≡ l - 4031 = omega (arith, fill (b .0) (b .1), b .0, b .1) in
-      x ∙ wide-high (gOf w) l (b .0)
+  pub wide-before : wideValue G l ≡ 0
+  wide-before = wide-node G l b ∙ ap valueCode f
+
+  pub wide-before-neg : wideValue G (neg l) ≡ 0
+  wide-before-neg = wide-node G (neg l) (omega (arith, b)) ∙ ap valueCode (undecided-neg G l f)
+
+  -- other literals keep their values
+  pub wide-other : (k : ℕ) → (k ≡ l → ⊥) → (k ≡ neg l → ⊥) → wideValue (l ∷ G) k ≡ wideValue G k
+  wide-other k a c = go (decLt k 4032)
+    where
+      go : Dec (k < 4032) → wideValue (l ∷ G) k ≡ wideValue G k
+      go (yes i) =
+          let d : k / 2 ≡ l / 2 → ⊥ = λ e. c (omega (arith, e, a)) in
+          wide-node (l ∷ G) k i ∙ ap valueCode (value-other G l k d) ∙ sym (wide-node G k i)
+      go (no i) = wide-none (l ∷ G) G k (omega (arith, i))
+
+-- ---- the stores of two values
+
+module _ (w : List ℕ) (l v u : ℕ) (b : l < 4032) (size : 10089 ≤ length w) where
+  pub set-other : (i : ℕ) → (i ≡ 4 + (6051 + l) → ⊥) → (i ≡ 4 + (6051 + neg l) → ⊥) → getD (valuesSet w l v u) i 0 ≡ getD w i 0
+  set-other i a c = getD-set-other (set w (4 + (6051 + l)) v) (4 + (6051 + neg l)) i u 0 c ∙ getD-set-other w (4 + (6051 + l)) i v 0 a
+
+  pub set-first : valueAt (tail (valuesSet w l v u)) l ≡ v
+  set-first =
+      getD-set-other (set w (4 + (6051 + l)) v) (4 + (6051 + neg l)) (4 + (6051 + l)) u 0 (λ e. omega (arith, e))
+      ∙ getD-set-same w (4 + (6051 + l)) v 0 (omega (arith, size, b))
+
+  pub set-second : valueAt (tail (valuesSet w l v u)) (neg l) ≡ u
+  set-second = getD-set-same (set w (4 + (6051 + l)) v) (4 + (6051 + neg l)) u 0 (simp length-set (omega (arith, size, b)))
+
+  pub set-length : length (valuesSet w l v u) ≡ length w
+  set-length = simp length-set

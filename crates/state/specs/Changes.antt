@@ -1,33 +1,41 @@
 -- What the functions of this crate leave: a literal joins the trail, or the newest leaves. Assumes nothing.
 use mathlib.Core.Path.{_≡_}
 use mathlib.Core.Logic.{_⊎_}
-use mathlib.Core.List.{List, _∷_}
-use Prim.Native.Nat.{ℕ, suc, _+_, _<_, _≤_}
-use lib.ListN.{getD, length}
-use Rattle.state.specs.Work.{tail, litAt, baseOf, gOf, Ready}
+use mathlib.Core.List.{List, [], _∷_}
+use Prim.Native.Nat.{ℕ, suc, _+_, _*_, _/_, _%_, _<_, _≤_}
+use lib.ListN.{getD, length, set}
+use Rattle.calculus.specs.Expansion.{neg}
+use Rattle.index.specs.Index.{mostNodes, always}
+use Rattle.state.specs.Work.{tail, litAt, baseOf, cursorAt, cursorOf, conflictOf, gOf, Ready}
 
--- a number that neither push nor pop changes: a class, or one past the bases
-abbrev pub Kept : ℕ → Type 0
-Kept i = (i < 6532) ⊎ (12583 ≤ i)
+-- the values of l and its negation are stored
+abbrev pub valuesSet : List ℕ → ℕ → ℕ → ℕ → List ℕ
+valuesSet w l v u = set (set w (4 + (6051 + l)) v) (4 + (6051 + neg l)) u
 
--- l has joined, which has so many clauses
-pub record Pushed (n l more : ℕ) (w w′ : List ℕ) : Type 0 where
+-- what a joining literal stores of itself in u: its entry, itself, and the count
+abbrev pub entrySet : List ℕ → ℕ → ℕ → List ℕ
+entrySet u h l = set (set (set u (4 + (2017 + l / 2)) (2 * h + l % 2 + 1)) (4 + (1 + h)) l) (4 + 0) (h + 1)
+
+-- a number that neither a joining nor a leaving literal changes: a cell, an earlier literal, a base, a cursor but that at h
+abbrev pub Kept : ℕ → ℕ → Type 0
+Kept h i = (i < 4) ⊎ (((4 < i) × (i < 5 + h)) ⊎ (((4038 ≤ i) × (i < 6055)) ⊎ ((10089 ≤ i) × (i ≡ 10089 + h → ⊥))))
+
+-- l has joined at the position that was the count
+pub record Pushed (n l : ℕ) (w w′ : List ℕ) : Type 0 where
   pub ready : Ready n w′
-  pub size : length w′ ≡ length w
   pub list : gOf w′ ≡ l ∷ gOf w
   pub count : tail w′ 0 ≡ suc (tail w 0)
-  pub lits : (q : ℕ) → q < tail w 0 → litAt (tail w′) q ≡ litAt (tail w) q
   pub top : litAt (tail w′) (tail w 0) ≡ l
-  pub bases : (q : ℕ) → q ≤ tail w 0 → baseOf (tail w′) q ≡ baseOf (tail w) q
-  pub base : baseOf (tail w′) (suc (tail w 0)) ≡ baseOf (tail w) (tail w 0) + more
-  pub kept : (i : ℕ) → Kept i → getD w′ i 0 ≡ getD w i 0
+  pub cursor : cursorAt (tail w′) (tail w 0) ≡ cursorOf w
+  pub kept : (i : ℕ) → Kept (tail w 0) i → getD w′ i 0 ≡ getD w i 0
 
--- the newest literal, l, has left
-pub record Popped (n l : ℕ) (w w′ : List ℕ) : Type 0 where
+-- the newest literal has left
+pub record Popped (n : ℕ) (w w′ : List ℕ) : Type 0 where
   pub ready : Ready n w′
-  pub size : length w′ ≡ length w
-  pub list : gOf w ≡ l ∷ gOf w′
   pub count : tail w 0 ≡ suc (tail w′ 0)
-  pub lits : (q : ℕ) → q < tail w′ 0 → litAt (tail w′) q ≡ litAt (tail w) q
-  pub bases : (q : ℕ) → q ≤ tail w′ 0 → baseOf (tail w′) q ≡ baseOf (tail w) q
-  pub kept : (i : ℕ) → Kept i → getD w′ i 0 ≡ getD w i 0
+  pub kept : (i : ℕ) → (i < 4) ⊎ (((4 < i) × (i < 2021)) ⊎ (((4038 ≤ i) × (i < 6055)) ⊎ (10089 ≤ i))) → getD w′ i 0 ≡ getD w i 0
+
+-- nothing is held: the trail is empty, no literal has a value but the two of no node
+pub record Blank (w : List ℕ) (k : ℕ) (w′ : List ℕ) : Type 0 where
+  pub size : length w′ ≡ length w
+  pub zero : (i : ℕ) → i < k → getD w′ i 0 ≡ 0

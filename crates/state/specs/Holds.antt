@@ -1,22 +1,52 @@
--- What the work area w and its sets m (crate marks) hold between the solver's calls. Assumes nothing.
+-- What the work area w and its set of units m (crate units) hold between the solver's calls. Assumes nothing.
 use mathlib.Core.Path.{_≡_}
+use mathlib.Core.Bool.{true}
 use mathlib.Core.List.{List}
-use Prim.Native.Nat.{ℕ, suc, _<_, _≤_}
-use lib.ListN.{getD}
+use Prim.Native.Nat.{ℕ, _<_, _≤_}
+use lib.ListN.{getD, length}
 use Rattle.scope.specs.declared.Node.{Node}
-use Rattle.clause.specs.Classes.{classAt}
-use Rattle.marks.specs.Marks.{places, Marks}
-use Rattle.state.specs.Work.{tail, litAt, notedAt, gOf, Ready, Numbered, Paired, Right, goalClauses, Spare}
-use Rattle.state.specs.Notes.{Noted, Room}
+use Rattle.calculus.specs.Order.{State, met, holds, valueOf, isEmpty, isOne, some, bit, move}
+use Rattle.calculus.specs.Model.{All}
+use Rattle.calculus.specs.declared.Move.the-variants.{Split}
+use Rattle.index.specs.Index.{mostNodes}
+use Rattle.units.specs.Units.{positions, inSet, Units}
+use Rattle.clause.specs.Coded.{statesOf}
+use Rattle.state.specs.Work.{tail, gOf, litAt, trail, cursorAt, cursorOf, conflictOf, waitingOf, Ready, Numbered}
 
--- every clause is of its class, and what undo needs is there
-pub record Holds (t : ℕ → Node) (n : ℕ) (goals : List ℕ) (w m : List ℕ) : Type 0 where
+-- what the clauses of the literal at position q are under G
+abbrev pub statesAt : (ℕ → Node) → List ℕ → (ℕ → ℕ) → ℕ → List State
+statesAt t G r q = statesOf t G (litAt r q)
+
+-- position q is in the set exactly if a clause of its literal is a unit; and it is not before c if one is all false
+pub record Entered (t : ℕ → Node) (G : List ℕ) (r : ℕ → ℕ) (c : ℕ) (m : List ℕ) (q : ℕ) : Type 0 where
+  pub unit : inSet m q ≡ bit (some isOne (statesAt t G r q))
+  pub conflict : some isEmpty (statesAt t G r q) ≡ true → c ≤ q
+
+-- c is no position, or one that has a clause that is all false
+abbrev pub Closed : (ℕ → Node) → List ℕ → (ℕ → ℕ) → ℕ → Type 0
+Closed t G r c = c < mostNodes → (c < r 0) × (some isEmpty (statesAt t G r c) ≡ true)
+
+-- every clause of the first c positions is met
+abbrev pub AllMet : (ℕ → Node) → List ℕ → (ℕ → ℕ) → ℕ → Type 0
+AllMet t G r c = (q : ℕ) → q < c → All (λ s. s ≡ met) (statesAt t G r q)
+
+-- v is 0 exactly if every goal is true
+pub record Waiting (goals G : List ℕ) (v : ℕ) : Type 0 where
+  pub over : v ≡ 0 → (k : ℕ) → k < length goals → valueOf G (getD goals k 0) ≡ holds
+  pub on : (v ≡ 0 → ⊥) → (k : ℕ) × (k < length goals) × (valueOf G (getD goals k 0) ≡ holds → ⊥)
+
+pub record Holds (t : ℕ → Node) (n : ℕ) (goals w m : List ℕ) : Type 0 where
   pub ready : Ready n w
-  pub marks : Marks w m
   pub numbered : Numbered t goals (tail w)
-  pub aimed : (k : ℕ) → k < 64 → getD w k 0 ≡ classAt (gOf w) (goalClauses goals) k
-  pub right : (q : ℕ) → q < tail w 0 → Right t (gOf w) (litAt (tail w) q) w q
-  pub clear : (k : ℕ) → k < places → Spare (tail w 0) k → getD w k 0 ≡ 0
-  pub paired : (q : ℕ) → q < tail w 0 → Paired t (tail w) q
-  pub noted : (q : ℕ) → q < tail w 0 → Noted t (tail w) q (notedAt (tail w) q) (notedAt (tail w) (suc q))
-  pub room : (q : ℕ) → q ≤ tail w 0 → Room t n (tail w) q
+  pub units : Units m
+  pub entered : (q : ℕ) → q < tail w 0 → Entered t (gOf w) (tail w) (conflictOf w) m q
+  pub clear : (q : ℕ) → tail w 0 ≤ q → q < positions → inSet m q ≡ 0
+  pub closed : Closed t (gOf w) (tail w) (conflictOf w)
+  pub cursor : cursorOf w ≤ tail w 0
+  pub met-before : AllMet t (gOf w) (tail w) (cursorOf w)
+  pub cursors : (h : ℕ) → h < tail w 0 → (cursorAt (tail w) h ≤ h) × AllMet t (trail h (tail w)) (tail w) (cursorAt (tail w) h)
+  pub waiting : Waiting goals (gOf w) (waitingOf w)
+
+-- the next move from G is a split
+abbrev pub Splits : (ℕ → List (List ℕ)) → List ℕ → List ℕ → Type 0
+Splits expand goals G = (l : ℕ) × (move expand goals G ≡ Split l)

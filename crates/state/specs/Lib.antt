@@ -1,5 +1,4 @@
 -- What the solver's work area holds. Assumes nothing.
 pub mod Work
-pub mod Notes
 pub mod Holds
 pub mod Changes

@@ -1,19 +1,20 @@
-// The trail in the work area: values, counts, numbers; a literal joins or the newest leaves. The layout is in specs/Work.antt.
+// The trail in the work area: a literal joins or the newest leaves, with their values. The layout is in specs/Work.antt.
 ghost use mathlib.Core.Path.{_≡_};
-ghost use Prim.Native.Nat.{ℕ, suc, _+_, _-_, _*_, _/_, _≤_, _<_};
+ghost use mathlib.Core.List.{[]};
+ghost use Prim.Native.Nat.{ℕ, _+_, _-_, _*_, _/_, _≤_, _<_};
 ghost use lib.ListN.{length};
 ghost use Rattle.calculus.specs.Model.{Fresh};
+ghost use Rattle.calculus.specs.Order.{valueOf};
 ghost use Rattle.index.specs.Index.{mostNodes};
-ghost use Rattle.marks.specs.Marks.{area, places};
-ghost use Rattle.clause.specs.Classes.{wideValue};
-ghost use Rattle.state.specs.Work.{tail, baseOf, litAt, gOf, Wide, Ready, pairAt, numberAt};
-ghost use Rattle.state.specs.Changes.{Pushed, Popped};
+ghost use Rattle.state.specs.Work.{area, tail, litAt, entryOf, baseOf, cursorAt, gOf, valueCode, Ready};
+ghost use Rattle.state.specs.Changes.{valuesSet, entrySet, Pushed, Popped, Blank};
 
-// The trail: the count of the literals held, the literals, each node's entry, how many clauses stand before each literal's, and the
-// literals of its clauses.
-const GOALS: usize = 64;
+// The cursor: every clause of the positions before it is met.
+const CURSOR: usize = 0;
 
-const TRAIL: usize = 6532;
+// The trail: the count of the literals held, the literals, each node's entry (2 * position + sign + 1, or 0), how many clauses stand before
+// each literal's, each literal's value, the cursor as each literal joined.
+const TRAIL: usize = 4;
 
 const LITERALS: usize = 1;
 
@@ -21,17 +22,12 @@ const ENTRIES: usize = 2017;
 
 const BASES: usize = 4034;
 
-const PAIRS: usize = 6051;
+const VALUES: usize = 6051;
 
-// The value of a literal: 0 undecided, 1 true, 2 false.
-pub fn value(work: &[u16], n: usize, l: u16) -> u16
-    requires { ⌜ Ready n (now work) ⌝ }
-    requires { ⌜ (n ≤ mostNodes) × Wide n l ⌝ }
-    ensures { λ r. ⌜ r ≡ wideValue (gOf (now (work .entry))) l ⌝ }
-{
-    let e = work[TRAIL + (ENTRIES + (l / 2) as usize)];
-    if e == 0 { 0 } else { 2 - (e + l) % 2 }
-}
+const CURSORS: usize = 10085;
+
+// A literal of no node, always true; the number after it is always false.
+const ALWAYS: usize = 4032;
 
 // How many literals are held.
 pub fn count(work: &[u16]) -> u16
@@ -41,59 +37,112 @@ pub fn count(work: &[u16]) -> u16
     work[TRAIL]
 }
 
-// The position of the newest literal.
-pub fn newest(n: usize, work: &[u16]) -> usize
-    requires { ⌜ Ready n (now work) ⌝ }
-    requires { ⌜ (n ≤ mostNodes) × (0 < length (gOf (now work))) ⌝ }
-    ensures { λ r. ⌜ (tail (now (work .entry)) 0 ≡ suc r) × (r < mostNodes) ⌝ }
+// The literal at position q.
+pub fn literal(work: &[u16], q: usize) -> u16
+    requires { ⌜ (area ≤ length (now work)) × (q < mostNodes) ⌝ }
+    ensures { λ r. ⌜ r ≡ litAt (tail (now (work .entry))) q ⌝ }
 {
-    (work[TRAIL] - 1) as usize
+    work[TRAIL + (LITERALS + q)]
 }
 
-// A literal joins those held; it has so many clauses. No class is changed.
-pub fn push(n: usize, work: &mut [u16], l: u16, more: u16)
-    requires { ⌜ Ready n (now work) ⌝ }
-    requires { ⌜ (n ≤ mostNodes) × Fresh n (gOf (now work)) l ⌝ }
-    requires { ⌜ (tail (now work) 0 < mostNodes) × (baseOf (tail (now work)) (tail (now work) 0) ≤ 4096) × (more ≤ 2) ⌝ }
-    ensures { λ _. ⌜ Pushed n l more (now (work .entry)) (now (work .exit)) ⌝ }
+// The entry of node p.
+pub fn entry(work: &[u16], p: usize) -> u16
+    requires { ⌜ (area ≤ length (now work)) × (p < mostNodes) ⌝ }
+    ensures { λ r. ⌜ r ≡ entryOf (tail (now (work .entry))) p ⌝ }
 {
-    let h = work[TRAIL];
-    let b = work[TRAIL + (BASES + h as usize)];
-    work[TRAIL + (BASES + (h as usize + 1))] = b + more;
+    work[TRAIL + (ENTRIES + p)]
+}
+
+// How many clauses stand before those of position q.
+pub fn base(work: &[u16], q: usize) -> u16
+    requires { ⌜ (area ≤ length (now work)) × (q ≤ mostNodes) ⌝ }
+    ensures { λ r. ⌜ r ≡ baseOf (tail (now (work .entry))) q ⌝ }
+{
+    work[TRAIL + (BASES + q)]
+}
+
+// The cursor as the literal at position q joined.
+pub fn cursor_at(work: &[u16], q: usize) -> u16
+    requires { ⌜ (area ≤ length (now work)) × (q < mostNodes) ⌝ }
+    ensures { λ r. ⌜ r ≡ cursorAt (tail (now (work .entry))) q ⌝ }
+{
+    work[TRAIL + (CURSORS + q)]
+}
+
+// The value of a literal: 0 undecided, 1 true, 2 false.
+pub fn value(n: usize, work: &[u16], l: u16) -> u16
+    requires { ⌜ Ready n (now work) ⌝ }
+    requires { ⌜ (n ≤ mostNodes) × (l < 2 * n) ⌝ }
+    ensures { λ r. ⌜ r ≡ valueCode (valueOf (gOf (now (work .entry))) l) ⌝ }
+{
+    work[TRAIL + (VALUES + l as usize)]
+}
+
+// The values of a literal and of its negation become v and u.
+fn set_values(work: &mut [u16], l: u16, v: u16, u: u16)
+    requires { ⌜ (area ≤ length (now work)) × (l < 2 * mostNodes) ⌝ }
+    ensures { λ _. ⌜ now (work .exit) ≡ valuesSet (now (work .entry)) l v u ⌝ }
+{
+    let other = clause::negated(l);
+    work[TRAIL + (VALUES + l as usize)] = v;
+    work[TRAIL + (VALUES + other as usize)] = u;
+}
+
+// A literal is entered at position h, the last.
+fn enter(work: &mut [u16], h: u16, l: u16)
+    requires { ⌜ (area ≤ length (now work)) × (l < 2 * mostNodes) × (h < mostNodes) ⌝ }
+    ensures { λ _. ⌜ now (work .exit) ≡ entrySet (now (work .entry)) h l ⌝ }
+{
     work[TRAIL + (ENTRIES + (l / 2) as usize)] = 2 * h + l % 2 + 1;
     work[TRAIL + (LITERALS + h as usize)] = l;
     work[TRAIL] = h + 1;
 }
 
-// The newest literal, l, leaves those held; no class is changed.
-pub fn pop(n: usize, work: &mut [u16], l: u16)
+// A literal joins those held.
+pub fn push(n: usize, work: &mut [u16], l: u16)
     requires { ⌜ Ready n (now work) ⌝ }
-    requires { ⌜ (n ≤ mostNodes) × (l < 2 * n) × (0 < tail (now work) 0) ⌝ }
-    requires { ⌜ l ≡ litAt (tail (now work)) (tail (now work) 0 - 1) ⌝ }
-    ensures { λ _. ⌜ Popped n l (now (work .entry)) (now (work .exit)) ⌝ }
+    requires { ⌜ (n ≤ mostNodes) × Fresh n (gOf (now work)) l × (tail (now work) 0 < mostNodes) ⌝ }
+    ensures { λ _. ⌜ Pushed n l (now (work .entry)) (now (work .exit)) ⌝ }
+{
+    let h = work[TRAIL];
+    set_values(work, l, 1, 2);
+    work[TRAIL + (CURSORS + h as usize)] = work[CURSOR];
+    enter(work, h, l);
+}
+
+// The newest literal leaves those held.
+pub fn pop(n: usize, work: &mut [u16])
+    requires { ⌜ Ready n (now work) ⌝ }
+    requires { ⌜ (n ≤ mostNodes) × (0 < tail (now work) 0) × (tail (now work) 0 ≤ mostNodes) ⌝ }
+    requires { ⌜ litAt (tail (now work)) (tail (now work) 0 - 1) < 2 * mostNodes ⌝ }
+    ensures { λ _. ⌜ Popped n (now (work .entry)) (now (work .exit)) ⌝ }
 {
     let h = work[TRAIL] - 1;
+    let l = work[TRAIL + (LITERALS + h as usize)];
+    set_values(work, l, 0, 0);
     work[TRAIL + (ENTRIES + (l / 2) as usize)] = 0;
     work[TRAIL] = h;
 }
 
-// The number of the clause at a place.
-pub fn number(work: &[u16], k: usize) -> u16
-    requires { ⌜ (area ≤ length (now work)) × (k < places) ⌝ }
-    requires { ⌜ (64 ≤ k → baseOf (tail (now work)) ((k - 64) / 3) ≤ 4096) ⌝ }
-    ensures { λ r. ⌜ r ≡ numberAt (tail (now (work .entry))) k ⌝ }
+// The first k numbers become 0.
+fn wipe(work: &mut [u16], k: usize)
+    requires { ⌜ k ≤ length (now work) ⌝ }
+    ensures { λ _. ⌜ Blank (now (work .entry)) k (now (work .exit)) ⌝ }
 {
-    if k < GOALS {
-        return k as u16;
+    let mut i = 0;
+    while i < k {
+        work[i] = 0;
+        i += 1;
     }
-    let b = work[TRAIL + (BASES + (k - GOALS) / 3)];
-    b + ((k - GOALS) % 3) as u16
 }
 
-// Literal i of the four of the clauses at position q.
-pub fn literal(work: &[u16], q: usize, i: usize) -> u16
-    requires { ⌜ (area ≤ length (now work)) × (q < mostNodes) × (i < 4) ⌝ }
-    ensures { λ r. ⌜ r ≡ pairAt (tail (now (work .entry))) q i ⌝ }
+// Nothing is held.
+pub fn blank(n: usize, work: &mut [u16])
+    requires { ⌜ (area ≤ length (now work)) × (n ≤ mostNodes) ⌝ }
+    ensures { λ _. ⌜ Ready n (now (work .exit)) ⌝ }
+    ensures { λ _. ⌜ (tail (now (work .exit)) 0 ≡ 0) × (gOf (now (work .exit)) ≡ []) ⌝ }
 {
-    work[TRAIL + (PAIRS + (4 * q + i))]
+    wipe(work, TRAIL + CURSORS);
+    work[TRAIL + (VALUES + ALWAYS)] = 1;
+    work[TRAIL + (VALUES + (ALWAYS + 1))] = 2;
 }

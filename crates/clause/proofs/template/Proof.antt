@@ -1,4 +1,4 @@
--- `clause::template` meets its contract. A number of a row that is lent is that of the rows. Assumes nothing.
+-- `clause::template` meets its contract. A number of the rows that are lent is that of the rows. Assumes nothing.
 use mathlib.Core.List.{List, []}
 use mathlib.Core.Path.{ap}
 use Prim.Native.Nat.{ℕ}

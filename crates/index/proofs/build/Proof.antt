@@ -1,24 +1,31 @@
--- `index::build` meets its contract: of the nodes loaded no slot is linked yet, and linking keeps them. Assumes nothing.
-use Rattle.index.proofs.Slots.{linked-none, built}
+-- `index::build` meets its contract: of the nodes loaded no cell is linked yet, and linking keeps them. Assumes nothing.
+use Rattle.index.proofs.Cells.{linked-none, built}
 use borrow.Author.Needs.{needs}
 use Rattle.index.proofs.build.Statement.{statement}
 use Rattle.index.proofs.build.Tie as tie
+use Rattle.index.proofs.copy_codes.Reads as copy-codes-reads
+use Rattle.index.proofs.link.Reads as link-reads
+use Rattle.index.proofs.load.Reads as load-reads
 
 load-requires : tie.Need-load-requires
 load-requires c κs = search needs
 
 link-requires : tie.Need-link-requires
 link-requires c κs =
-    let l = c .before .before .before .load in
-    ((l .ensures .size, c .before .before .before .before .before .before .before .pre .0 .0), linked-none _ _ _ (l .ensures .heads))
+    let l = c .before .before .before .load .ensures in
+    ((l .size, c .before .before .before .before .before .before .before .pre .0 .0), linked-none _ _ _ (l .heads))
+
+copy-codes-requires : tie.Need-copy-codes-requires
+copy-codes-requires c κs = c .before .before .before .link .ensures .size
 
 same-length : tie.Need-same-length
 same-length c = search needs
 
 returns : tie.Need-returns
 returns c =
-    let start = c .before .before .before .before .before .before .before .before .before .before in
-    built (start .args .t .now) (start .args .nodes) _ _ (start .pre .0 .0) (c .before .before .before .before .before .before .load .ensures) (c .before .before .link .ensures)
+    let s = c .before .before .before .before .before .before .before .before .before .before .before .before .before .before in
+    built (s .args .t .now) (s .args .nodes) _ _ _ (s .pre .0 .0) (c .before .before .before .before .before .before .before .before .before .before .load .ensures) (c .before .before .before .before .before .before .link .ensures) (c .before .before .copy-codes .ensures)
 
 pub build-spec : {M : Type 1} → statement M
-build-spec = tie.close (tie.spec load-requires link-requires same-length returns)
+build-spec =
+    tie.close (tie.spec load-requires link-requires copy-codes-requires same-length returns)

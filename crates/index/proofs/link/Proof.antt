@@ -1,16 +1,16 @@
--- `index::link` meets its contract. The loop's invariant: the slots of the nodes passed are linked, and the nodes are as they were.
+-- `index::link` meets its contract. The loop's invariant: the cells of the nodes passed are linked, and the nodes are as they were.
 -- Assumes nothing.
 use Prim.Native.Nat.{_+_, _-_, _*_, _≤_}
 use mathlib.Core.Path.{_≡_, _∙_, sym}
 use Rattle.index.specs.Index.{Entered}
-use Rattle.index.proofs.Slots.{entered-start, entered-more}
+use Rattle.index.proofs.Cells.{entered-start, entered-more}
 use native.Mathlib.Omega.{arith}
 use borrow.Author.Needs.{needs}
 use Rattle.index.proofs.link.Statement.{statement}
 use Rattle.index.proofs.link.Tie as tie
 
 abbrev Inv-loop : tie.InvT-loop
-Inv-loop x₀ n p₀ x p = (p ≤ n) × Entered n (3 * p) x₀ x
+Inv-loop x₀ n p₀ x p = (p ≤ n) × Entered n (4 * p) x₀ x
 
 abbrev μ-loop : tie.MeasureT-loop
 μ-loop x₀ n p₀ x p = n - p
@@ -33,7 +33,7 @@ loop-again : tie.Need-loop-again Inv-loop μ-loop
 loop-again c =
     let l = c .before .before .before .before .before .loop in
     let start = c .before .before .before .before .before .before .before in
-    (omega (arith, c .before .before .before .before .loop-test .taken), entered-more (start .args .n) (3 * l .p) (3 * (l .p + 1)) (start .args .x .now) (l .x) _ (l .inv .1) (c .before .before .enter-node .ensures))
+    (omega (arith, c .before .before .before .before .loop-test .taken), entered-more (start .args .n) (4 * l .p) (4 * (l .p + 1)) (start .args .x .now) (l .x) _ (l .inv .1) (c .before .before .enter-node .ensures))
 
 same-length : tie.Need-same-length Inv-loop μ-loop
 same-length c = c .before .loop .inv .1 .size ∙ sym (c .before .before .before .pre .0 .0)

@@ -1,8 +1,9 @@
--- `state::count` meets its contract: the trail has as many literals as its first number says. Assumes nothing.
+-- `state::count` meets its contract. Assumes nothing.
 use mathlib.Core.Path.{sym}
-use borrow.Author.Needs.{needs}
-use Rattle.state.specs.Work.{tail}
 use Rattle.trail.proofs.Trails.{trail-length}
+use Rattle.state.specs.Work.{tail}
+use native.Mathlib.Omega.{arith}
+use borrow.Author.Needs.{needs}
 use Rattle.state.proofs.count.Statement.{statement}
 use Rattle.state.proofs.count.Tie as tie
 

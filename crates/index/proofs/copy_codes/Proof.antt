@@ -1,0 +1,73 @@
+-- `index::copy_codes` meets its contract. The loop's invariant: the codes passed stand behind the links. That CODES are the codes is computed. Assumes nothing.
+use mathlib.Core.Path.{_≡_, _∙_, refl, sym}
+use Prim.Native.Nat.{_≤_, _-_}
+use Rattle.scope.specs.Table.{listFrom}
+use Rattle.calculus.specs.Expansion.{templates}
+use Rattle.calculus.specs.Order.{some, firstOf}
+use Rattle.index.specs.Codes.{codesSize, choiceValue, stateBy, codeOf, codeRows}
+use Rattle.index.specs.Index.{Copied}
+use Rattle.index.proofs.Cells.{copied-none, copied-more}
+use native.Mathlib.Omega.{arith}
+use borrow.Author.Needs.{needs}
+use Rattle.index.proofs.copy_codes.Statement.{statement}
+use Rattle.index.proofs.copy_codes.Tie as tie
+use Rattle.index.proofs.code_at.Reads as code-at-reads
+
+abbrev Inv-loop : tie.InvT-loop
+Inv-loop x₀ codes i₀ x i = (i ≤ codesSize) × Copied i x₀ x
+
+abbrev μ-loop : tie.MeasureT-loop
+μ-loop x₀ codes i₀ x i = codesSize - i
+
+loop-holds : tie.Need-loop-holds Inv-loop μ-loop
+loop-holds c = (omega arith, copied-none (c .before .before .args .x .now) (c .before .before .pre))
+
+code-at-requires : tie.Need-code-at-requires Inv-loop μ-loop
+unfolding listFrom templates some firstOf choiceValue stateBy codeOf codeRows
+code-at-requires c κs = (refl, search needs)
+
+add-x : tie.Need-add-x Inv-loop μ-loop
+add-x c = search needs
+
+mul-x : tie.Need-mul-x Inv-loop μ-loop
+mul-x c = search needs
+
+slice-write-x : tie.Need-slice-write-x Inv-loop μ-loop
+slice-write-x c = omega (arith, c .before .before .loop .inv .1 .size, c .before .loop-test .taken)
+
+add-i : tie.Need-add-i Inv-loop μ-loop
+add-i c = search needs
+
+loop-less : tie.Need-loop-less Inv-loop μ-loop
+loop-less c = search needs
+
+loop-again : tie.Need-loop-again Inv-loop μ-loop
+loop-again c =
+    let l = c .before .before .loop in
+    let h = c .before .loop-test .taken in
+    (omega (arith, h), copied-more (l .i) _ _ (l .x) h (c .code-at .ensures) (l .inv .1))
+
+same-length : tie.Need-same-length Inv-loop μ-loop
+same-length c = c .before .loop .inv .1 .size ∙ sym (c .before .before .before .before .pre)
+
+returns : tie.Need-returns Inv-loop μ-loop
+returns c =
+    let e : c .before .loop .i ≡ codesSize = omega (arith, c .before .loop .inv .0, c .loop-test .left) in
+    rw e at (c .before .loop .inv .1)
+
+pub copy-codes-spec : {M : Type 1} → statement M
+copy-codes-spec =
+    tie.close
+    (tie.spec
+    Inv-loop
+    μ-loop
+    loop-holds
+    code-at-requires
+    add-x
+    mul-x
+    slice-write-x
+    add-i
+    loop-less
+    loop-again
+    same-length
+    returns)

@@ -1,0 +1,60 @@
+-- What the clauses of a literal come to, by its row of the templates and the values of its node's operands. Assumes nothing.
+use mathlib.Core.Bool.{Bool, cond, _||_}
+use mathlib.Core.List.{List, [], _∷_, map}
+use Prim.Native.Nat.{ℕ, _+_, _*_, _/_, _%_}
+use lib.Dec.{eqb, ltb}
+use lib.ListN.{length, getD}
+use Rattle.scope.specs.Table.{listFrom}
+use Rattle.calculus.specs.Expansion.{templates}
+use Rattle.calculus.specs.Order.{Value, holds, fails, undecided, State, empty, joined, isEmpty, isOne, isMany, some, firstOf, literalAt, bit}
+
+-- a value by its number: 0 undecided, 1 true, 2 false
+abbrev pub numbered : ℕ → Value
+numbered v = cond (eqb v 1) holds (cond (eqb v 2) fails undecided)
+
+abbrev pub opposite : Value → Value
+opposite holds = fails
+opposite fails = holds
+opposite undecided = undecided
+
+-- the value of a choice, where the operands have the values a and b
+unfoldable pub choiceValue : ℕ → ℕ → ℕ → Value
+choiceValue a b c =
+    let v = numbered (cond (ltb c 2) a b) in
+    cond (eqb (c % 2) 0) v (opposite v)
+
+-- what a clause of choices is, as `stateOf` says it of a clause of literals
+unfoldable pub stateBy : (ℕ → Value) → List ℕ → State
+stateBy f [] = empty
+stateBy f (c ∷ cs) = joined (f c) c (stateBy f cs)
+
+-- what the clauses of a row are
+abbrev pub rowStates : List (List ℕ) → ℕ → ℕ → List State
+rowStates cs a b = map (stateBy (choiceValue a b)) cs
+
+-- no literal is true, and one is undecided
+abbrev pub isOpen : State → Bool
+isOpen s = isOne s || isMany s
+
+-- where some clause passes a test, a number of the first that does, else 0
+abbrev pub firstIf : (State → Bool) → (List State → ℕ → ℕ) → List State → ℕ
+firstIf p f ss = cond (some p ss) (f ss (firstOf p ss)) 0
+
+-- the code. Bit 0: some clause is a unit; bit 1: some clause is all false; bit 2: some clause is open. Then numbers: from 8 on which
+-- clause the first unit is, from 32 on the choice of its literal, from 256 on which clause the first all false one is, from 1024 on the
+-- choice of the first undecided literal of the first open clause, and from 8192 on how many clauses there are
+unfoldable pub codeOf : List State → ℕ
+codeOf ss =
+    bit (some isOne ss) + 2 * bit (some isEmpty ss) + 4 * bit (some isOpen ss) + 8 * firstIf isOne (λ _ k. k) ss
+    + 32 * firstIf isOne literalAt ss + 256 * firstIf isEmpty (λ _ k. k) ss + 1024 * firstIf isOpen literalAt ss + 8192 * length ss
+
+-- the codes of each row, that of the values a and b at 3 a + b
+unfoldable pub codeRows : List (List ℕ)
+codeRows = map (λ cs. listFrom (λ v. codeOf (rowStates cs (v / 3) (v % 3))) 0 9) templates
+
+-- the codes one after another: 14 rows of nine
+abbrev pub codesSize : ℕ
+codesSize = 126
+
+abbrev pub codeAt : ℕ → ℕ
+codeAt i = getD (getD codeRows (i / 9) []) (i % 9) 0

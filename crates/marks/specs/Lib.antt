@@ -1,2 +1,0 @@
--- What the calls of this crate do. Assumes nothing.
-pub mod Marks

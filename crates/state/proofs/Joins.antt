@@ -1,0 +1,251 @@
+-- A literal joins what is held, and the newest leaves. Assumes nothing.
+use mathlib.Core.Path.{_≡_, refl, sym, ap, _∙_, subst}
+use mathlib.Core.Logic.{_⊎_, inl, inr}
+use mathlib.Core.List.{List, [], _∷_}
+use Prim.Native.Nat.{ℕ, suc, _+_, _-_, _*_, _/_, _%_, _<_, _≤_}
+use native.Mathlib.Omega.{arith}
+use native.Mathlib.Decide.{ℕ-discrete}
+use lib.ListN.{length, getD, set, length-set}
+use lib.Seq.{getD-set-same, getD-set-other}
+use Rattle.calculus.specs.Expansion.{neg}
+use Rattle.calculus.specs.Order.{undecided, valueOf}
+use Rattle.calculus.specs.Model.{Fresh, Good}
+use Rattle.trail.proofs.Trails.{literal-below, trail-same, empty-trail, empty-held}
+use Rattle.trail.proofs.Joins.{Joins, joins}
+use Rattle.trail.proofs.Leaves.{Leaves, leaves, dropped}
+use Rattle.clause.specs.Coded.{wideValue}
+use Rattle.state.specs.Work.{tail, valueAt, cursorAt, cursorOf, litAt, gOf, held, trail, Trail, Ready}
+use Rattle.state.specs.Changes.{valuesSet, entrySet, Kept, Pushed, Popped, Blank}
+use Rattle.state.proofs.Areas.{count-most, room-left, held-below, trail-still}
+use Rattle.state.proofs.Values.{wide-joined, wide-negated, wide-before, wide-before-neg, wide-other, wide-none, wide-nil, set-other, set-first, set-second, set-length}
+
+-- ---- a literal joins: its values, the cursor, its entry
+
+module _ {n : ℕ} {w : List ℕ} {l : ℕ} (few : n ≤ 2016) (h : Ready n w) (f : Fresh n (gOf w) l) where
+  H : ℕ
+  H = tail w 0
+
+  low : l < 4032
+  low = omega (arith, f .0, few)
+
+  room : H < 2016
+  unfolding H
+  room = omega (arith, room-left h f, few)
+
+  v : List ℕ
+  v = valuesSet w l 1 2
+
+  u : List ℕ
+  u = set v (4 + (10085 + H)) (cursorOf w)
+
+  u-size : length u ≡ length w
+  unfolding u v
+  u-size = length-set v (4 + (10085 + H)) (cursorOf w) ∙ set-length w l 1 2 low (omega (arith, h .size))
+
+  u-other : (i : ℕ) → (i ≡ 4 + (6051 + l) → ⊥) → (i ≡ 4 + (6051 + neg l) → ⊥) → (i ≡ 4 + (10085 + H) → ⊥) → getD u i 0 ≡ getD w i 0
+  unfolding u v
+  u-other i a b c = getD-set-other v (4 + (10085 + H)) i (cursorOf w) 0 c ∙ set-other w l 1 2 low (omega (arith, h .size)) i a b
+
+  u-value : (k : ℕ) → k < 4034 → valueAt (tail u) k ≡ valueAt (tail v) k
+  unfolding u
+  u-value k i = getD-set-other v (4 + (10085 + H)) (4 + (6051 + k)) (cursorOf w) 0 (λ e. omega (arith, e, i))
+
+  j : Joins n 4 l w u (entrySet u H l)
+  unfolding H
+  j =
+      joins n 4 l w u (omega (arith, u-size, h .size)) few
+      (λ i b. u-other (4 + i) (λ e. omega (arith, e, b)) (λ e. omega (arith, e, b)) (λ e. omega (arith, e, b))) (h .trail) f
+
+  values : (k : ℕ) → k < 4034 → valueAt (tail (entrySet u H l)) k ≡ wideValue (held (tail (entrySet u H l))) k
+  unfolding v
+  values k i =
+      j .else (4 + (6051 + k)) (inr (omega arith)) ∙ u-value k i ∙ go (ℕ-discrete k l) (ℕ-discrete k (neg l))
+      ∙ ap (λ (G : List ℕ). wideValue G k) (sym (j .list))
+    where
+      size : 10089 ≤ length w
+      size = omega (arith, h .size)
+
+      go : Dec (k ≡ l) → Dec (k ≡ neg l) → valueAt (tail (valuesSet w l 1 2)) k ≡ wideValue (l ∷ gOf w) k
+      go (yes e) d =
+          ap (valueAt (tail (valuesSet w l 1 2))) e ∙ set-first w l 1 2 low size ∙ sym (wide-joined (gOf w) l low (f .1)) ∙ ap (wideValue (l ∷ gOf w)) (sym e)
+      go (no e) (yes d) =
+          ap (valueAt (tail (valuesSet w l 1 2))) d ∙ set-second w l 1 2 low size ∙ sym (wide-negated (gOf w) l low (f .1)) ∙ ap (wideValue (l ∷ gOf w)) (sym d)
+      go (no e) (no d) =
+          set-other w l 1 2 low size (4 + (6051 + k)) (λ x. e (omega (arith, x))) (λ x. d (omega (arith, x)))
+          ∙ h .values k i ∙ sym (wide-other (gOf w) l low (f .1) k e d)
+
+  kept : (i : ℕ) → Kept H i → getD (entrySet u H l) i 0 ≡ getD w i 0
+  unfolding H
+  kept i (inl b) = j .else i (inl b) ∙ u-other i (λ e. omega (arith, e, b)) (λ e. omega (arith, e, b)) (λ e. omega (arith, e, b))
+  kept i (inr (inl b)) =
+      let e : 4 + (1 + (i - 5)) ≡ i = omega arith in
+      subst (λ (k : ℕ). getD (entrySet u (tail w 0) l) k 0 ≡ getD w k 0) e (j .lits (i - 5) (omega arith))
+  kept i (inr (inr (inl b))) =
+      j .else i (inr (omega arith)) ∙ u-other i (λ e. omega (arith, e, b)) (λ e. omega (arith, e, b)) (λ e. omega (arith, e, b))
+  kept i (inr (inr (inr b))) =
+      j .else i (inr (omega arith)) ∙ u-other i (λ e. omega (arith, e, b, low)) (λ e. omega (arith, e, b, low)) (λ e. b .1 (omega (arith, e)))
+
+  cursor : cursorAt (tail (entrySet u H l)) H ≡ cursorOf w
+  unfolding u v
+  cursor =
+      j .else (4 + (10085 + H)) (inr (omega arith))
+      ∙ getD-set-same v (4 + (10085 + H)) (cursorOf w) 0 (omega (arith, set-length w l 1 2 low (omega (arith, h .size)), h .size, room))
+
+  pushed′ : Pushed n l w (entrySet u H l)
+  unfolding H
+  pushed′ = record {
+    ready = record { size = omega (arith, j .size, u-size, h .size); trail = j .trail; values = values };
+    list = j .list;
+    count = j .count;
+    top = j .top;
+    cursor = cursor;
+    kept = kept;
+  }
+
+  -- of the work area before the last stores
+  pub pushed : {c : ℕ} {w₁ w₂ : List ℕ} → w₁ ≡ valuesSet w l 1 2 → c ≡ getD w₁ 0 0 → w₂ ≡ entrySet (set w₁ (4 + (10085 + tail w 0)) c) (tail w 0) l
+      → Pushed n l w w₂
+  unfolding H u v
+  pushed {c} {w₁} {w₂} a b e =
+      let z : c ≡ cursorOf w = b ∙ ap (λ (k : List ℕ). getD k 0 0) a
+      ∙ set-other w l 1 2 low (omega (arith, h .size)) 0 (λ x. omega (arith, x)) (λ x. omega (arith, x)) in
+      rw (e, a, z) pushed′
+
+-- ---- the newest leaves: its values, its entry
+
+module _ {n : ℕ} {w : List ℕ} {l : ℕ} (few : n ≤ 2016) (h : Ready n w) (p : 0 < tail w 0) (top : l ≡ litAt (tail w) (tail w 0 - 1)) where
+  newest-low : l < 4032
+  newest-low = omega (arith, top, held-below h (tail w 0 - 1) (omega arith), few)
+
+  o : List ℕ
+  o = valuesSet w l 0 0
+
+  o-size : length o ≡ length w
+  unfolding o
+  o-size = set-length w l 0 0 newest-low (omega (arith, h .size))
+
+  o-other : (i : ℕ) → (i ≡ 4 + (6051 + l) → ⊥) → (i ≡ 4 + (6051 + neg l) → ⊥) → getD o i 0 ≡ getD w i 0
+  unfolding o
+  o-other = set-other w l 0 0 newest-low (omega (arith, h .size))
+
+  o-same : (i : ℕ) → i < 4033 → tail o i ≡ tail w i
+  o-same i b = o-other (4 + i) (λ e. omega (arith, e, b)) (λ e. omega (arith, e, b))
+
+  o-top : l ≡ litAt (tail o) (tail o 0 - 1)
+  o-top =
+      top
+      ∙ sym (o-same (1 + (tail w 0 - 1)) (omega (arith, count-most h, few)))
+      ∙ ap (λ (k : ℕ). litAt (tail o) (k - 1)) (sym (o-same 0 (omega arith)))
+
+  g : Leaves n 4 o (dropped 4 o l)
+  g =
+      subst (λ (k : ℕ). Leaves n 4 o (dropped 4 o k)) (sym o-top)
+      (leaves n 4 o (omega (arith, o-size, h .size)) few (trail-still few (h .trail) o-same) (omega (arith, p, o-same 0 (omega arith))))
+
+  -- what was held: l, and what is held now
+  list : gOf w ≡ l ∷ held (tail (dropped 4 o l))
+  list = sym (held-is) ∙ g .list ∙ ap (_∷ held (tail (dropped 4 o l))) (sym o-top)
+    where
+      held-is : held (tail o) ≡ gOf w
+      held-is =
+          ap (λ (k : ℕ). trail k (tail o)) (o-same 0 (omega arith))
+          ∙ trail-same (tail w 0) (tail o) (tail w) (λ q i. o-same (1 + q) (omega (arith, i, count-most h, few)))
+
+  fresh : valueOf (held (tail (dropped 4 o l))) l ≡ undecided
+  fresh = subst (Good n) list (h .trail .good) .0 .1
+
+  leave-values : (k : ℕ) → k < 4034 → valueAt (tail (dropped 4 o l)) k ≡ wideValue (held (tail (dropped 4 o l))) k
+  unfolding o
+  leave-values k i = g .else (4 + (6051 + k)) (inr (omega arith)) ∙ go (ℕ-discrete k l) (ℕ-discrete k (neg l))
+    where
+      size : 10089 ≤ length w
+      size = omega (arith, h .size)
+
+      F : List ℕ
+      F = held (tail (dropped 4 (valuesSet w l 0 0) l))
+
+      go : Dec (k ≡ l) → Dec (k ≡ neg l) → valueAt (tail (valuesSet w l 0 0)) k ≡ wideValue F k
+      go (yes e) d = ap (valueAt (tail (valuesSet w l 0 0))) e ∙ set-first w l 0 0 newest-low size ∙ sym (wide-before F l newest-low fresh) ∙ ap (wideValue F) (sym e)
+      go (no e) (yes d) =
+          ap (valueAt (tail (valuesSet w l 0 0))) d ∙ set-second w l 0 0 newest-low size ∙ sym (wide-before-neg F l newest-low fresh) ∙ ap (wideValue F) (sym d)
+      go (no e) (no d) =
+          set-other w l 0 0 newest-low size (4 + (6051 + k)) (λ x. e (omega (arith, x))) (λ x. d (omega (arith, x)))
+          ∙ h .values k i ∙ ap (λ (G : List ℕ). wideValue G k) list ∙ wide-other F l newest-low fresh k e d
+
+  leave-kept : (i : ℕ) → (i < 4) ⊎ (((4 < i) × (i < 2021)) ⊎ (((4038 ≤ i) × (i < 6055)) ⊎ (10089 ≤ i))) → getD (dropped 4 o l) i 0 ≡ getD w i 0
+  leave-kept i (inl b) = g .else i (inl b) ∙ o-other i (λ e. omega (arith, e, b)) (λ e. omega (arith, e, b))
+  leave-kept i (inr (inl b)) =
+      getD-set-other (set o (4 + (2017 + l / 2)) 0) 4 i (getD o 4 0 - 1) 0 (λ e. omega (arith, e, b))
+      ∙ getD-set-other o (4 + (2017 + l / 2)) i 0 0 (λ e. omega (arith, e, b)) ∙ o-other i (λ e. omega (arith, e, b)) (λ e. omega (arith, e, b))
+  leave-kept i (inr (inr (inl b))) = g .else i (inr (omega arith)) ∙ o-other i (λ e. omega (arith, e, b)) (λ e. omega (arith, e, b))
+  leave-kept i (inr (inr (inr b))) =
+      g .else i (inr (omega arith)) ∙ o-other i (λ e. omega (arith, e, b, newest-low)) (λ e. omega (arith, e, b, newest-low))
+
+  popped′ : Popped n w (dropped 4 o l)
+  popped′ = record {
+    ready = record { size = omega (arith, g .size, o-size, h .size); trail = g .trail; values = leave-values };
+    count = sym (o-same 0 (omega arith)) ∙ g .count;
+    kept = leave-kept;
+  }
+
+  pub popped : {w₁ : List ℕ} {c : ℕ} → w₁ ≡ valuesSet w l 0 0 → c ≡ tail w 0 - 1 → Popped n w (set (set w₁ (4 + (2017 + l / 2)) 0) 4 c)
+  unfolding o
+  popped {w₁} {c} a b =
+      let z : c ≡ getD (valuesSet w l 0 0) 4 0 - 1 = b ∙ ap (_- 1) (sym (o-same 0 (omega arith))) in
+      rw (a, z) popped′
+
+-- ---- nothing is held
+
+pub blank-starts : (w : List ℕ) → Blank w 0 w
+blank-starts w = record { size = refl; zero = λ i b. absurd (omega (arith, b)) }
+
+pub blank-goes : {w w₁ : List ℕ} {k : ℕ} → Blank w k w₁ → k < length w₁ → Blank w (k + 1) (set w₁ k 0)
+blank-goes {w} {w₁} {k} z b = record { size = length-set w₁ k 0 ∙ z .size; zero = λ i a. go i a (ℕ-discrete i k) }
+  where
+    go : (i : ℕ) → i < k + 1 → Dec (i ≡ k) → getD (set w₁ k 0) i 0 ≡ 0
+    go i a (yes e) = rw e (getD-set-same w₁ k 0 0 b)
+    go i a (no e) = getD-set-other w₁ k i 0 0 e ∙ z .zero i (omega (arith, a, e))
+
+module _ {n : ℕ} {w w₁ : List ℕ} (few : n ≤ 2016) (size : 32768 ≤ length w) (z : Blank w 10089 w₁) where
+  w₃ : List ℕ
+  w₃ = set (set w₁ (4 + (6051 + 4032)) 1) (4 + (6051 + 4033)) 2
+
+  w₃-other : (i : ℕ) → (i ≡ 10087 → ⊥) → (i ≡ 10088 → ⊥) → getD w₃ i 0 ≡ getD w₁ i 0
+  unfolding w₃
+  w₃-other i a b = getD-set-other (set w₁ (4 + (6051 + 4032)) 1) (4 + (6051 + 4033)) i 2 0 b ∙ getD-set-other w₁ (4 + (6051 + 4032)) i 1 0 a
+
+  w₃-zero : (i : ℕ) → i < 10087 → getD w₃ i 0 ≡ 0
+  w₃-zero i b = w₃-other i (λ e. omega (arith, e, b)) (λ e. omega (arith, e, b)) ∙ z .zero i (omega (arith, b))
+
+  w₃-size : length w₃ ≡ length w₁
+  unfolding w₃
+  w₃-size = simp length-set
+
+  none : tail w₃ 0 ≡ 0
+  none = w₃-zero 4 (omega arith)
+
+  blank-values : (l : ℕ) → l < 4034 → valueAt (tail w₃) l ≡ wideValue (held (tail w₃)) l
+  unfolding wideValue w₃
+  blank-values l b = go (ℕ-discrete l 4032) (ℕ-discrete l 4033)
+    where
+      go : Dec (l ≡ 4032) → Dec (l ≡ 4033) → valueAt (tail w₃) l ≡ wideValue (held (tail w₃)) l
+      go (yes e) d =
+          rw e (getD-set-other (set w₁ 10087 1) 10088 10087 2 0 (λ x. omega (arith, x)) ∙ getD-set-same w₁ 10087 1 0 (omega (arith, z .size, size)))
+      go (no e) (yes d) = rw d (getD-set-same (set w₁ 10087 1) 10088 2 0 (simp length-set (omega (arith, z .size, size))))
+      go (no e) (no d) =
+          let i : l < 4032 = omega (arith, b, e, d) in
+          w₃-zero (4 + (6051 + l)) (omega (arith, i)) ∙ sym (wide-nil l i) ∙ ap (λ (G : List ℕ). wideValue G l) (sym (empty-held n (tail w₃) none))
+
+  blanked′ : Ready n w₃ × ((tail w₃ 0 ≡ 0) × (held (tail w₃) ≡ []))
+  blanked′ = (
+    record {
+      size = omega (arith, w₃-size, z .size, size);
+      trail = empty-trail n (tail w₃) none (λ m i. w₃-zero (4 + (2017 + m)) (omega (arith, i, few)));
+      values = blank-values;
+    },
+    (none, empty-held n (tail w₃) none),
+  )
+
+  pub blanked : {w₂ : List ℕ} → w₂ ≡ set (set w₁ 10087 1) 10088 2 → Ready n w₂ × ((tail w₂ 0 ≡ 0) × (gOf w₂ ≡ []))
+  unfolding w₃
+  blanked e = rw e blanked′

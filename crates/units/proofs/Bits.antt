@@ -1,0 +1,101 @@
+-- Bits of a word: one is set or cleared and no other changes; the lowest that is set. Assumes nothing.
+use mathlib.Core.Path.{_≡_, refl, sym, ap, _∙_}
+use Prim.Native.Nat.{ℕ, zero, suc, _+_, _-_, _*_, _/_, _%_, _^_, _<_, _≤_}
+use native.Mathlib.Nat.{pow-suc, div-one}
+use native.Mathlib.Numerals.{one-add}
+use native.Mathlib.Omega.{arith}
+use lib.Pow.{shr-shr}
+use lib.Count.{under, trailingZeros}
+use Rattle.units.specs.Units.{bit}
+
+-- ---- the lowest bit, and the others as bits of the half
+
+bit-zero : (x : ℕ) → bit x 0 ≡ x % 2
+unfolding bit
+bit-zero x = ap (λ (y : ℕ). y % 2) (div-one x)
+
+bit-suc : (x j : ℕ) → bit x (suc j) ≡ bit (x / 2) j
+unfolding bit
+bit-suc x j = ap (λ (y : ℕ). x / 2 ^ y % 2) (sym (one-add j)) ∙ sym (ap (λ (y : ℕ). y % 2) (shr-shr x 1 j))
+
+-- two words with the same half have the same bits but the lowest
+bit-half : (x y j : ℕ) → y / 2 ≡ x / 2 → bit y (suc j) ≡ bit x (suc j)
+bit-half x y j e = bit-suc y j ∙ ap (λ (z : ℕ). bit z j) e ∙ sym (bit-suc x j)
+
+-- ---- one bit is changed
+
+-- bit i of y is v, and its other bits are those of x
+pub record Turned (x y i v : ℕ) : Type 0 where
+  pub here : bit y i ≡ v
+  pub other : (j : ℕ) → (j ≡ i → ⊥) → bit y j ≡ bit x j
+
+-- the lowest bit
+turned-zero : (x y v : ℕ) → y % 2 ≡ v → y / 2 ≡ x / 2 → Turned x y 0 v
+turned-zero x y v e h = record { here = bit-zero y ∙ e; other = other }
+  where
+    other : (j : ℕ) → (j ≡ 0 → ⊥) → bit y j ≡ bit x j
+    other zero n = absurd (n refl)
+    other (suc j) n = bit-half x y j h
+
+-- a bit of the half
+turned-suc : (x y i v : ℕ) → y % 2 ≡ x % 2 → Turned (x / 2) (y / 2) i v → Turned x y (suc i) v
+turned-suc x y i v e t = record { here = bit-suc y i ∙ t .here; other = other }
+  where
+    other : (j : ℕ) → (j ≡ suc i → ⊥) → bit y j ≡ bit x j
+    other zero n = bit-zero y ∙ e ∙ sym (bit-zero x)
+    other (suc j) n = bit-suc y j ∙ t .other j (λ q. n (ap suc q)) ∙ sym (bit-suc x j)
+
+-- no bit is changed
+pub turned-none : (x i v : ℕ) → bit x i ≡ v → Turned x x i v
+turned-none x i v e = record { here = e; other = λ j n. refl }
+
+pub set-bit : (x i : ℕ) → bit x i ≡ 0 → Turned x (x + 2 ^ i) i 1
+set-bit x zero h =
+    let e : x % 2 ≡ 0 = sym (bit-zero x) ∙ h in
+    turned-zero x (x + 1) 1 (omega arith) (omega arith)
+set-bit x (suc i) h =
+    let p : 2 ^ suc i ≡ 2 ^ i * 2 = pow-suc 2 i in
+    let q : (x + 2 ^ suc i) / 2 ≡ x / 2 + 2 ^ i = omega arith in
+    turned-suc x (x + 2 ^ suc i) i 1 (omega arith) (rw q (set-bit (x / 2) i (sym (bit-suc x i) ∙ h)))
+
+pub clear-bit : (x i : ℕ) → bit x i ≡ 1 → (2 ^ i ≤ x) × Turned x (x - 2 ^ i) i 0
+clear-bit x zero h =
+    let e : x % 2 ≡ 1 = sym (bit-zero x) ∙ h in
+    (omega arith, turned-zero x (x - 1) 0 (omega arith) (omega arith))
+clear-bit x (suc i) h =
+    let p : 2 ^ suc i ≡ 2 ^ i * 2 = pow-suc 2 i in
+    let r = clear-bit (x / 2) i (sym (bit-suc x i) ∙ h) in
+    let q : (x - 2 ^ suc i) / 2 ≡ x / 2 - 2 ^ i = omega (arith, r .0) in
+    (omega (arith, r .0), turned-suc x (x - 2 ^ suc i) i 0 (omega (arith, r .0)) (rw q (r .1)))
+
+-- a word of n bits is one still when a bit is set
+pub set-fits : (n x i : ℕ) → i < n → x < 2 ^ n → bit x i ≡ 0 → x + 2 ^ i < 2 ^ n
+set-fits zero x i l f h = absurd (omega (arith, l))
+set-fits (suc n) x zero l f h = omega (arith, pow-suc 2 n, sym (bit-zero x) ∙ h)
+set-fits (suc n) x (suc i) l f h =
+    omega (arith, pow-suc 2 n, pow-suc 2 i, set-fits n (x / 2) i (omega arith) (omega (arith, pow-suc 2 n)) (sym (bit-suc x i) ∙ h))
+
+-- ---- no bit, the lowest bit
+
+pub bit-none : (j : ℕ) → bit 0 j ≡ 0
+bit-none zero = bit-zero 0
+bit-none (suc j) = bit-suc 0 j ∙ bit-none j
+
+-- bit t is the lowest that is set in a word of n bits
+pub record Lowest (n x t : ℕ) : Type 0 where
+  pub low : t < n
+  pub here : bit x t ≡ 1
+  pub under : (j : ℕ) → j < t → bit x j ≡ 0
+
+pub lowest : (n x : ℕ) → 0 < x → x < 2 ^ n → Lowest n x (trailingZeros n x)
+unfolding trailingZeros
+lowest zero x h f = absurd (omega (arith, h, f))
+lowest (suc n) x h f = go (x % 2) refl (λ (e : x % 2 ≡ 0). lowest n (x / 2) (omega arith) (omega (arith, pow-suc 2 n)))
+  where
+    go : (d : ℕ) → x % 2 ≡ d → (x % 2 ≡ 0 → Lowest n (x / 2) (trailingZeros n (x / 2))) → Lowest (suc n) x (under d (trailingZeros n (x / 2)))
+    go zero e r = record { low = omega (arith, r e .low); here = bit-suc x _ ∙ r e .here; under = least }
+      where
+        least : (j : ℕ) → j < suc (trailingZeros n (x / 2)) → bit x j ≡ 0
+        least zero l = bit-zero x ∙ e
+        least (suc j) l = bit-suc x j ∙ r e .under j (omega arith)
+    go (suc d) e r = record { low = omega arith; here = bit-zero x ∙ omega arith; under = λ j l. absurd (omega (arith, l)) }

@@ -1,0 +1,2 @@
+-- What the calls of this crate do. Assumes nothing.
+pub mod Units

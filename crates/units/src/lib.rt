@@ -1,0 +1,86 @@
+// A set of positions below 2,048, as bits of 32 words, and a word more, SUM, whose bit b tells whether word b is not 0: so the least
+// position is found by two looks. Callers know it by membership alone (specs/Units.antt).
+ghost use mathlib.Core.Path.{_≡_};
+ghost use mathlib.Core.Bool.{true, false};
+ghost use Prim.Native.Nat.{_<_};
+ghost use lib.ListN.{length};
+ghost use Rattle.units.specs.Units.{positions, words, member, Units, Some, Empty, Putted, First};
+
+const SIZE: usize = 64;
+
+const SUM: usize = 32;
+
+const WORDS: usize = 33;
+
+// Position q, which was not in the set, joins it.
+fn join(m: &mut [u64], q: usize)
+    requires { ⌜ Units (now m) ⌝ }
+    requires { ⌜ (q < positions) × (member (now m) q ≡ 0) ⌝ }
+    ensures { λ _. ⌜ Putted (now (m .entry)) q 1 (now (m .exit)) ⌝ }
+{
+    let b = q / SIZE;
+    let word = m[b];
+    m[b] = word + (1u64 << (q % SIZE));
+    let fresh = (word == 0) as u64;
+    m[SUM] = m[SUM] + (fresh << b);
+}
+
+// Position q, which was in the set, leaves it.
+fn leave(m: &mut [u64], q: usize)
+    requires { ⌜ Units (now m) ⌝ }
+    requires { ⌜ (q < positions) × (member (now m) q ≡ 1) ⌝ }
+    ensures { λ _. ⌜ Putted (now (m .entry)) q 0 (now (m .exit)) ⌝ }
+{
+    let b = q / SIZE;
+    let word = m[b] - (1u64 << (q % SIZE));
+    m[b] = word;
+    let gone = (word == 0) as u64;
+    m[SUM] = m[SUM] - (gone << b);
+}
+
+// Whether position q is in the set becomes v, 0 or 1.
+pub fn put(m: &mut [u64], q: usize, v: u64)
+    requires { ⌜ Units (now m) ⌝ }
+    requires { ⌜ (q < positions) × (v < 2) ⌝ }
+    ensures { λ _. ⌜ Putted (now (m .entry)) q v (now (m .exit)) ⌝ }
+{
+    let old = (m[q / SIZE] >> (q % SIZE)) % 2;
+    if old == v {
+        return;
+    }
+    if v == 1 {
+        join(m, q);
+    } else {
+        leave(m, q);
+    }
+}
+
+// Whether some position is in the set.
+pub fn some(m: &[u64]) -> bool
+    requires { ⌜ Units (now m) ⌝ }
+    ensures { λ r. ⌜ (r ≡ true → Some (now (m .entry))) × (r ≡ false → Empty (now (m .entry))) ⌝ }
+{
+    m[SUM] != 0
+}
+
+// The least position in the set, which has one.
+pub fn first(m: &[u64]) -> usize
+    requires { ⌜ Units (now m) ⌝ }
+    requires { ⌜ Some (now m) ⌝ }
+    ensures { λ r. ⌜ First (now (m .entry)) r ⌝ }
+{
+    let b = u64::trailing_zeros(m[SUM]) as usize;
+    SIZE * b + (u64::trailing_zeros(m[b]) as usize)
+}
+
+// No position is in the set.
+pub fn clear(m: &mut [u64])
+    requires { ⌜ length (now m) ≡ words ⌝ }
+    ensures { λ _. ⌜ Units (now (m .exit)) × Empty (now (m .exit)) ⌝ }
+{
+    let mut i = 0;
+    while i < WORDS {
+        m[i] = 0;
+        i += 1;
+    }
+}
