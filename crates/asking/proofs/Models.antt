@@ -2,23 +2,23 @@
 -- calculus' theorems speak of settings, as evaluate takes them. Assumes nothing.
 use mathlib.Core.Path.{_≡_, refl, sym, ap, _∙_}
 use mathlib.Core.List.{List, [], _∷_, _++_}
-use mathlib.Core.Bool.{Bool, true, false, cond, false≢true}
-use Prim.Native.Nat.{ℕ, _*_, _/_, _<_, _≤_}
+use mathlib.Core.Bool.{Bool, true, false, cond, _&&_, false≢true}
+use Prim.Native.Nat.{ℕ, _+_, _*_, _/_, _<_, _≤_}
 use native.Mathlib.Omega.{arith}
-use native.Mathlib.Decide.{decLt}
+use native.Mathlib.Decide.{decLt, ℕ-discrete}
 use lib.Dec.{eqb, ltb}
 use lib.ListN.{length, getD, length-append, List·getD-append}
 use borrow.Author.Tests.{eq-eqb, eqb-true, le-ltb, lt-ltb, le-leb}
 use Rattle.scope.specs.declared.Node.{Node}
 use Rattle.scope.specs.Outcome.{answer, fine, require}
-use Rattle.scope.specs.Table.{nodeBytes, formOk, orderOk, sameNode, decode}
+use Rattle.scope.specs.Table.{nodeBytes, formOk, sameNode, decode}
 use Rattle.scope.specs.Truth.{litTruth, truth}
 use Rattle.scope.specs.Calls.{settingsTest, evaluate}
-use Rattle.scope.proofs.Tests.{and-right, met, then-next}
+use Rattle.scope.proofs.Tests.{and-left, and-right, met, then-next}
 use Rattle.scope.proofs.First.{all-fine}
 use Rattle.codec.specs.Valid.{Bytes, Valid}
 use Rattle.codec.proofs.Records.{reads, small}
-use Rattle.codec.proofs.Tables.{read-valid, valid-ordered}
+use Rattle.codec.proofs.Tables.{read-valid}
 use Rattle.truth.specs.Evaluated.{Low}
 use Rattle.truth.proofs.Low.{readable-low}
 use Rattle.truth.proofs.Truths.{lit-even, true-true, atom-point, node-joins}
@@ -30,7 +30,7 @@ use Rattle.calculus.proofs.Search.{never-cut}
 use Rattle.calculus.proofs.Sound.{sound}
 use Rattle.calculus.proofs.Complete.{complete}
 use Rattle.calculus.proofs.Setting.{setting-atom, setting-length, setting-bits}
-use Rattle.index.specs.Indexed.{Apart}
+use Rattle.index.specs.Index.{always}
 
 -- ---- a readable table's nodes
 
@@ -45,14 +45,12 @@ same-atom : (x y : Node) → x .kind ≡ 2 → y .kind ≡ 2 → x .a ≡ y .a �
 same-atom x y k l a b c =
     simp (eq-eqb (x .kind) (y .kind) (k ∙ sym l), eq-eqb (x .a) (y .a) a, eq-eqb (x .b) (y .b) (b ∙ sym c))
 
--- an operation whose operands are of one node is refused
-order-same : (x : Node) → 2 < x .kind → x .a / 2 ≡ x .b / 2 → orderOk x ≡ false
-unfolding orderOk
-order-same x k q = simp (le-ltb (x .kind) 3 (omega arith), eq-eqb (x .a / 2) (x .b / 2) q, le-ltb (x .a / 2) (x .b / 2) (omega arith)) (go (eqb (x .kind) 5))
-  where
-    go : (b : Bool) → cond b false false ≡ false
-    go true = refl
-    go false = refl
+-- TRUE has no operands
+true-none : (x : Node) (one six : ℕ) → formOk x one six ≡ true → x .kind ≡ 1 → (x .a ≡ 0) × (x .b ≡ 0)
+unfolding formOk
+true-none x one six e k =
+    let z = and-right (eqb six 0) (eqb (x .a) 0 && eqb (x .b) 0) (and-right (eqb one 0) _ (simp k at e)) in
+    (eqb-true (x .a) 0 (and-left (eqb (x .a) 0) (eqb (x .b) 0) z), eqb-true (x .b) 0 (and-right (eqb (x .a) 0) (eqb (x .b) 0) z))
 
 module _ (t : List ℕ) (rs : List Node) (all : Bytes t) (e : decode t ≡ answer rs) where
   valid : Valid rs
@@ -83,8 +81,16 @@ module _ (t : List ℕ) (rs : List Node) (all : Bytes t) (e : decode t ≡ answe
       go i j h b k l a (no p) (yes q) = absurd (once j i q h l k (sym a))
       go i j h b k l a (no p) (no q) = omega arith
 
-  pub apart-of : Apart (length rs) (nodesOf rs)
-  apart-of i h k q = false≢true (sym (order-same (nodesOf rs i) k q) ∙ valid-ordered rs valid i h)
+  -- no cell holds more than the literals of no node
+  pub cells-of : (i : ℕ) → i < length rs → (nodesOf rs i .a < always + 2) × (nodesOf rs i .b < always + 2)
+  cells-of i h = go (ℕ-discrete (nodesOf rs i .kind) 1) (ℕ-discrete (nodesOf rs i .kind) 2)
+    where
+      go : Dec (nodesOf rs i .kind ≡ 1) → Dec (nodesOf rs i .kind ≡ 2) → (nodesOf rs i .a < always + 2) × (nodesOf rs i .b < always + 2)
+      go (yes k) q = let z = true-none (nodesOf rs i) _ _ (reads (nodeBytes (nodesOf rs i)) i (valid .each i h) .form) k in (omega (arith, z .0), omega (arith, z .1))
+      go (no k) (yes q) = (omega (arith, low i h .point q), omega (arith, none i h q))
+      go (no k) (no q) =
+          let more : 2 < nodesOf rs i .kind = omega (arith, low i h .kinds, k, q) in
+          (omega (arith, low i h .left more, valid .few), omega (arith, low i h .right more, valid .few))
 
 -- ---- the truths under a setting
 

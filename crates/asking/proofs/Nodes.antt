@@ -20,11 +20,11 @@ use Rattle.calculus.specs.Order.{tree}
 use Rattle.calculus.specs.Model.{Table}
 use Rattle.calculus.specs.Decide.{nodesOf, searchOf, Admitted}
 use Rattle.calculus.proofs.Asked.{asked-fine}
-use Rattle.index.specs.Index.{indexSize, mostNodes, indexNode, Built}
-use Rattle.index.specs.Indexed.{Apart, Indexed}
+use Rattle.index.specs.Index.{indexSize, mostNodes, always, indexNode, Built}
+use Rattle.index.specs.Indexed.{Indexed}
 use Rattle.asking.specs.Asks.{mostGoals, Prepared}
-use Rattle.asking.proofs.Models.{low, table-of, apart-of}
-use Rattle.asking.proofs.Same.{table-same, apart-same, search-same}
+use Rattle.asking.proofs.Models.{low, table-of, cells-of}
+use Rattle.asking.proofs.Same.{table-same, search-same}
 
 -- the first nodes of a table
 abbrev pub nodesIn : List ℕ → ℕ → List Node
@@ -61,8 +61,8 @@ module _ (t : List ℕ) {nodes : ℕ} (e : tableCount t ≡ answer nodes) where
       table : Table nodes (indexNode x)
       table = table-same nodes (indexNode x) (nodesOf (nodesIn t nodes)) node-in (rw (size-in t nodes) at (table-of t (nodesIn t nodes) all nodes-read))
 
-      apart : Apart nodes (indexNode x)
-      apart = apart-same nodes (indexNode x) (nodesOf (nodesIn t nodes)) node-in (rw (size-in t nodes) at (apart-of t (nodesIn t nodes) all nodes-read))
+      cells : (i : ℕ) → i < nodes → (indexNode x i .a < always + 2) × (indexNode x i .b < always + 2)
+      cells i h = rw (node-in i h) (cells-of t (nodesIn t nodes) all nodes-read i (omega (arith, size-in t nodes)))
 
       -- goals that no row refuses may be put to it
       pub prepares : (goals : List ℕ) (needed lent area : ℕ) → length goals ≤ mostGoals → Admitted nodes goals needed lent area
@@ -74,7 +74,7 @@ module _ (t : List ℕ) {nodes : ℕ} (e : tableCount t ≡ answer nodes) where
         count = size-in t nodes;
         admitted = a;
         literals = record { most = most; below = a .below };
-        indexed = record { size = size; few = few; table = table; apart = apart; links = b .links; fill = b .fill };
+        indexed = record { size = size; few = few; table = table; links = b .links; cells = cells; codes = b .codes };
         same = node-in;
         points = λ i h. rw (node-in i h) (low t (nodesIn t nodes) all nodes-read i (omega (arith, size-in t nodes)) .point);
       }

@@ -10,7 +10,6 @@ use Rattle.calculus.specs.Order.{clauses, move, Tree, tree}
 use Rattle.calculus.specs.Model.{Table, Below, Good}
 use Rattle.calculus.proofs.Count.{room}
 use Rattle.calculus.proofs.Search.{Grown, closes, joins, ends, parts, grown-whole}
-use Rattle.index.specs.Indexed.{Apart}
 
 module _ (n : ℕ) (t u : ℕ → Node) (same : (i : ℕ) → i < n → t i ≡ u i) where
   expand-same : (l : ℕ) → l < 2 * n → expand t l ≡ expand u l
@@ -24,9 +23,6 @@ module _ (n : ℕ) (t u : ℕ → Node) (same : (i : ℕ) → i < n → t i ≡ 
     right = λ i h. rw (same i h) (T .right i h);
     atoms = λ i j h b. rw (same i h, same j b) (T .atoms i j h b);
   }
-
-  pub apart-same : Apart n u → Apart n t
-  apart-same A i h = rw (same i h) (A i h)
 
   module _ (goals : List ℕ) where
     pub clauses-same : (G : List ℕ) → Good n G → clauses (expand t) goals G ≡ clauses (expand u) goals G

@@ -1,13 +1,16 @@
 -- 01, 'Derivations': 'Steps gather in one block until it holds 126.' What a writer keeps of the steps pushed so far: their full
 -- blocks, which are written, and the others, which gather. Assumes nothing.
 use mathlib.Core.Path.{_≡_}
-use mathlib.Core.List.{List, _++_}
-use Prim.Native.Nat.{ℕ, _+_, _*_, _/_, _%_, _<_, _≤_}
+use mathlib.Core.Bool.{cond}
+use mathlib.Core.List.{List, [], _∷_, _++_}
+use Prim.Native.Nat.{ℕ, zero, suc, _+_, _*_, _/_, _%_, _<_, _≤_}
+use lib.Dec.{eqb}
 use lib.ListN.{length, take, drop}
 use Rattle.codec.specs.Valid.{front, rest}
 use Rattle.rules.specs.declared.Step.{Step}
-use Rattle.rules.specs.Steps.{derivations, stepBytes, encodeSteps}
+use Rattle.rules.specs.Steps.{R, derivations, stepBytes, encodeSteps}
 use Rattle.gather.specs.declared.Writer.{Writer}
+use Rattle.gather.specs.declared.At.{At}
 
 -- the bytes of the steps that gather: 'Records start at byte 4', 'steps of 4 bytes'
 abbrev pub bodyOf : List ℕ → ℕ → List ℕ
@@ -20,6 +23,22 @@ stepsIn w = 126 * w .blocks + w .count
 -- a writer of an array
 abbrev pub gathered : List ℕ → ℕ → ℕ → Writer
 gathered block count blocks = record { block = block; count = count; blocks = blocks }
+
+-- the writer of a block that is lent
+abbrev pub lent : List ℕ → At → Writer
+lent block at = gathered block (at .count) (at .blocks)
+
+-- 'an R for each false literal of the clause', in position order: of position p of clause k, where a bit says so; of the positions from p
+-- on whose bits are set in b, as many positions as a step can name
+abbrev pub removalIf : ℕ → ℕ → ℕ → List Step
+removalIf bit k p = cond (eqb bit 1) (R p k ∷ []) []
+
+abbrev pub positions : ℕ
+positions = 255
+
+unfoldable pub removalsAt : ℕ → ℕ → ℕ → ℕ → List Step
+removalsAt zero k p b = []
+removalsAt (suc more) k p b = removalIf (b % 2) k p ++ removalsAt more k (suc p) (b / 2)
 
 -- the block that gathers has room
 pub record Gathers (w : Writer) : Type 0 where

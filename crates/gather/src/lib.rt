@@ -5,12 +5,18 @@ ghost use mathlib.Core.List.{[], _∷_, _++_};
 ghost use Prim.Native.Nat.{_+_, _*_, _<_, _≤_};
 ghost use lib.ListN.{length, take, drop};
 ghost use Rattle.scope.specs.Block.{blockOf};
-ghost use Rattle.rules.specs.Steps.{stepBytes};
-ghost use Rattle.gather.specs.Kept.{bodyOf, gathered, Space, Pushed, Closed};
+ghost use Rattle.rules.specs.Steps.{stepBytes, step};
+ghost use Rattle.gather.specs.Kept.{bodyOf, gathered, lent, positions, removalIf, removalsAt, Space, Pushed, Closed};
 
 // The block that gathers, its steps from byte 4 on; how many steps it holds; and how many blocks are written.
 pub struct Writer {
     pub block: [u8; 512],
+    pub count: usize,
+    pub blocks: usize,
+}
+
+// How many steps a writer's block holds, and how many blocks are written.
+pub struct At {
     pub count: usize,
     pub blocks: usize,
 }
@@ -43,21 +49,90 @@ fn flush(out: &mut [u8], block: &[u8], count: usize, index: usize)
     );
 }
 
+// One step more, in the block lent: a block that it fills is written.
+fn add(out: &mut [u8], block: &mut [u8; 512], at: At, s: Step) -> At
+    requires { ⌜ Space 1 (now out) (lent (now block) at) ⌝ }
+    ensures { λ r. ⌜ Pushed (s ∷ []) (now (out .entry)) (lent (now (block .entry)) at) (now (out .exit)) (lent (now (block .exit)) r) ⌝ }
+{
+    let count = at.count;
+    let blocks = at.blocks;
+    put(block, count, s);
+    if count < 125 {
+        return At {
+            count: count + 1,
+            blocks,
+        };
+    }
+    flush(out, block, 126, blocks);
+    At {
+        count: 0,
+        blocks: blocks + 1,
+    }
+}
+
 // One step more: a block that it fills is written.
 pub fn push(out: &mut [u8], mut w: Writer, s: Step) -> Writer
     requires { ⌜ Space 1 (now out) w ⌝ }
     ensures { λ r. ⌜ Pushed (s ∷ []) (now (out .entry)) w (now (out .exit)) r ⌝ }
 {
-    let count = w.count;
-    let blocks = w.blocks;
-    put(&mut w.block, count, s);
-    if count < 125 {
-        w.count = count + 1;
-        return w;
+    let start = At {
+        count: w.count,
+        blocks: w.blocks,
+    };
+    let at = add(out, &mut w.block, start, s);
+    w.count = at.count;
+    w.blocks = at.blocks;
+    w
+}
+
+// An R for position i of clause k, if a bit says so.
+fn add_removal(out: &mut [u8], block: &mut [u8; 512], at: At, k: u16, i: u8, bit: u8) -> At
+    requires { ⌜ Space (length (removalIf bit k i)) (now out) (lent (now block) at) ⌝ }
+    ensures { λ r. ⌜ Pushed (removalIf bit k i) (now (out .entry)) (lent (now (block .entry)) at) (now (out .exit)) (lent (now (block .exit)) r) ⌝ }
+{
+    if bit == 1 {
+        return add(
+            out,
+            block,
+            at,
+            Step {
+                rule: 82,
+                position: i,
+                value: k,
+            },
+        );
     }
-    flush(out, &w.block, 126, blocks);
-    w.count = 0;
-    w.blocks = blocks + 1;
+    at
+}
+
+// The steps of a move on clause k: an R for each position whose bit is set, in order, and the rule.
+pub fn push_move(out: &mut [u8], mut w: Writer, rule: u8, k: u16, removed: u8) -> Writer
+    requires { ⌜ Space (length (removalsAt positions k 0 removed) + 1) (now out) w ⌝ }
+    ensures { λ r. ⌜ Pushed (removalsAt positions k 0 removed ++ step rule 0 k ∷ []) (now (out .entry)) w (now (out .exit)) r ⌝ }
+{
+    let mut at = At {
+        count: w.count,
+        blocks: w.blocks,
+    };
+    let mut i = 0;
+    let mut left = removed;
+    while 0 < left {
+        at = add_removal(out, &mut w.block, at, k, i, left % 2);
+        left = left / 2;
+        i += 1;
+    }
+    at = add(
+        out,
+        &mut w.block,
+        at,
+        Step {
+            rule,
+            position: 0,
+            value: k,
+        },
+    );
+    w.count = at.count;
+    w.blocks = at.blocks;
     w
 }
 

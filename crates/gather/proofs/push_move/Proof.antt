@@ -1,0 +1,44 @@
+-- `gather::push_move` meets its contract: before each turn the removals of the positions looked at are pushed. The measure is the bits
+-- left. Assumes nothing.
+use Rattle.gather.specs.Kept.{lent}
+use Rattle.gather.proofs.Removes.{Removing, removing-starts, removing-space, removing-goes, last-space, removing-ends}
+use native.Mathlib.Omega.{arith}
+use borrow.Author.Needs.{needs}
+use Rattle.gather.proofs.push_move.Statement.{statement}
+use Rattle.gather.proofs.push_move.Tie as tie
+
+abbrev Inv-loop : tie.InvT-loop
+Inv-loop out₀ rule k removed w₀ at₀ i₀ left₀ out w at i left = Removing k removed out₀ (lent (w₀ .block) at₀) out (lent (w .block) at) i left
+
+abbrev μ-loop : tie.MeasureT-loop
+μ-loop out₀ rule k removed w₀ at₀ i₀ left₀ out w at i left = left
+
+loop-holds : tie.Need-loop-holds Inv-loop μ-loop
+loop-holds c =
+    let a = c .before .args in
+    removing-starts (a .k) (a .removed) (a .out .now) _ (c .before .pre .gathers) (search needs)
+
+add-removal-requires : tie.Need-add-removal-requires Inv-loop μ-loop
+add-removal-requires c κs = removing-space (c .before .before .before .loop .inv) (c .before .before .before .before .before .pre) (omega (arith, c .before .before .loop-test .taken))
+
+add-i : tie.Need-add-i Inv-loop μ-loop
+add-i c = omega (arith, c .before .before .before .before .before .before .loop .inv .room, c .before .before .before .before .before .loop-test .taken)
+
+loop-less : tie.Need-loop-less Inv-loop μ-loop
+loop-less c = omega (arith, c .before .before .before .before .before .loop-test .taken)
+
+loop-again : tie.Need-loop-again Inv-loop μ-loop
+loop-again c = removing-goes (c .before .before .before .before .before .before .loop .inv) (c .before .before .before .before .before .before .before .before .pre) (omega (arith, c .before .before .before .before .before .loop-test .taken)) (c .before .before .add-removal .ensures)
+
+add-requires : tie.Need-add-requires Inv-loop μ-loop
+add-requires c κs = last-space (c .before .before .before .loop .inv) (c .before .before .before .before .before .pre) (λ h. omega (arith, h, c .before .before .loop-test .left))
+
+same-length : tie.Need-same-length Inv-loop μ-loop
+same-length c = search needs
+
+returns : tie.Need-returns Inv-loop μ-loop
+returns c = removing-ends (c .before .before .before .before .before .before .loop .inv) (c .before .before .before .before .before .before .before .before .pre) (λ h. omega (arith, h, c .before .before .before .before .before .loop-test .left)) (c .before .before .add .ensures)
+
+pub push-move-spec : {M : Type 1} → statement M
+push-move-spec =
+    tie.close (tie.spec Inv-loop μ-loop loop-holds add-removal-requires add-i loop-less loop-again add-requires same-length returns)
