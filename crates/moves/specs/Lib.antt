@@ -1,3 +1,2 @@
--- What the next move is read off. Assumes nothing.
-pub mod Places
-pub mod Reason
+-- What the next move is read off, and the clause that it is on. Assumes nothing.
+pub mod Place

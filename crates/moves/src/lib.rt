@@ -1,118 +1,100 @@
-// The next move in the solver's order, read off the first clause of each class, and the clause that it is on.
+// The next move in the solver's order, and the clause that it is on. Conflicts and units are looked up; a split looks from the cursor on.
 use calculus::Move;
 use clause::Clause;
 ghost use mathlib.Core.Path.{_≡_};
-ghost use Prim.Native.Nat.{ℕ, _-_, _/_, _%_, _≤_, _<_};
+ghost use mathlib.Core.Bool.{true, false};
+ghost use Prim.Native.Nat.{ℕ, _+_, _*_, _/_, _%_, _≤_, _<_};
 ghost use lib.ListN.{length};
 ghost use Rattle.calculus.specs.Expansion.{expand};
-ghost use Rattle.calculus.specs.Order.{move};
+ghost use Rattle.calculus.specs.Order.{move, isEmpty, isOne, some};
 ghost use Rattle.calculus.specs.Model.{Goals};
 ghost use Rattle.index.specs.Index.{mostNodes, indexNode};
-ghost use Rattle.marks.specs.Marks.{area, Summed};
-ghost use Rattle.clause.specs.Indexed.{Indexed};
-ghost use Rattle.clause.specs.Stored.{literals};
-ghost use Rattle.state.specs.Work.{tail, gOf, Wide, Ready};
-ghost use Rattle.state.specs.Holds.{Holds};
-ghost use Rattle.moves.specs.Places.{Stands, pairOf, storedAt, openAt, Pressing};
-ghost use Rattle.moves.specs.Reason.{Reasoned};
+ghost use Rattle.index.specs.Indexed.{Indexed};
+ghost use Rattle.clause.specs.Coded.{Coded};
+ghost use Rattle.clause.specs.Templates.{rows};
+ghost use Rattle.state.specs.Work.{area, tail, litAt, gOf, Ready, cursorOf, conflictOf, waitingOf};
+ghost use Rattle.state.specs.Holds.{Holds, statesAt};
+ghost use Rattle.moves.specs.Place.{placeNumber, Placed, Kept, Reasoned, FirstGoal, CellSet, FirstOpen};
 
-const GOALS: usize = 64;
+// The cells of the work area.
+const CURSOR: usize = 0;
 
-// How many places there are: no place.
-const PLACES: usize = 6144;
+const CONFLICT: usize = 1;
 
-// Literal i of the two of a place that is no goal's.
-fn literal_at(work: &[u16], k: usize, i: usize) -> u16
-    requires { ⌜ (area ≤ length (now work)) × (64 ≤ k) × (i < 2) ⌝ }
-    requires { ⌜ ((k - 64) / 3 < mostNodes) × ((k - 64) % 3 < 2) ⌝ }
-    ensures { λ r. ⌜ r ≡ pairOf (tail (now (work .entry))) k i ⌝ }
-{
-    state::literal(work, (k - GOALS) / 3, 2 * ((k - GOALS) % 3) + i)
-}
+const WAITING: usize = 2;
 
-// The first undecided literal of the clause at a place, which has one.
-fn open_literal(n: usize, goals: &[u16], work: &[u16], k: usize) -> u16
+const PLACE: usize = 3;
+
+// No position.
+const NONE: usize = 2016;
+
+// The places of the goals' clauses; before them stand four for each position.
+const GOALS: usize = 8064;
+
+// The first goal of a value, or how many there are.
+fn goal_of(n: usize, goals: &[u16], work: &[u16], v: u16) -> usize
     requires { ⌜ Ready n (now work) ⌝ }
-    requires { ⌜ Stands (now goals) (tail (now work)) k ⌝ }
-    requires { ⌜ (n ≤ mostNodes) × (64 ≤ k → Wide n (pairOf (tail (now work)) k 0)) ⌝ }
-    ensures { λ r. ⌜ r ≡ openAt (now (goals .entry)) (gOf (now (work .entry))) (tail (now (work .entry))) k ⌝ }
+    requires { ⌜ (n ≤ mostNodes) × Goals n (now goals) ⌝ }
+    ensures { λ r. ⌜ FirstGoal (now (goals .entry)) (gOf (now (work .entry))) v r ⌝ }
 {
-    if k < GOALS {
-        return goals[k];
+    let mut k = 0;
+    while k < goals.len() {
+        if state::value(n, work, goals[k]) == v {
+            return k;
+        }
+        k += 1;
     }
-    let a = literal_at(work, k, 0);
-    if state::value(work, n, a) == 0 {
-        a
-    } else {
-        literal_at(work, k, 1)
-    }
+    k
 }
 
-// The next move in the solver's order: conflict first, then unit, then split.
-pub fn next_move(x: &[u16], n: usize, goals: &[u16], work: &[u16], masks: &[u64]) -> Move
+// What the clauses of position q come to.
+fn code_at(x: &[u16], n: usize, work: &[u16], q: usize) -> u16
+    requires { ⌜ Indexed (now x) n ⌝ }
+    requires { ⌜ Ready n (now work) ⌝ }
+    requires { ⌜ q < tail (now work) 0 ⌝ }
+    ensures { λ r. ⌜ Coded (indexNode (now (x .entry)) (litAt (tail (now (work .entry))) q / 2)) (statesAt (indexNode (now (x .entry))) (gOf (now (work .entry))) (tail (now (work .entry))) q) r ⌝ }
+{
+    let l = state::literal(work, q);
+    clause::code(x, n, work, (l / 2) as usize, (l % 2) as usize)
+}
+
+// The first position from the cursor on with an open clause, or how many literals are held.
+fn open_from(x: &[u16], n: usize, work: &[u16]) -> usize
+    requires { ⌜ Indexed (now x) n ⌝ }
+    requires { ⌜ Ready n (now work) ⌝ }
+    requires { ⌜ cursorOf (now work) ≤ tail (now work) 0 ⌝ }
+    ensures { λ r. ⌜ FirstOpen (indexNode (now (x .entry))) (now (work .entry)) r ⌝ }
+{
+    let held = state::count(work) as usize;
+    let mut q = work[CURSOR] as usize;
+    while q < held {
+        if (code_at(x, n, work, q) / 4) % 2 == 1 {
+            return q;
+        }
+        q += 1;
+    }
+    q
+}
+
+// The place of the move's clause is kept.
+fn keep(work: &mut [u16], place: usize)
+    requires { ⌜ (area ≤ length (now work)) × (place < 65536) ⌝ }
+    ensures { λ _. ⌜ CellSet 3 place (now (work .entry)) (now (work .exit)) ⌝ }
+{
+    work[PLACE] = place as u16;
+}
+
+// The conflict at position q, which has one.
+fn conflict_at(x: &[u16], n: usize, goals: &[u16], work: &mut [u16], masks: &[u64], q: usize) -> Move
     requires { ⌜ Indexed (now x) n ⌝ }
     requires { ⌜ Goals n (now goals) ⌝ }
     requires { ⌜ Holds (indexNode (now x)) n (now goals) (now work) (now masks) ⌝ }
-    ensures { λ r. ⌜ r ≡ move (expand (indexNode (now (x .entry)))) (now (goals .entry)) (gOf (now (work .entry))) ⌝ }
+    requires { ⌜ (q ≡ conflictOf (now work)) × (q < mostNodes) ⌝ }
+    requires { ⌜ some isEmpty (sofar (indexNode (now x)) (now goals) (gOf (now work)) (tail (now work)) 0) ≡ false ⌝ }
+    ensures { λ r. ⌜ Moved (indexNode (now (x .entry))) n (now (goals .entry)) (now (work .entry)) (now (work .exit)) (now (masks .entry)) r ⌝ }
 {
-    let conflict = marks::first(masks, 1);
-    if conflict < PLACES {
-        return Move::Conflict(state::number(work, conflict));
-    }
-    let unit = marks::first(masks, 2);
-    if unit < PLACES {
-        let i = state::number(work, unit);
-        return Move::Unit(i, open_literal(n, goals, work, unit));
-    }
-    let split = marks::first(masks, 3);
-    if split < PLACES {
-        return Move::Split(open_literal(n, goals, work, split));
-    }
-    Move::Done
-}
-
-// The clause at a place.
-fn clause_at(goals: &[u16], work: &[u16], k: usize) -> Clause
-    requires { ⌜ (area ≤ length (now work)) × (tail (now work) 0 ≤ mostNodes) ⌝ }
-    requires { ⌜ Stands (now goals) (tail (now work)) k ⌝ }
-    ensures { λ r. ⌜ literals r ≡ storedAt (now (goals .entry)) (tail (now (work .entry))) k ⌝ }
-{
-    if k < GOALS {
-        return Clause {
-            len: 1,
-            first: goals[k],
-            second: 0,
-        };
-    }
-    clause::clause_of(literal_at(work, k, 0), literal_at(work, k, 1))
-}
-
-// The first clause of class 1, or, where there is none, of class 2; PLACES where there is neither.
-fn pressing(masks: &[u64]) -> usize
-    requires { ⌜ Summed (now masks) ⌝ }
-    ensures { λ r. ⌜ Pressing (now (masks .entry)) r ⌝ }
-{
-    let k = marks::first(masks, 1);
-    if k < PLACES {
-        return k;
-    }
-    marks::first(masks, 2)
-}
-
-// The clause that the next conflict or unit is on; any clause at another move.
-pub fn reason(x: &[u16], n: usize, goals: &[u16], work: &[u16], masks: &[u64]) -> Clause
-    requires { ⌜ Indexed (now x) n ⌝ }
-    requires { ⌜ Goals n (now goals) ⌝ }
-    requires { ⌜ Holds (indexNode (now x)) n (now goals) (now work) (now masks) ⌝ }
-    ensures { λ r. ⌜ Reasoned (indexNode (now (x .entry))) n (now (goals .entry)) (gOf (now (work .entry))) r ⌝ }
-{
-    let k = pressing(masks);
-    if k < PLACES {
-        return clause_at(goals, work, k);
-    }
-    Clause {
-        len: 0,
-        first: 0,
-        second: 0,
-    }
+    let code = code_at(x, n, work, q);
+    let j = (code / 256) % 4;
+    keep(work, 4 * q + j as usize);
+    Move::Conflict(state::base(work, q) + j)
 }

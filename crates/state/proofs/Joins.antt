@@ -15,7 +15,7 @@ use Rattle.trail.proofs.Joins.{Joins, joins}
 use Rattle.trail.proofs.Leaves.{Leaves, leaves, dropped}
 use Rattle.clause.specs.Coded.{wideValue}
 use Rattle.state.specs.Work.{tail, valueAt, cursorAt, cursorOf, litAt, gOf, held, trail, Trail, Ready}
-use Rattle.state.specs.Changes.{valuesSet, entrySet, Kept, Pushed, Popped, Blank}
+use Rattle.state.specs.Changes.{valuesSet, entrySet, Kept, Pushed, Popped, Wiped, Blank}
 use Rattle.state.proofs.Areas.{count-most, room-left, held-below, trail-still}
 use Rattle.state.proofs.Values.{wide-joined, wide-negated, wide-before, wide-before-neg, wide-other, wide-none, wide-nil, set-other, set-first, set-second, set-length}
 
@@ -95,6 +95,7 @@ module _ {n : ℕ} {w : List ℕ} {l : ℕ} (few : n ≤ 2016) (h : Ready n w) (
   unfolding H
   pushed′ = record {
     ready = record { size = omega (arith, j .size, u-size, h .size); trail = j .trail; values = values };
+    size = j .size ∙ u-size;
     list = j .list;
     count = j .count;
     top = j .top;
@@ -184,6 +185,7 @@ module _ {n : ℕ} {w : List ℕ} {l : ℕ} (few : n ≤ 2016) (h : Ready n w) (
   popped′ : Popped n w (dropped 4 o l)
   popped′ = record {
     ready = record { size = omega (arith, g .size, o-size, h .size); trail = g .trail; values = leave-values };
+    size = g .size ∙ o-size;
     count = sym (o-same 0 (omega arith)) ∙ g .count;
     kept = leave-kept;
   }
@@ -196,56 +198,72 @@ module _ {n : ℕ} {w : List ℕ} {l : ℕ} (few : n ≤ 2016) (h : Ready n w) (
 
 -- ---- nothing is held
 
-pub blank-starts : (w : List ℕ) → Blank w 0 w
-blank-starts w = record { size = refl; zero = λ i b. absurd (omega (arith, b)) }
+pub wiped-starts : (w : List ℕ) → Wiped w 0 w
+wiped-starts w = record { size = refl; zero = λ i b. absurd (omega (arith, b)) }
 
-pub blank-goes : {w w₁ : List ℕ} {k : ℕ} → Blank w k w₁ → k < length w₁ → Blank w (k + 1) (set w₁ k 0)
-blank-goes {w} {w₁} {k} z b = record { size = length-set w₁ k 0 ∙ z .size; zero = λ i a. go i a (ℕ-discrete i k) }
+pub wiped-goes : {w w₁ : List ℕ} {k : ℕ} → Wiped w k w₁ → k < length w₁ → Wiped w (k + 1) (set w₁ k 0)
+wiped-goes {w} {w₁} {k} z b = record { size = length-set w₁ k 0 ∙ z .size; zero = λ i a. go i a (ℕ-discrete i k) }
   where
     go : (i : ℕ) → i < k + 1 → Dec (i ≡ k) → getD (set w₁ k 0) i 0 ≡ 0
     go i a (yes e) = rw e (getD-set-same w₁ k 0 0 b)
     go i a (no e) = getD-set-other w₁ k i 0 0 e ∙ z .zero i (omega (arith, a, e))
 
-module _ {n : ℕ} {w w₁ : List ℕ} (few : n ≤ 2016) (size : 32768 ≤ length w) (z : Blank w 10089 w₁) where
-  w₃ : List ℕ
-  w₃ = set (set w₁ (4 + (6051 + 4032)) 1) (4 + (6051 + 4033)) 2
+module _ {n : ℕ} {w w₁ : List ℕ} (more : ℕ) (few : n ≤ 2016) (size : 32768 ≤ length w) (z : Wiped w 10089 w₁) where
+  b₁ : List ℕ
+  b₁ = set w₁ 4038 more
 
-  w₃-other : (i : ℕ) → (i ≡ 10087 → ⊥) → (i ≡ 10088 → ⊥) → getD w₃ i 0 ≡ getD w₁ i 0
-  unfolding w₃
-  w₃-other i a b = getD-set-other (set w₁ (4 + (6051 + 4032)) 1) (4 + (6051 + 4033)) i 2 0 b ∙ getD-set-other w₁ (4 + (6051 + 4032)) i 1 0 a
+  b₂ : List ℕ
+  b₂ = set b₁ 10087 1
 
-  w₃-zero : (i : ℕ) → i < 10087 → getD w₃ i 0 ≡ 0
-  w₃-zero i b = w₃-other i (λ e. omega (arith, e, b)) (λ e. omega (arith, e, b)) ∙ z .zero i (omega (arith, b))
+  b₃ : List ℕ
+  b₃ = set b₂ 10088 2
 
-  w₃-size : length w₃ ≡ length w₁
-  unfolding w₃
-  w₃-size = simp length-set
+  s₁ : length b₁ ≡ length w
+  unfolding b₁
+  s₁ = length-set w₁ 4038 more ∙ z .size
 
-  none : tail w₃ 0 ≡ 0
-  none = w₃-zero 4 (omega arith)
+  s₂ : length b₂ ≡ length w
+  unfolding b₂
+  s₂ = length-set b₁ 10087 1 ∙ s₁
 
-  blank-values : (l : ℕ) → l < 4034 → valueAt (tail w₃) l ≡ wideValue (held (tail w₃)) l
-  unfolding wideValue w₃
+  s₃ : length b₃ ≡ length w
+  unfolding b₃
+  s₃ = length-set b₂ 10088 2 ∙ s₂
+
+  past : (i : ℕ) → i < 10087 → getD b₃ i 0 ≡ getD b₁ i 0
+  unfolding b₃ b₂
+  past i b = getD-set-other b₂ 10088 i 2 0 (λ e. omega (arith, e, b)) ∙ getD-set-other b₁ 10087 i 1 0 (λ e. omega (arith, e, b))
+
+  b₃-zero : (i : ℕ) → i < 10087 → (i ≡ 4038 → ⊥) → getD b₃ i 0 ≡ 0
+  unfolding b₁
+  b₃-zero i b d = past i b ∙ getD-set-other w₁ 4038 i more 0 d ∙ z .zero i (omega (arith, b))
+
+  none : tail b₃ 0 ≡ 0
+  none = b₃-zero 4 (omega arith) (λ e. omega (arith, e))
+
+  blank-values : (l : ℕ) → l < 4034 → valueAt (tail b₃) l ≡ wideValue (held (tail b₃)) l
+  unfolding wideValue b₃ b₂
   blank-values l b = go (ℕ-discrete l 4032) (ℕ-discrete l 4033)
     where
-      go : Dec (l ≡ 4032) → Dec (l ≡ 4033) → valueAt (tail w₃) l ≡ wideValue (held (tail w₃)) l
-      go (yes e) d =
-          rw e (getD-set-other (set w₁ 10087 1) 10088 10087 2 0 (λ x. omega (arith, x)) ∙ getD-set-same w₁ 10087 1 0 (omega (arith, z .size, size)))
-      go (no e) (yes d) = rw d (getD-set-same (set w₁ 10087 1) 10088 2 0 (simp length-set (omega (arith, z .size, size))))
+      go : Dec (l ≡ 4032) → Dec (l ≡ 4033) → valueAt (tail b₃) l ≡ wideValue (held (tail b₃)) l
+      go (yes e) d = rw e (getD-set-other b₂ 10088 10087 2 0 (λ x. omega (arith, x)) ∙ getD-set-same b₁ 10087 1 0 (omega (arith, s₁, size)))
+      go (no e) (yes d) = rw d (getD-set-same b₂ 10088 2 0 (omega (arith, s₂, size)))
       go (no e) (no d) =
           let i : l < 4032 = omega (arith, b, e, d) in
-          w₃-zero (4 + (6051 + l)) (omega (arith, i)) ∙ sym (wide-nil l i) ∙ ap (λ (G : List ℕ). wideValue G l) (sym (empty-held n (tail w₃) none))
+          b₃-zero (4 + (6051 + l)) (omega (arith, i)) (λ x. omega (arith, x)) ∙ sym (wide-nil l i) ∙ ap (λ (G : List ℕ). wideValue G l) (sym (empty-held n (tail b₃) none))
 
-  blanked′ : Ready n w₃ × ((tail w₃ 0 ≡ 0) × (held (tail w₃) ≡ []))
-  blanked′ = (
-    record {
-      size = omega (arith, w₃-size, z .size, size);
-      trail = empty-trail n (tail w₃) none (λ m i. w₃-zero (4 + (2017 + m)) (omega (arith, i, few)));
+  blanked′ : Blank n more b₃
+  unfolding b₁
+  blanked′ = record {
+    ready = record {
+      size = omega (arith, s₃, size);
+      trail = empty-trail n (tail b₃) none (λ m i. b₃-zero (4 + (2017 + m)) (omega (arith, i, few)) (λ x. omega (arith, x, i, few)));
       values = blank-values;
-    },
-    (none, empty-held n (tail w₃) none),
-  )
+    };
+    count = none;
+    base = past 4038 (omega arith) ∙ getD-set-same w₁ 4038 more 0 (omega (arith, z .size, size));
+  }
 
-  pub blanked : {w₂ : List ℕ} → w₂ ≡ set (set w₁ 10087 1) 10088 2 → Ready n w₂ × ((tail w₂ 0 ≡ 0) × (gOf w₂ ≡ []))
-  unfolding w₃
-  blanked e = rw e blanked′
+  pub blanked : Blank n more (set (set (set w₁ 4038 more) 10087 1) 10088 2)
+  unfolding b₃ b₂ b₁
+  blanked = blanked′

@@ -2,3 +2,4 @@
 pub mod Areas
 pub mod Values
 pub mod Joins
+pub mod Clauses

@@ -16,6 +16,10 @@ valuesSet w l v u = set (set w (4 + (6051 + l)) v) (4 + (6051 + neg l)) u
 abbrev pub entrySet : List ℕ → ℕ → ℕ → List ℕ
 entrySet u h l = set (set (set u (4 + (2017 + l / 2)) (2 * h + l % 2 + 1)) (4 + (1 + h)) l) (4 + 0) (h + 1)
 
+-- how many clauses stand before those of position h + 1
+abbrev pub baseSet : List ℕ → ℕ → ℕ → List ℕ
+baseSet w h more = set w (4 + (4034 + (h + 1))) (baseOf (tail w) h + more)
+
 -- a number that neither a joining nor a leaving literal changes: a cell, an earlier literal, a base, a cursor but that at h
 abbrev pub Kept : ℕ → ℕ → Type 0
 Kept h i = (i < 4) ⊎ (((4 < i) × (i < 5 + h)) ⊎ (((4038 ≤ i) × (i < 6055)) ⊎ ((10089 ≤ i) × (i ≡ 10089 + h → ⊥))))
@@ -23,6 +27,7 @@ Kept h i = (i < 4) ⊎ (((4 < i) × (i < 5 + h)) ⊎ (((4038 ≤ i) × (i < 6055
 -- l has joined at the position that was the count
 pub record Pushed (n l : ℕ) (w w′ : List ℕ) : Type 0 where
   pub ready : Ready n w′
+  pub size : length w′ ≡ length w
   pub list : gOf w′ ≡ l ∷ gOf w
   pub count : tail w′ 0 ≡ suc (tail w 0)
   pub top : litAt (tail w′) (tail w 0) ≡ l
@@ -32,10 +37,17 @@ pub record Pushed (n l : ℕ) (w w′ : List ℕ) : Type 0 where
 -- the newest literal has left
 pub record Popped (n : ℕ) (w w′ : List ℕ) : Type 0 where
   pub ready : Ready n w′
+  pub size : length w′ ≡ length w
   pub count : tail w 0 ≡ suc (tail w′ 0)
   pub kept : (i : ℕ) → (i < 4) ⊎ (((4 < i) × (i < 2021)) ⊎ (((4038 ≤ i) × (i < 6055)) ⊎ (10089 ≤ i))) → getD w′ i 0 ≡ getD w i 0
 
--- nothing is held: the trail is empty, no literal has a value but the two of no node
-pub record Blank (w : List ℕ) (k : ℕ) (w′ : List ℕ) : Type 0 where
+-- the first k numbers are 0
+pub record Wiped (w : List ℕ) (k : ℕ) (w′ : List ℕ) : Type 0 where
   pub size : length w′ ≡ length w
   pub zero : (i : ℕ) → i < k → getD w′ i 0 ≡ 0
+
+-- nothing is held, and so many clauses stand before those of the first literal
+pub record Blank (n more : ℕ) (w : List ℕ) : Type 0 where
+  pub ready : Ready n w
+  pub count : tail w 0 ≡ 0
+  pub base : baseOf (tail w) 0 ≡ more

@@ -9,7 +9,7 @@ use Rattle.calculus.specs.Order.{State, met, holds, valueOf, isEmpty, isOne, so
 use Rattle.calculus.specs.Model.{All}
 use Rattle.calculus.specs.declared.Move.the-variants.{Split}
 use Rattle.index.specs.Index.{mostNodes}
-use Rattle.units.specs.Units.{positions, inSet, Units}
+use Rattle.units.specs.Units.{positions, member, Units}
 use Rattle.clause.specs.Coded.{statesOf}
 use Rattle.state.specs.Work.{tail, gOf, litAt, trail, cursorAt, cursorOf, conflictOf, waitingOf, Ready, Numbered}
 
@@ -19,7 +19,7 @@ statesAt t G r q = statesOf t G (litAt r q)
 
 -- position q is in the set exactly if a clause of its literal is a unit; and it is not before c if one is all false
 pub record Entered (t : ℕ → Node) (G : List ℕ) (r : ℕ → ℕ) (c : ℕ) (m : List ℕ) (q : ℕ) : Type 0 where
-  pub unit : inSet m q ≡ bit (some isOne (statesAt t G r q))
+  pub unit : member m q ≡ bit (some isOne (statesAt t G r q))
   pub conflict : some isEmpty (statesAt t G r q) ≡ true → c ≤ q
 
 -- c is no position, or one that has a clause that is all false
@@ -40,7 +40,7 @@ pub record Holds (t : ℕ → Node) (n : ℕ) (goals w m : List ℕ) : Type 0 wh
   pub numbered : Numbered t goals (tail w)
   pub units : Units m
   pub entered : (q : ℕ) → q < tail w 0 → Entered t (gOf w) (tail w) (conflictOf w) m q
-  pub clear : (q : ℕ) → tail w 0 ≤ q → q < positions → inSet m q ≡ 0
+  pub clear : (q : ℕ) → tail w 0 ≤ q → q < positions → member m q ≡ 0
   pub closed : Closed t (gOf w) (tail w) (conflictOf w)
   pub cursor : cursorOf w ≤ tail w 0
   pub met-before : AllMet t (gOf w) (tail w) (cursorOf w)

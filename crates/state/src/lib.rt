@@ -1,13 +1,12 @@
 // The trail in the work area: a literal joins or the newest leaves, with their values. The layout is in specs/Work.antt.
 ghost use mathlib.Core.Path.{_≡_};
-ghost use mathlib.Core.List.{[]};
 ghost use Prim.Native.Nat.{ℕ, _+_, _-_, _*_, _/_, _≤_, _<_};
 ghost use lib.ListN.{length};
 ghost use Rattle.calculus.specs.Model.{Fresh};
 ghost use Rattle.calculus.specs.Order.{valueOf};
 ghost use Rattle.index.specs.Index.{mostNodes};
 ghost use Rattle.state.specs.Work.{area, tail, litAt, entryOf, baseOf, cursorAt, gOf, valueCode, Ready};
-ghost use Rattle.state.specs.Changes.{valuesSet, entrySet, Pushed, Popped, Blank};
+ghost use Rattle.state.specs.Changes.{valuesSet, entrySet, baseSet, Pushed, Popped, Wiped, Blank};
 
 // The cursor: every clause of the positions before it is met.
 const CURSOR: usize = 0;
@@ -110,6 +109,15 @@ pub fn push(n: usize, work: &mut [u16], l: u16)
     enter(work, h, l);
 }
 
+// The literal at position h has so many clauses.
+pub fn number(work: &mut [u16], h: usize, more: u16)
+    requires { ⌜ (area ≤ length (now work)) × (h < mostNodes) × (baseOf (tail (now work)) h + more < 65536) ⌝ }
+    ensures { λ _. ⌜ now (work .exit) ≡ baseSet (now (work .entry)) h more ⌝ }
+{
+    let b = base(work, h);
+    work[TRAIL + (BASES + (h + 1))] = b + more;
+}
+
 // The newest literal leaves those held.
 pub fn pop(n: usize, work: &mut [u16])
     requires { ⌜ Ready n (now work) ⌝ }
@@ -127,7 +135,7 @@ pub fn pop(n: usize, work: &mut [u16])
 // The first k numbers become 0.
 fn wipe(work: &mut [u16], k: usize)
     requires { ⌜ k ≤ length (now work) ⌝ }
-    ensures { λ _. ⌜ Blank (now (work .entry)) k (now (work .exit)) ⌝ }
+    ensures { λ _. ⌜ Wiped (now (work .entry)) k (now (work .exit)) ⌝ }
 {
     let mut i = 0;
     while i < k {
@@ -136,13 +144,13 @@ fn wipe(work: &mut [u16], k: usize)
     }
 }
 
-// Nothing is held.
-pub fn blank(n: usize, work: &mut [u16])
+// Nothing is held; so many clauses stand before those of the first literal.
+pub fn blank(n: usize, work: &mut [u16], clauses: u16)
     requires { ⌜ (area ≤ length (now work)) × (n ≤ mostNodes) ⌝ }
-    ensures { λ _. ⌜ Ready n (now (work .exit)) ⌝ }
-    ensures { λ _. ⌜ (tail (now (work .exit)) 0 ≡ 0) × (gOf (now (work .exit)) ≡ []) ⌝ }
+    ensures { λ _. ⌜ Blank n clauses (now (work .exit)) ⌝ }
 {
     wipe(work, TRAIL + CURSORS);
+    work[TRAIL + BASES] = clauses;
     work[TRAIL + (VALUES + ALWAYS)] = 1;
     work[TRAIL + (VALUES + (ALWAYS + 1))] = 2;
 }

@@ -1,21 +1,21 @@
 -- `state::wipe` meets its contract. The invariant: the numbers passed are 0. Assumes nothing.
 use mathlib.Core.Path.{_≡_}
 use Prim.Native.Nat.{_-_, _≤_}
-use Rattle.state.specs.Changes.{Blank}
-use Rattle.state.proofs.Joins.{blank-starts, blank-goes}
+use Rattle.state.specs.Changes.{Wiped}
+use Rattle.state.proofs.Joins.{wiped-starts, wiped-goes}
 use native.Mathlib.Omega.{arith}
 use borrow.Author.Needs.{needs}
 use Rattle.state.proofs.wipe.Statement.{statement}
 use Rattle.state.proofs.wipe.Tie as tie
 
 abbrev Inv-loop : tie.InvT-loop
-Inv-loop work₀ k i₀ work i = Blank work₀ i work × (i ≤ k)
+Inv-loop work₀ k i₀ work i = Wiped work₀ i work × (i ≤ k)
 
 abbrev μ-loop : tie.MeasureT-loop
 μ-loop work₀ k i₀ work i = k - i
 
 loop-holds : tie.Need-loop-holds Inv-loop μ-loop
-loop-holds c = (blank-starts (c .args .work .now), omega arith)
+loop-holds c = (wiped-starts (c .args .work .now), omega arith)
 
 mul-work : tie.Need-mul-work Inv-loop μ-loop
 mul-work c = search needs
@@ -30,7 +30,7 @@ loop-less : tie.Need-loop-less Inv-loop μ-loop
 loop-less c = search needs
 
 loop-again : tie.Need-loop-again Inv-loop μ-loop
-loop-again c = (blank-goes (c .before .loop .inv .0) (omega (arith, c .before .loop .inv .0 .size)), omega arith)
+loop-again c = (wiped-goes (c .before .loop .inv .0) (omega (arith, c .before .loop .inv .0 .size)), omega arith)
 
 same-length : tie.Need-same-length Inv-loop μ-loop
 same-length c = c .before .loop .inv .0 .size

@@ -1,0 +1,65 @@
+-- The place of the clause that a move is on: 4 × position + which of its literal's clauses, or `goalsAt` + which goal. Assumes nothing.
+use mathlib.Core.Path.{_≡_}
+use mathlib.Core.Bool.{true, cond}
+use mathlib.Core.List.{List, []}
+use Prim.Native.Nat.{ℕ, _+_, _-_, _*_, _/_, _%_, _<_, _≤_}
+use lib.Dec.{ltb}
+use lib.ListN.{length, getD}
+use Rattle.scope.specs.declared.Node.{Node}
+use Rattle.calculus.specs.Expansion.{expand}
+use Rattle.calculus.specs.Order.{valueOf, clauses, isOne, isMany, some}
+use Rattle.calculus.specs.Model.{Below}
+use Rattle.calculus.specs.declared.Move.{Move}
+use Rattle.calculus.specs.declared.Move.the-variants.{Conflict, Unit as Single, Done, Split}
+use Rattle.clause.specs.declared.Clause.{Clause}
+use Rattle.clause.specs.Literals.{literals}
+use Rattle.clause.specs.Coded.{isOpen}
+use Rattle.state.specs.Work.{tail, litAt, baseOf, gOf, trail, valueCode, cursorOf, placeOf}
+use Rattle.state.specs.Holds.{statesAt, AllMet}
+
+abbrev pub goalsAt : ℕ
+goalsAt = 8064
+
+-- the number of the clause at the place that is kept
+unfoldable pub placeNumber : List ℕ → ℕ
+placeNumber w = cond (ltb (placeOf w) goalsAt) (baseOf (tail w) (placeOf w / 4) + placeOf w % 4) (placeOf w - goalsAt)
+
+-- the place that is kept is that of clause k
+pub record Placed (t : ℕ → Node) (goals w : List ℕ) (k : ℕ) : Type 0 where
+  pub number : placeNumber w ≡ k
+  pub goal : goalsAt ≤ placeOf w → placeOf w - goalsAt < length goals
+  pub held : placeOf w < goalsAt → placeOf w / 4 < tail w 0
+  pub column : placeOf w < goalsAt → placeOf w % 4 < length (expand t (litAt (tail w) (placeOf w / 4)))
+
+-- after a conflict or a unit it is that of the move's clause
+abbrev pub Kept : (ℕ → Node) → List ℕ → List ℕ → Move → Type 0
+Kept t goals w (Conflict k) = Placed t goals w k
+Kept t goals w (Single k l) = Placed t goals w k
+Kept t goals w Done = Unit {0}
+Kept t goals w (Split l) = Unit {0}
+
+-- c is the clause at the place that is kept
+pub record Reasoned (t : ℕ → Node) (n : ℕ) (goals w : List ℕ) (c : Clause) : Type 0 where
+  pub clause : literals c ≡ getD (clauses (expand t) goals (gOf w)) (placeNumber w) []
+  pub below : Below n (literals c)
+
+-- ---- what each function finds
+
+-- r is the first goal of a value, or how many there are
+pub record FirstGoal (goals G : List ℕ) (v r : ℕ) : Type 0 where
+  pub low : r ≤ length goals
+  pub before : (k : ℕ) → k < r → valueCode (valueOf G (getD goals k 0)) ≡ v → ⊥
+  pub here : r < length goals → valueCode (valueOf G (getD goals r 0)) ≡ v
+
+-- only the cell i is changed, which is v
+pub record CellSet (i v : ℕ) (w w′ : List ℕ) : Type 0 where
+  pub size : length w′ ≡ length w
+  pub cell : getD w′ i 0 ≡ v
+  pub other : (j : ℕ) → (j ≡ i → ⊥) → getD w′ j 0 ≡ getD w j 0
+
+-- q is the first position from the cursor on that has an open clause, or how many literals are held
+pub record FirstOpen (t : ℕ → Node) (w : List ℕ) (q : ℕ) : Type 0 where
+  pub from : cursorOf w ≤ q
+  pub low : q ≤ tail w 0
+  pub before : (p : ℕ) → cursorOf w ≤ p → p < q → some isOpen (statesAt t (gOf w) (tail w) p) ≡ true → ⊥
+  pub here : q < tail w 0 → some isOpen (statesAt t (gOf w) (tail w) q) ≡ true

@@ -1,0 +1,7 @@
+-- Laws of the solver's state changes. Assumes nothing.
+pub mod Stays
+pub mod Marks
+pub mod Walks
+pub mod Settles
+pub mod Assumes
+pub mod Undoes

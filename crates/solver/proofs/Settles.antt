@@ -1,0 +1,150 @@
+-- What start and undo leave: no position is a unit, none has a conflict. Assumes nothing.
+use mathlib.Core.Path.{_≡_, refl, sym, ap, _∙_, subst, fun-ext}
+use mathlib.Core.Bool.{true, false, false≢true}
+use mathlib.Core.Logic.{inl, inr}
+use mathlib.Core.List.{List, []}
+use Prim.Native.Nat.{ℕ, suc, _+_, _-_, _*_, _<_, _≤_}
+use native.Mathlib.Omega.{arith}
+use lib.ListN.{length, getD, set, length-set}
+use lib.Seq.{getD-set-same, getD-set-other}
+use Rattle.scope.specs.declared.Node.{Node}
+use Rattle.calculus.specs.Order.{Value, holds, fails, undecided, valueOf, isEmpty, isOne, some, bit}
+use Rattle.units.specs.Units.{member, Units, Empty}
+use Rattle.trail.proofs.Trails.{trail-length}
+use Rattle.state.specs.Work.{tail, litAt, baseOf, cursorAt, gOf, trail, valueCode, cursorOf, conflictOf, waitingOf, held, Ready, Numbered}
+use Rattle.state.specs.Holds.{Holds, AllMet, Waiting, Closed, statesAt}
+use Rattle.state.specs.Changes.{Popped}
+use Rattle.state.proofs.Areas.{count-most, held-below, ready-same}
+use Rattle.solver.specs.Changes.{Served, Awaited, Settled, Left}
+
+-- ---- whether a goal waits
+
+pub code-holds : (v : Value) → valueCode v ≡ 1 → v ≡ holds
+code-holds holds e = refl
+code-holds fails e = absurd (omega arith)
+code-holds undecided e = absurd (omega arith)
+
+pub waiting-on : {goals G : List ℕ} (k v : ℕ) → k < length goals → v ≡ valueCode (valueOf G (getD goals k 0)) → (v ≡ 1 → ⊥) → Waiting goals G 1
+waiting-on k v i e d = record {
+  over = λ z. absurd (omega (arith, z));
+  on = λ z. (k, i, λ y. d (e ∙ ap valueCode y));
+}
+
+pub waiting-over : {goals G : List ℕ} → ((k : ℕ) → k < length goals → valueOf G (getD goals k 0) ≡ holds) → Waiting goals G 0
+waiting-over f = record { over = λ z. f; on = λ z. absurd (z refl) }
+
+-- ---- the cells are set
+
+module _ {w m′ : List ℕ} {c v : ℕ} (size : 2 < length w) (u : Units m′ × Empty m′) where
+  pub settled : Settled w c v (set (set (set w 0 c) 1 2016) 2 v) m′
+  settled = record {
+    units = u;
+    size = simp length-set;
+    cursor =
+        getD-set-other (set (set w 0 c) 1 2016) 2 0 v 0 (λ e. omega (arith, e)) ∙ getD-set-other (set w 0 c) 1 0 2016 0 (λ e. omega (arith, e))
+        ∙ getD-set-same w 0 c 0 (omega (arith, size));
+    conflict = getD-set-other (set (set w 0 c) 1 2016) 2 1 v 0 (λ e. omega (arith, e)) ∙ getD-set-same (set w 0 c) 1 2016 0 (simp length-set (omega (arith, size)));
+    waiting = getD-set-same (set (set w 0 c) 1 2016) 2 v 0 (simp length-set size);
+    rest = λ i k.
+        getD-set-other (set (set w 0 c) 1 2016) 2 i v 0 (λ e. omega (arith, e, k)) ∙ getD-set-other (set w 0 c) 1 i 2016 0 (λ e. omega (arith, e, k))
+        ∙ getD-set-other w 0 i c 0 (λ e. omega (arith, e, k));
+  }
+
+-- the work area holds where no position of its trail has a unit or a conflict
+module _ {n : ℕ} {w w′ m′ : List ℕ} {c v : ℕ} (few : n ≤ 2016) (h : Ready n w) (z : Settled w c v w′ m′) where
+  same : tail w′ ≡ tail w
+  same = fun-ext (λ i. z .rest (4 + i) (omega arith))
+
+  pub settled-list : gOf w′ ≡ gOf w
+  settled-list = ap held same
+
+  module _ {t : ℕ → Node} {goals : List ℕ} (numbered : Numbered t goals (tail w)) (low : c ≤ tail w 0) (before : AllMet t (gOf w) (tail w) c)
+      (cursors : (q : ℕ) → q < tail w 0 → (cursorAt (tail w) q ≤ q) × AllMet t (trail q (tail w)) (tail w) (cursorAt (tail w) q))
+      (waiting : Waiting goals (gOf w) v)
+      (none : (q : ℕ) → q < tail w 0 → (some isEmpty (statesAt t (gOf w) (tail w) q) ≡ false) × (some isOne (statesAt t (gOf w) (tail w) q) ≡ false)) where
+    pub settled-holds : Holds t n goals w′ m′
+    settled-holds = record {
+      ready = ready-same few h (z .size) (λ i k. z .rest (4 + i) (omega arith)) (λ l k. z .rest (4 + (6051 + l)) (omega arith));
+      numbered = subst (Numbered t goals) (sym same) numbered;
+      units = z .units .0;
+      entered = λ q i. record {
+        unit = z .units .1 q (omega (arith, low′, i, few)) ∙ sym (ap bit (none′ q i .1));
+        conflict = λ y. absurd (false≢true (sym (none′ q i .0) ∙ y));
+      };
+      clear = λ q i k. z .units .1 q k;
+      closed = λ k. absurd (omega (arith, k, z .conflict));
+      cursor = omega (arith, z .cursor, low, ap (λ (r : ℕ → ℕ). r 0) same);
+      met-before = subst (λ (r : ℕ → ℕ). AllMet t (held r) r (cursorOf w′)) (sym same) (subst (AllMet t (gOf w) (tail w)) (sym (z .cursor)) before);
+      cursors = subst (λ (r : ℕ → ℕ). (q : ℕ) → q < r 0 → (cursorAt r q ≤ q) × AllMet t (trail q r) r (cursorAt r q)) (sym same) cursors;
+      waiting = subst (λ (r : ℕ → ℕ). Waiting goals (held r) (waitingOf w′)) (sym same) (subst (Waiting goals (gOf w)) (sym (z .waiting)) waiting);
+    }
+      where
+        none′ : (q : ℕ) → q < tail w′ 0 → (some isEmpty (statesAt t (gOf w′) (tail w′) q) ≡ false) × (some isOne (statesAt t (gOf w′) (tail w′) q) ≡ false)
+        none′ =
+            subst (λ (r : ℕ → ℕ). (q : ℕ) → q < r 0 → (some isEmpty (statesAt t (held r) r q) ≡ false) × (some isOne (statesAt t (held r) r q) ≡ false))
+            (sym same) none
+
+        low′ : tail w′ 0 ≤ n
+        low′ = omega (arith, count-most h, ap (λ (r : ℕ → ℕ). r 0) same)
+
+-- ---- literals leave
+
+pub record Leaving (n to : ℕ) (w₀ w : List ℕ) : Type 0 where
+  pub ready : Ready n w
+  pub size : length w ≡ length w₀
+  pub low : to ≤ tail w 0
+  pub lits : (q : ℕ) → q < 2016 → litAt (tail w) q ≡ litAt (tail w₀) q
+  pub bases : (q : ℕ) → q ≤ 2016 → baseOf (tail w) q ≡ baseOf (tail w₀) q
+  pub cursors : (q : ℕ) → cursorAt (tail w) q ≡ cursorAt (tail w₀) q
+
+pub leaving-starts : {n to : ℕ} {w : List ℕ} → Ready n w → to < tail w 0 → Leaving n to w w
+leaving-starts h b = record { ready = h; size = refl; low = omega (arith, b); lits = λ q i. refl; bases = λ q i. refl; cursors = λ q. refl }
+
+module _ {n to : ℕ} {w₀ w : List ℕ} (few : n ≤ 2016) (v : Leaving n to w₀ w) {c : ℕ} (count : c ≡ length (gOf w)) where
+  count-is : c ≡ tail w 0
+  count-is = count ∙ trail-length (tail w 0) (tail w)
+
+  module _ (b : to < c) where
+    -- what `pop` asks
+    pub pop-asked : (Ready n w × (((n ≤ 2016) × (0 < tail w 0) × (tail w 0 ≤ 2016)) × (litAt (tail w) (tail w 0 - 1) < 2 * 2016)))
+    pop-asked =
+        let p : 0 < tail w 0 = omega (arith, count-is, b) in (
+          v .ready,
+          ((few, p, omega (arith, count-most (v .ready), few)), omega (arith, held-below (v .ready) (tail w 0 - 1) (omega (arith, p)), few)),
+        )
+
+    pub leaving-goes : {w′ : List ℕ} → Popped n w w′ → Leaving n to w₀ w′
+    leaving-goes k = record {
+      ready = k .ready;
+      size = k .size ∙ v .size;
+      low = omega (arith, k .count, count-is, b);
+      lits = λ q i. k .kept (4 + (1 + q)) (inr (inl (omega arith, omega arith))) ∙ v .lits q i;
+      bases = λ q i. k .kept (4 + (4034 + q)) (inr (inr (inl (omega arith, omega arith)))) ∙ v .bases q i;
+      cursors = λ q. k .kept (4 + (10085 + q)) (inr (inr (inr (omega arith)))) ∙ v .cursors q;
+    }
+
+    pub leaving-less : {w′ : List ℕ} → Popped n w w′ → tail w′ 0 < tail w 0
+    leaving-less k = omega (arith, k .count)
+
+  pub leaving-ends : c ≤ to → Left n to w₀ w
+  leaving-ends d = record {
+    ready = v .ready;
+    size = v .size;
+    count = omega (arith, count-is, v .low, d);
+    lits = v .lits;
+    bases = v .bases;
+    cursors = v .cursors;
+  }
+
+-- ---- the goals are looked at anew
+
+-- none waited
+pub awaited-none : {goals w : List ℕ} → Served goals w → waitingOf w ≡ 0 → Awaited goals w w
+awaited-none {goals} {w} s z = record { size = refl; waiting = rw z (waiting-over (s z)); other = λ i e. refl }
+
+pub awaited : {goals w : List ℕ} {v : ℕ} → 2 < length w → Waiting goals (gOf w) v → Awaited goals w (set w 2 v)
+awaited {goals} {w} {v} b a = record {
+  size = length-set w 2 v;
+  waiting = rw (getD-set-same w 2 v 0 b) a;
+  other = λ i e. getD-set-other w 2 i v 0 e;
+}

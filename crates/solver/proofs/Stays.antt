@@ -1,0 +1,173 @@
+-- What stays of the clauses' states as a literal joins. Assumes nothing.
+use mathlib.Core.Path.{_≡_, refl, sym, ap, _∙_, subst}
+use mathlib.Core.Bool.{Bool, true, false, cond, _||_, false≢true, or-true}
+use mathlib.Core.Logic.{_⊎_, inl, inr, ⊎-elim}
+use mathlib.Core.List.{List, [], _∷_, map}
+use Prim.Native.Nat.{ℕ, zero, suc, _+_, _*_, _/_, _%_, _<_, _≤_}
+use native.Mathlib.Omega.{arith}
+use native.Mathlib.Decide.{ℕ-discrete, decLt}
+use lib.Dec.{eqb}
+use lib.ListN.{getD}
+use borrow.Author.Tests.{ne-eqb, le-ltb}
+use Rattle.scope.specs.declared.Node.{Node}
+use Rattle.calculus.specs.Expansion.{neg, chosen, templates, expand}
+use Rattle.calculus.specs.Order.{mem, Value, holds, fails, undecided, valueOf, State, met, empty, one, many, joined, opened, stateOf, isEmpty, some}
+use Rattle.calculus.specs.Model.{All}
+use Rattle.calculus.proofs.Lists.{all-map, all-each, all-imply, map-all}
+use Rattle.calculus.proofs.Literals.{mem-later, holds-mem, fails-mem, value-joined, value-negated, value-other, undecided-neg}
+use Rattle.calculus.proofs.Rows.{bare, row-bare}
+use Rattle.index.specs.Index.{operands, opNode}
+use Rattle.clause.specs.Coded.{statesOf}
+use Rattle.solver.specs.Changes.{Pending}
+
+-- ---- l joins G, where it is undecided
+
+module _ (G : List ℕ) (l : ℕ) (f : valueOf G l ≡ undecided) where
+  -- a literal that has a value keeps it
+  pub value-stays : (m : ℕ) (v : Value) → (v ≡ undecided → ⊥) → valueOf G m ≡ v → valueOf (l ∷ G) m ≡ v
+  value-stays m v d e = go (ℕ-discrete (m / 2) (l / 2)) (ℕ-discrete m l)
+    where
+      go : Dec (m / 2 ≡ l / 2) → Dec (m ≡ l) → valueOf (l ∷ G) m ≡ v
+      go (no k) q = value-other G l m k ∙ e
+      go (yes k) (yes q) = absurd (d (sym e ∙ ap (valueOf G) q ∙ f))
+      go (yes k) (no q) =
+          let z : m ≡ neg l = omega (arith, k, q) in
+          absurd (d (sym e ∙ ap (valueOf G) z ∙ undecided-neg G l f))
+
+  joined-met : (v : Value) (m : ℕ) → joined v m met ≡ met
+  joined-met holds m = refl
+  joined-met fails m = refl
+  joined-met undecided m = refl
+
+  -- a clause that is met stays so
+  pub met-stays : (c : List ℕ) → stateOf G c ≡ met → stateOf (l ∷ G) c ≡ met
+  unfolding stateOf
+  met-stays [] e = absurd (let z : _≡_ {A = ℕ} 0 1 = cc in omega arith)
+  met-stays (m ∷ c) e = go (valueOf G m) refl e (stateOf G c) refl (met-stays c)
+    where
+      go : (v : Value) → valueOf G m ≡ v → joined v m (stateOf G c) ≡ met → (s : State) → stateOf G c ≡ s → (stateOf G c ≡ met → stateOf (l ∷ G) c ≡ met)
+          → joined (valueOf (l ∷ G) m) m (stateOf (l ∷ G) c) ≡ met
+      go holds x y s z f = rw (value-stays m holds (λ o. let z : _≡_ {A = ℕ} 0 1 = cc in omega arith) x)
+      go fails x y s z f = rw (f y) (joined-met (valueOf (l ∷ G) m) m)
+      go undecided x y met z f = rw (f z) (joined-met (valueOf (l ∷ G) m) m)
+      go undecided x y empty z f = absurd (let z : _≡_ {A = ℕ} 0 1 = cc in omega arith)
+      go undecided x y (one k) z f = absurd (let z : _≡_ {A = ℕ} 0 1 = cc in omega arith)
+      go undecided x y (many k) z f = absurd (let z : _≡_ {A = ℕ} 0 1 = cc in omega arith)
+
+  -- so does one that is all false
+  pub empty-stays : (c : List ℕ) → stateOf G c ≡ empty → stateOf (l ∷ G) c ≡ empty
+  unfolding stateOf
+  empty-stays [] e = refl
+  empty-stays (m ∷ c) e = go (valueOf G m) refl e (stateOf G c) refl (empty-stays c)
+    where
+      go : (v : Value) → valueOf G m ≡ v → joined v m (stateOf G c) ≡ empty → (s : State) → stateOf G c ≡ s → (stateOf G c ≡ empty → stateOf (l ∷ G) c ≡ empty)
+          → joined (valueOf (l ∷ G) m) m (stateOf (l ∷ G) c) ≡ empty
+      go holds x y s z f = absurd (let z : _≡_ {A = ℕ} 0 1 = cc in omega arith)
+      go fails x y s z f = rw (value-stays m fails (λ o. let z : _≡_ {A = ℕ} 0 1 = cc in omega arith) x) (f y)
+      go undecided x y met z f = absurd (let z : _≡_ {A = ℕ} 0 1 = cc in omega arith)
+      go undecided x y empty z f = absurd (let z : _≡_ {A = ℕ} 0 1 = cc in omega arith)
+      go undecided x y (one k) z f = absurd (let z : _≡_ {A = ℕ} 0 1 = cc in omega arith)
+      go undecided x y (many k) z f = absurd (let z : _≡_ {A = ℕ} 0 1 = cc in omega arith)
+
+  pub all-met-stays : (cs : List (List ℕ)) → All (λ s. s ≡ met) (map (stateOf G) cs) → All (λ s. s ≡ met) (map (stateOf (l ∷ G)) cs)
+  all-met-stays [] h = tt
+  all-met-stays (c ∷ cs) h = (met-stays c (h .0), all-met-stays cs (h .1))
+
+  pub some-empty-stays : (cs : List (List ℕ)) → some isEmpty (map (stateOf G) cs) ≡ true → some isEmpty (map (stateOf (l ∷ G)) cs) ≡ true
+  unfolding some
+  some-empty-stays [] e = absurd (false≢true e)
+  some-empty-stays (c ∷ cs) e = go (stateOf G c) refl e (some-empty-stays cs)
+    where
+      go : (s : State) → stateOf G c ≡ s → (isEmpty s || some isEmpty (map (stateOf G) cs)) ≡ true
+          → (some isEmpty (map (stateOf G) cs) ≡ true → some isEmpty (map (stateOf (l ∷ G)) cs) ≡ true)
+          → (isEmpty (stateOf (l ∷ G) c) || some isEmpty (map (stateOf (l ∷ G)) cs)) ≡ true
+      go empty z y f = rw (empty-stays c z)
+      go met z y f = rw (f y) (or-true (isEmpty (stateOf (l ∷ G) c)))
+      go (one k) z y f = rw (f y) (or-true (isEmpty (stateOf (l ∷ G) c)))
+      go (many k) z y f = rw (f y) (or-true (isEmpty (stateOf (l ∷ G) c)))
+
+-- ---- clauses that do not name l's node keep their states
+
+all-or : {A : Type 0} (P : A → Type 0) (Q : Type 0) (xs : List A) → All (λ x. P x ⊎ Q) xs → All P xs ⊎ Q
+all-or P Q [] h = inl tt
+all-or P Q (x ∷ xs) (a, h) = ⊎-elim (λ p. ⊎-elim (λ r. inl (p, r)) inr (all-or P Q xs h)) inr a
+
+state-same : (F G c : List ℕ) → All (λ m. valueOf F m ≡ valueOf G m) c → stateOf F c ≡ stateOf G c
+unfolding stateOf
+state-same F G [] h = refl
+state-same F G (m ∷ c) h = rw (h .0, state-same F G c (h .1))
+
+states-same : (F G : List ℕ) (cs : List (List ℕ)) → All (λ c. stateOf F c ≡ stateOf G c) cs → map (stateOf F) cs ≡ map (stateOf G) cs
+states-same F G [] h = refl
+states-same F G (c ∷ cs) h = rw (h .0, states-same F G cs (h .1))
+
+module _ (n : ℕ) (t : ℕ → Node) (m : ℕ) (b : m < 2 * n) where
+  abbrev p : ℕ
+  p = m / 2
+
+  -- the node of a literal of m's clauses is one that a cell of m's node names
+  cell-names : 2 < t p .kind → (c : ℕ) → Pending t (chosen (t p) c / 2) (4 * n) p
+  unfolding opNode operands chosen
+  cell-names k c = go c
+    where
+      first : (4 * p + 1) / 4 ≡ p
+      first = omega arith
+
+      second : (4 * p + 2) / 4 ≡ p
+      second = omega arith
+
+      one-of : (i : ℕ) → (4 * p + i) % 4 ≡ i → (4 * p + i) / 4 ≡ p → i < 4
+          → getD (9999 ∷ map (_/ 2) (cond false [] (t p .a ∷ t p .b ∷ []))) i 9999 ≡ chosen (t p) c / 2 → Pending t (chosen (t p) c / 2) (4 * n) p
+      one-of i u v o e = (4 * p + i, omega (arith, b, o), rw (u, v, le-ltb (t p .kind) 3 k) e, v)
+
+      go : (c′ : ℕ) → Pending t (chosen (t p) c / 2) (4 * n) p
+      go c′ = at (ℕ-discrete c 0) (ℕ-discrete c 1)
+        where
+          high : (q : Bool) → t p .b / 2 ≡ cond q (t p .b) (neg (t p .b)) / 2
+          high true = refl
+          high false = omega arith
+
+          at : Dec (c ≡ 0) → Dec (c ≡ 1) → Pending t (chosen (t p) c / 2) (4 * n) p
+          at (yes e) d = one-of 1 (omega arith) first (omega arith) (rw e)
+          at (no e) (yes d) = one-of 1 (omega arith) first (omega arith) (rw d (omega arith))
+          at (no e) (no d) = one-of 2 (omega arith) second (omega arith) (rw (ne-eqb c 0 e, ne-eqb c 1 d) (high (eqb c 2)))
+
+  -- the states of m's clauses stay, or a cell of m's node names l's
+  pub still-or : (G : List ℕ) (l : ℕ) → (statesOf t (l ∷ G) m ≡ statesOf t G m) ⊎ Pending t (l / 2) (4 * n) p
+  unfolding expand stateOf
+  still-or G l =
+      ⊎-elim (λ h. inl (states-same (l ∷ G) G (expand t m) h)) inr
+      (all-or (λ c. stateOf (l ∷ G) c ≡ stateOf G c) Named (expand t m) (all-map Same-or (map (chosen (t p))) row (go (decLt 2 (t p .kind)))))
+    where
+      Named : Type 0
+      Named = Pending t (l / 2) (4 * n) p
+
+      row : List (List ℕ)
+      row = getD templates (2 * t p .kind + m % 2) []
+
+      Same-or : List ℕ → Type 0
+      Same-or c = (stateOf (l ∷ G) c ≡ stateOf G c) ⊎ Named
+
+      literal : 2 < t p .kind → (c : ℕ) → (valueOf (l ∷ G) (chosen (t p) c) ≡ valueOf G (chosen (t p) c)) ⊎ Named
+      literal k c = at (ℕ-discrete (chosen (t p) c / 2) (l / 2))
+        where
+          at : Dec (chosen (t p) c / 2 ≡ l / 2) → (valueOf (l ∷ G) (chosen (t p) c) ≡ valueOf G (chosen (t p) c)) ⊎ Named
+          at (yes e) = inr (rw e at (cell-names k c))
+          at (no e) = inl (value-other G l (chosen (t p) c) e)
+
+      clause : 2 < t p .kind → (c : List ℕ) → Same-or (map (chosen (t p)) c)
+      clause k c =
+          ⊎-elim (λ h. inl (state-same (l ∷ G) G (map (chosen (t p)) c) h)) inr
+          (all-or (λ a. valueOf (l ∷ G) a ≡ valueOf G a) Named (map (chosen (t p)) c)
+          (all-map (λ a. (valueOf (l ∷ G) a ≡ valueOf G a) ⊎ Named) (chosen (t p)) c
+          (all-each (λ a. (valueOf (l ∷ G) (chosen (t p) a) ≡ valueOf G (chosen (t p) a)) ⊎ Named) (literal k) c)))
+
+      nothing : (c : List ℕ) → bare c ≡ true → Same-or (map (chosen (t p)) c)
+      nothing [] e = inl refl
+      nothing (a ∷ c) e = absurd (false≢true e)
+
+      go : Dec (2 < t p .kind) → All (λ c. Same-or (map (chosen (t p)) c)) row
+      go (yes k) = all-each (λ c. Same-or (map (chosen (t p)) c)) (clause k) row
+      go (no k) =
+          all-imply (λ c. bare c ≡ true) (λ c. Same-or (map (chosen (t p)) c)) nothing row
+          (row-bare (t p .kind) (m % 2) (omega (arith, k)) (omega arith))

@@ -1,0 +1,128 @@
+-- What undo_to and start leave. Assumes nothing.
+use mathlib.Core.Path.{_≡_, refl, sym, ap, _∙_, subst}
+use mathlib.Core.Bool.{true, false, false≢true}
+use mathlib.Core.List.{List, []}
+use Prim.Native.Nat.{ℕ, zero, suc, _+_, _-_, _<_, _≤_}
+use native.Mathlib.Omega.{arith}
+use lib.ListN.{length, getD, drop, set, length-set}
+use lib.Seq.{getD-set-same, getD-set-other}
+use Rattle.scope.specs.declared.Node.{Node}
+use Rattle.calculus.specs.Expansion.{expand}
+use Rattle.calculus.specs.Order.{Value, holds, fails, undecided, valueOf, mem, met, empty, joined, isEmpty, isOne, some, stateOf, clauses, move, moveOf}
+use Rattle.calculus.specs.Model.{Goals}
+use Rattle.trail.proofs.Trails.{trail-length, trail-same}
+use Rattle.state.specs.Work.{tail, litAt, baseOf, cursorAt, gOf, held, trail, Ready, Numbered}
+use Rattle.state.specs.Holds.{Holds, AllMet, Waiting, Splits, statesAt}
+use Rattle.state.specs.Changes.{Blank}
+use Rattle.state.proofs.Areas.{count-most}
+use Rattle.state.proofs.Clauses.{sofar, sofar-length, none-at, none-goals, none-position, goal-state, goals-length, split-none}
+use Rattle.solver.specs.Changes.{Settled, Left}
+use Rattle.solver.proofs.Settles.{waiting-over, settled-list, settled-holds}
+
+-- the first literals of a trail, from those held
+trail-drop : (k q : ℕ) (r : ℕ → ℕ) → trail q r ≡ drop k (trail (k + q) r)
+unfolding trail
+trail-drop zero q r =
+    let e : 0 + q ≡ q = omega arith in
+    ap (λ (i : ℕ). trail i r) (sym e)
+trail-drop (suc k) q r =
+    let e : suc k + q ≡ suc (k + q) = omega arith in
+    rw e (trail-drop k q r)
+
+-- a goal that is neither false nor undecided is true
+goal-holds : (v : Value) (l : ℕ) → isEmpty (joined v l empty) ≡ false → isOne (joined v l empty) ≡ false → v ≡ holds
+goal-holds holds l a b = refl
+goal-holds fails l a b = absurd (false≢true (sym a))
+goal-holds undecided l a b = absurd (false≢true (sym b))
+
+-- ---- back to a split
+
+module _ {t : ℕ → Node} {n to : ℕ} {goals w m w₁ : List ℕ} (few : n ≤ 2016) (H : Holds t n goals w m) (low : to < length (gOf w))
+    (s : Splits (expand t) goals (drop (length (gOf w) - to) (gOf w))) (k : Left n to w w₁) where
+  under : to < tail w 0
+  under = omega (arith, low, trail-length (tail w 0) (tail w))
+
+  most : tail w 0 ≤ 2016
+  most = omega (arith, count-most (H .ready), few)
+
+  trails : (q : ℕ) → q ≤ to → trail q (tail w₁) ≡ trail q (tail w)
+  trails q i = trail-same q (tail w₁) (tail w) (λ p b. k .lits p (omega (arith, b, under, most)))
+
+  list : gOf w₁ ≡ drop (length (gOf w) - to) (gOf w)
+  list =
+      let e : length (gOf w) - to + to ≡ tail w 0 = omega (arith, low, trail-length (tail w 0) (tail w)) in
+      ap (λ (q : ℕ). trail q (tail w₁)) (k .count) ∙ trails to (omega arith) ∙ trail-drop (length (gOf w) - to) to (tail w)
+      ∙ ap (λ (q : ℕ). drop (length (gOf w) - to) (trail q (tail w))) e
+
+  -- the clauses of a split: none is all false, none is a unit
+  none : (some isEmpty (sofar t goals (gOf w₁) (tail w₁) (tail w₁ 0)) ≡ false) × (some isOne (sofar t goals (gOf w₁) (tail w₁) (tail w₁ 0)) ≡ false)
+  unfolding move
+  none = split-none (sofar t goals (gOf w₁) (tail w₁) (tail w₁ 0)) (s .0) (ap (move (expand t) goals) list ∙ s .1)
+
+  waiting : Waiting goals (gOf w₁) 0
+  waiting =
+      waiting-over (λ i b.
+      let z : i < length (sofar t goals (gOf w₁) (tail w₁) 0) = omega (arith, b, goals-length t goals (gOf w₁) (tail w₁)) in
+      let a = none-at isEmpty (sofar t goals (gOf w₁) (tail w₁) 0) i (none-goals t goals (gOf w₁) (tail w₁) isEmpty (tail w₁ 0) (none .0)) z in
+      let o = none-at isOne (sofar t goals (gOf w₁) (tail w₁) 0) i (none-goals t goals (gOf w₁) (tail w₁) isOne (tail w₁ 0) (none .1)) z in
+      let g = goal-state t goals (gOf w₁) (tail w₁) i b in
+      goal-holds (valueOf (gOf w₁) (getD goals i 0)) (getD goals i 0) (rw g at a) (rw g at o))
+
+  -- a cursor of before
+  met-before : (q : ℕ) → q ≤ to → (cursorAt (tail w₁) q ≤ q) × AllMet t (trail q (tail w₁)) (tail w₁) (cursorAt (tail w₁) q)
+  met-before q i =
+      let c = H .cursors q (omega (arith, i, under)) in (
+        omega (arith, k .cursors q, c .0),
+        λ p b. rw (trails q i, k .lits p (omega (arith, b, k .cursors q, c .0, i, under, most))) (c .1 p (omega (arith, b, k .cursors q))),
+      )
+
+  module _ {c : ℕ} {w₂ m₂ : List ℕ} (e : c ≡ cursorAt (tail w₁) to) (z : Settled w₁ c 0 w₂ m₂) where
+    pub undone : Holds t n goals w₂ m₂ × (gOf w₂ ≡ drop (length (gOf w) - to) (gOf w))
+    undone = (
+      settled-holds few (k .ready) z
+      (λ q i. k .bases q (omega (arith, i, k .count, under, most)) ∙ H .numbered q (omega (arith, i, k .count, under))
+      ∙ ap (λ (F : List ℕ). length (clauses (expand t) goals F)) (sym (trails q (omega (arith, i, k .count)))))
+      (omega (arith, e, met-before to (omega arith) .0, k .count))
+      (subst (λ (j : ℕ). AllMet t (trail j (tail w₁)) (tail w₁) c) (sym (k .count))
+      (subst (AllMet t (trail to (tail w₁)) (tail w₁)) (sym e) (met-before to (omega arith) .1)))
+      (λ q i. met-before q (omega (arith, i, k .count)))
+      waiting
+      (λ q i. (none-position t goals (gOf w₁) (tail w₁) isEmpty q (tail w₁ 0) i (none .0), none-position t goals (gOf w₁) (tail w₁) isOne q (tail w₁ 0) i (none .1))),
+      settled-list few (k .ready) z ∙ list,
+    )
+
+  -- what `leave` and `cursor_at` ask
+  pub leave-low : to < tail w 0
+  leave-low = under
+
+  pub cursor-low : to < 2016
+  cursor-low = omega (arith, under, most)
+
+-- ---- nothing is held
+
+module _ (t : ℕ → Node) (goals : List ℕ) {n : ℕ} {w w′ m′ : List ℕ} (few : n ≤ 2016) (b : Blank n (length goals) w) (z : Settled w 0 (length goals) w′ m′) where
+  empty-list : gOf w ≡ []
+  unfolding trail
+  empty-list = ap (λ (q : ℕ). trail q (tail w)) (b .count)
+
+  numbered : Numbered t goals (tail w)
+  numbered q i =
+      let e : q ≡ 0 = omega (arith, i, b .count) in
+      rw e (b .base ∙ sym (goals-length t goals [] (tail w)) ∙ sofar-length t goals [] (tail w) 0)
+
+  waits : Waiting goals (gOf w) (length goals)
+  unfolding valueOf mem
+  waits = record {
+    over = λ e k i. absurd (omega (arith, e, i));
+    on = λ e. (0, omega (arith, e), λ y. never (sym (ap (λ (G : List ℕ). valueOf G (getD goals 0 0)) empty-list) ∙ y));
+  }
+    where
+      never : undecided ≡ holds → ⊥
+      never y = let z : _≡_ {A = ℕ} 0 1 = cc in omega arith
+
+  pub started : Holds t n goals w′ m′ × (gOf w′ ≡ [])
+  started = (
+    settled-holds few (b .ready) z numbered (omega arith) (λ q i. absurd (omega (arith, i))) (λ q i. absurd (omega (arith, i, b .count))) waits
+    (λ q i. absurd (omega (arith, i, b .count))),
+    settled-list few (b .ready) z ∙ empty-list,
+  )

@@ -1,0 +1,113 @@
+-- The walk along the parents of a node: which positions are entered. Assumes nothing.
+use mathlib.Core.Path.{_≡_, refl, sym, ap, _∙_, subst, fun-ext}
+use mathlib.Core.Logic.{_⊎_, inl, inr, ⊎-elim}
+use mathlib.Core.List.{List, [], _∷_, map}
+use Prim.Native.Nat.{ℕ, _+_, _-_, _*_, _/_, _%_, _<_, _≤_}
+use native.Mathlib.Omega.{arith}
+use native.Mathlib.Decide.{ℕ-discrete}
+use lib.ListN.{length, getD}
+use Rattle.scope.specs.declared.Node.{Node}
+use Rattle.index.specs.Index.{indexNode, opNode, headOf, nextOf}
+use Rattle.index.specs.Indexed.{Indexed}
+use Rattle.units.specs.Units.{Units, positions, member}
+use Rattle.state.specs.Work.{tail, litAt, held, gOf, conflictOf, Ready}
+use Rattle.state.specs.Holds.{Entered, Closed}
+use Rattle.state.proofs.Areas.{count-most, ready-same}
+use Rattle.solver.specs.Changes.{Beside, Renewed, Pending, Walk, Touchable}
+
+-- the trail is not changed
+pub beside-tail : {w w′ : List ℕ} → Beside w w′ → tail w′ ≡ tail w
+beside-tail b = fun-ext (λ i. b .other (4 + i) (λ e. omega (arith, e)))
+
+pub beside-ready : {n : ℕ} {w w′ : List ℕ} → n ≤ 2016 → Beside w w′ → Ready n w → Ready n w′
+beside-ready {n} {w} {w′} few b h =
+    ready-same few h (b .size) (λ i k. b .other (4 + i) (λ e. omega (arith, e))) (λ l k. b .other (4 + (6051 + l)) (λ e. omega (arith, e)))
+
+-- a link is 0 or a cell that names the node
+abbrev pub On : (ℕ → Node) → ℕ → ℕ → ℕ → Type 0
+On t n node s = (s ≡ 0 → ⊥) → (s < 4 * n) × (opNode t s ≡ node)
+
+-- the first cell of a node names none
+no-operand : (t : ℕ → Node) (y : ℕ) → y % 4 ≡ 0 → opNode t y ≡ 9999
+unfolding opNode
+no-operand t y e = rw e
+
+-- an entered position stays so where its bit stays and the first conflict is not later
+pub entered-still : {t : ℕ → Node} {G : List ℕ} {r : ℕ → ℕ} {c c′ : ℕ} {m m′ : List ℕ} {q : ℕ} → Entered t G r c m q → c′ ≤ c
+    → member m′ q ≡ member m q → Entered t G r c′ m′ q
+entered-still e k s = record { unit = s ∙ e .unit; conflict = λ y. omega (arith, e .conflict y, k) }
+
+module _ {x : List ℕ} {n node : ℕ} {w₀ : List ℕ} (I : Indexed x n) (h : Ready n w₀) (b : node < n) where
+  abbrev t : ℕ → Node
+  t = indexNode x
+
+  -- it starts at the node's last cell
+  pub walk-on : On t n node (headOf x node)
+  walk-on z = (I .links .head-low node b z, I .links .head-on node b z)
+
+  pub walk-starts : {m₀ : List ℕ} → Touchable t n node w₀ m₀ → Walk t n node (headOf x node) w₀ m₀ w₀ m₀
+  walk-starts v = record {
+    beside = v .beside;
+    units = v .units;
+    closed = v .closed;
+    waits = λ q i. ⊎-elim inl (λ y. inr (y .0, I .links .head-all node (y .0) b (low y) (y .2), y .2, y .3)) (v .waits q i);
+    else = v .else;
+  }
+    where
+      low : {p : ℕ} (y : Pending t node (4 * n) p) → y .0 < 4 * n
+      low y = go (ℕ-discrete (y .0) (4 * n))
+        where
+          go : Dec (y .0 ≡ 4 * n) → y .0 < 4 * n
+          go (yes e) = absurd (omega (arith, no-operand t (y .0) (omega (arith, e)), y .2, b, I .few))
+          go (no e) = omega (arith, e, y .1)
+
+  -- it goes on to the cell before
+  module _ {s : ℕ} {m₀ w m : List ℕ} (v : Walk t n node s w₀ m₀ w m) (o : On t n node s) (z : s ≡ 0 → ⊥) where
+    pub parent-low : s / 4 < n
+    parent-low = omega (arith, o z .0)
+
+    named-low : opNode t s < n
+    named-low = subst (λ (k : ℕ). k < n) (sym (o z .1)) b
+
+    pub walk-less : nextOf x s < s
+    walk-less = I .links .next-low s (o z .0) named-low
+
+    pub walk-on-next : On t n node (nextOf x s)
+    walk-on-next y = (omega (arith, walk-less, o z .0), I .links .next-on s (o z .0) named-low y ∙ o z .1)
+
+    pub walk-goes : {w′ m′ : List ℕ} → Renewed t w m (s / 4) w′ m′ → Walk t n node (nextOf x s) w₀ m₀ w′ m′
+    walk-goes {w′} {m′} k = record {
+      beside = record { size = k .beside .size ∙ v .beside .size; other = λ i e. k .beside .other i e ∙ v .beside .other i e };
+      units = k .units;
+      closed = subst (λ (r : ℕ → ℕ). Closed t (held r) r (conflictOf w′)) same
+          (k .closed (subst (λ (r : ℕ → ℕ). Closed t (held r) r (conflictOf w)) (sym same) (v .closed)));
+      waits = λ q i. waits q i (ℕ-discrete (litAt (tail w₀) q / 2) (s / 4)) (v .waits q i);
+      else = λ q i a. k .else q a (λ y. absurd (omega (arith, ap (λ (r : ℕ → ℕ). r 0) same, y, i))) ∙ v .else q i a;
+    }
+      where
+        same : tail w ≡ tail w₀
+        same = beside-tail (v .beside)
+
+        -- the renewed position
+        here : (q : ℕ) → q < tail w₀ 0 → litAt (tail w₀) q / 2 ≡ s / 4 → Entered t (gOf w₀) (tail w₀) (conflictOf w′) m′ q
+        here = subst (λ (r : ℕ → ℕ). (q : ℕ) → q < r 0 → litAt r q / 2 ≡ s / 4 → Entered t (held r) r (conflictOf w′) m′ q) same (k .here)
+
+        -- another is as it was
+        else : (q : ℕ) → q < tail w₀ 0 → (litAt (tail w₀) q / 2 ≡ s / 4 → ⊥) → member m′ q ≡ member m q
+        else q i d =
+            k .else q (omega (arith, i, count-most h, I .few))
+            (subst (λ (r : ℕ → ℕ). q < r 0 → litAt r q / 2 ≡ s / 4 → ⊥) (sym same) (λ a. d))
+
+        waits : (q : ℕ) → q < tail w₀ 0 → Dec (litAt (tail w₀) q / 2 ≡ s / 4)
+            → Entered t (gOf w₀) (tail w₀) (conflictOf w) m q ⊎ Pending t node s (litAt (tail w₀) q / 2)
+            → Entered t (gOf w₀) (tail w₀) (conflictOf w′) m′ q ⊎ Pending t node (nextOf x s) (litAt (tail w₀) q / 2)
+        waits q i (yes e) u = inl (here q i e)
+        waits q i (no e) (inl u) = inl (entered-still u (k .lower) (else q i e))
+        waits q i (no e) (inr y) =
+            let d : y .0 ≡ s → ⊥ = λ a. e (sym (y .3) ∙ ap (_/ 4) a) in
+            inr (y .0, I .links .next-all s (y .0) (o z .0) named-low (omega (arith, y .1, d)) (y .2 ∙ sym (o z .1)), y .2, y .3)
+
+  -- at its end no position waits
+  pub walk-ends : {m₀ w m : List ℕ} → Walk t n node 0 w₀ m₀ w m → (q : ℕ) → q < tail w₀ 0 → Entered t (gOf w₀) (tail w₀) (conflictOf w) m q
+  walk-ends v q i =
+      ⊎-elim (λ e. e) (λ y. absurd (omega (arith, no-operand t (y .0) (omega (arith, y .1)), y .2, b, I .few))) (v .waits q i)
