@@ -1,4 +1,3 @@
 -- Laws for the proofs of check's functions. Assumes nothing.
 pub mod Same
-pub mod Meaning
 pub mod Answers

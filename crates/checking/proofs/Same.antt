@@ -19,7 +19,7 @@ use Rattle.calculus.proofs.Fresh.{clauses-below}
 use Rattle.rules.specs.declared.Step.{Step}
 use Rattle.rules.specs.Rules.{among, Branch, root, isFails, isUndecided, unstruck, anyHolds, Progress, running, complete, turn, only, clauseAt, stands, left, ruleU, ruleR, ruleE, ruleC, ruleS, apply, advance, ended, run, accepts}
 use Rattle.rules.proofs.Laws.{place, After, after-given, after-only, after-apply, after-advance}
-use Rattle.deciding.proofs.Bridge.{clauses-same}
+use Rattle.asking.proofs.Same.{clauses-same}
 
 -- ---- the one literal that a clause has left is one of its literals
 

@@ -1,20 +1,18 @@
 -- What check does: the answer of the definition `check`, and what the answer means. Assumes nothing.
 use mathlib.Core.Path.{_≡_}
-use mathlib.Core.Bool.{false}
 use mathlib.Core.List.{List, [], _∷_}
-use Prim.Native.Nat.{ℕ, _+_, _*_, _/_, _<_, _≤_}
-use lib.Dec.{leb, ltb}
-use lib.ListN.{length, take}
+use Prim.Native.Nat.{ℕ, _<_, _≤_}
+use lib.ListN.{length}
 use Rattle.scope.specs.declared.Node.{Node}
 use Rattle.scope.specs.declared.Refusal.{Refusal}
-use Rattle.scope.specs.Outcome.{Outcome, answer, refused, fine, require, _>>_}
-use Rattle.scope.specs.Block.{recordsIn}
-use Rattle.scope.specs.Table.{tables, tableTest, decode}
-use Rattle.scope.specs.Truth.{truth}
+use Rattle.scope.specs.Outcome.{Outcome, answer, refused, fine, _>>=_}
+use Rattle.calculus.specs.Expansion.{expand}
 use Rattle.calculus.specs.Order.{impossible, answerOf}
-use Rattle.calculus.specs.Decide.{searchOf}
-use Rattle.rules.specs.Steps.{derivations, formTest, encodeSteps}
-use Rattle.rules.specs.Derive.{derivationOf, Derived, check}
+use Rattle.calculus.specs.Decide.{searchOf, asked, Unsatisfiable}
+use Rattle.rules.specs.Steps.{decodeSteps, encodeSteps}
+use Rattle.rules.specs.Rules.{accepts}
+use Rattle.rules.specs.Derive.{derivationOf, check}
+use Rattle.published.specs.Bytes.{PublishedBytes}
 use Rattle.checking.specs.declared.Checked.{Checked}
 use Rattle.checking.specs.declared.Checked.the-variants.{Accepted, Refused}
 
@@ -23,27 +21,10 @@ abbrev pub checkedOf : Checked → Outcome (Unit {0})
 checkedOf Accepted = fine
 checkedOf (Refused f) = refused (f .number) (f .place)
 
--- of what derive answers: 'the derivation is the blocks that hold these steps'
-abbrev pub written : Derived → List ℕ
-written x = take (512 * ((x .steps + 125) / 126)) (x .bytes)
-
--- rows 20 and 23
-unfoldable pub rowsTest : ℕ → ℕ → ℕ → Outcome (Unit {0})
-rowsTest nodes goal area =
-    require (ltb goal (2 * nodes)) 20 0
-    >> require (leb 32768 area) 23 0
-
--- none of 10 to 23 refuses
-pub record Prepared (t : List ℕ) (nodes goal : ℕ) (w : List ℕ) : Type 0 where
-  pub readable : tableTest t ≡ fine
-  pub all : nodes ≡ recordsIn tables t
-  pub inside : goal < 2 * nodes
-  pub area : 32768 ≤ length w
-
--- none of 40 to 44 refuses
-pub record Formed (d : List ℕ) (count : ℕ) : Type 0 where
-  pub formed : formTest d ≡ fine
-  pub all : count ≡ recordsIn derivations d
+-- the derivation d was read and its steps tried, over the nodes t
+pub record Replayed (t : ℕ → Node) (n : ℕ) (goals w d w′ : List ℕ) (r : Checked) : Type 0 where
+  pub answered : checkedOf r ≡ (decodeSteps d >>= accepts (expand t) goals n)
+  pub work : (f : Refusal) → r ≡ Refused f → f .number < 45 → w′ ≡ w
 
 -- Check, of the table t, a goal, the work area w, which it leaves as w′, and the derivation d
 pub record Checks (t : List ℕ) (goal : ℕ) (w d w′ : List ℕ) (r : Checked) : Type 0 where
@@ -52,9 +33,9 @@ pub record Checks (t : List ℕ) (goal : ℕ) (w d w′ : List ℕ) (r : Checked
   -- 'The work area's contents after row 23 passes are free; before that unchanged': here a refusal by rows 40 to 44 changes none either
   pub work : (f : Refusal) → r ≡ Refused f → f .number < 45 → w′ ≡ w
   -- derivations of any author (demand 3): where one is accepted, no setting makes the goal true, whatever its bytes
-  pub never : r ≡ Accepted → (rs : List Node) → decode t ≡ answer rs → (v : List ℕ) → truth v rs goal ≡ false
+  pub never : r ≡ Accepted → Unsatisfiable t goal
   -- our own (demand 3): the one derivation in the solver's order of a goal called impossible is accepted, where 65,536 blocks hold it
-  pub ours : (rs : List Node) → decode t ≡ answer rs → goal < 2 * length rs → 32768 ≤ length w
-      → answerOf (searchOf rs (goal ∷ [])) ≡ impossible
-      → length (encodeSteps (derivationOf rs (goal ∷ []))) ≤ 33554432
-      → d ≡ encodeSteps (derivationOf rs (goal ∷ [])) → r ≡ Accepted
+  pub ours : (rs : List Node) → asked t (goal ∷ []) 0 0 (length w) ≡ answer rs → answerOf (searchOf rs (goal ∷ [])) ≡ impossible
+      → length (encodeSteps (derivationOf rs (goal ∷ []))) ≤ 33554432 → d ≡ encodeSteps (derivationOf rs (goal ∷ [])) → r ≡ Accepted
+  -- what is accepted is a derivation by the published rules
+  pub published : r ≡ Accepted → PublishedBytes t goal d

@@ -1,56 +1,24 @@
--- Where decide ends: at the first row's refusal, or with what the search came to; and what the answer means. Assumes nothing.
+-- Where decide ends: at the first row's refusal, or with what the search came to. Assumes nothing.
 use mathlib.Core.Path.{_≡_, refl, sym, ap, _∙_}
-use mathlib.Core.Bool.{true}
 use mathlib.Core.List.{List, [], _∷_}
-use Prim.Native.Nat.{ℕ, _≤_, min}
+use Prim.Native.Nat.{ℕ, min}
 use native.Mathlib.Omega.{arith}
-use lib.ListN.{length, drop}
-use Rattle.scope.specs.declared.Node.{Node}
+use lib.ListN.{length}
 use Rattle.scope.specs.declared.Refusal.{Refusal}
-use Rattle.scope.specs.Outcome.{Outcome, answer, refused, _>>=_}
+use Rattle.scope.specs.Outcome.{answer, refused, _>>=_}
 use Rattle.scope.specs.Calls.{evaluate}
 use Rattle.scope.proofs.Tests.{refused-no, bound}
 use Rattle.codec.specs.Valid.{Bytes}
 use Rattle.calculus.specs.Order.{Answer, possible, impossible, unfinished, answerOf}
-use Rattle.calculus.specs.Decide.{searchOf, settingsOn, Decided as Given, asked, decided, decide, settingsAfter, Unsatisfiable, _⇔_}
-use Rattle.calculus.proofs.Asked.{asked-read}
+use Rattle.calculus.specs.Decide.{Decided as Given, asked, decided, decide, settingsAfter, _⇔_}
 use Rattle.index.specs.Index.{indexNode}
 use Rattle.asking.specs.Asks.{Prepared}
-use Rattle.asking.proofs.Models.{setting-satisfies, search-exact}
 use Rattle.asking.proofs.Nodes.{search-in, listed}
 use Rattle.asking.proofs.Answers.{literal-small, asked-same}
-use Rattle.deciding.specs.Decides.{Word, can, cannot, nothing, wordOf, decidedOf, Room, Solved, Decides}
+use Rattle.meaning.proofs.Decisions.{decide-exact, decide-evaluates}
+use Rattle.deciding.specs.Decides.{Word, can, cannot, wordOf, decidedOf, Room, Solved, Decides}
 use Rattle.deciding.specs.declared.Decided.{Decided}
-use Rattle.deciding.specs.declared.Decided.the-variants.{Possible, Impossible, Refused}
-
--- ---- what the definition's answer means
-
-module _ (t : List ℕ) (goal : ℕ) (s w : List ℕ) (all : Bytes t) where
-  -- the nodes of a table that was asked
-  pub answered-by : {d : Given} → decide t goal s w ≡ answer d
-      → (rs : List Node) × (asked t (goal ∷ []) 1024 (length s) (length w) ≡ answer rs) × (answer (decided rs (goal ∷ []) s) ≡ answer d)
-  unfolding decide
-  answered-by e = bound (asked t (goal ∷ []) 1024 (length s) (length w)) _ e
-
-  -- impossible exactly when no setting makes the goal true
-  pub decide-exact : {d : Given} → decide t goal s w ≡ answer d → (d .verdict ≡ impossible) ⇔ Unsatisfiable t goal
-  decide-exact {d} e =
-      let b = answered-by e in
-      let a = asked-read t (goal ∷ []) 1024 (length s) (length w) (b .1) in
-      let z : answer (decided (b .0) (goal ∷ []) s) ≡ answer d = b .2 in
-      let q : d ≡ decided (b .0) (goal ∷ []) s = cc in
-      rw (ap (λ (y : Given). y .verdict) q) (search-exact t (b .0) all (a .0) goal (a .1 .below .0))
-
-  -- evaluate of the settings that decide gives answers yes
-  pub decide-evaluates : {d : Given} {G : List ℕ} → decide t goal s w ≡ answer d → d .verdict ≡ possible G → evaluate t goal (d .settings) ≡ answer true
-  decide-evaluates {d} {G} e v =
-      let b = answered-by e in
-      let a = asked-read t (goal ∷ []) 1024 (length s) (length w) (b .1) in
-      let z : answer (decided (b .0) (goal ∷ []) s) ≡ answer d = b .2 in
-      let q : decided (b .0) (goal ∷ []) s ≡ d = cc in
-      let p : answerOf (searchOf (b .0) (goal ∷ [])) ≡ possible G = ap (λ (y : Given). y .verdict) q ∙ v in
-      ap (evaluate t goal) (ap (λ (y : Given). y .settings) (sym q) ∙ ap (settingsOn (b .0) s) p)
-      ∙ setting-satisfies t (b .0) all (a .0) goal (a .1 .below .0) p (drop 1024 s)
+use Rattle.deciding.specs.declared.Decided.the-variants.{Refused}
 
 -- ---- the contract, where its first three fields hold
 

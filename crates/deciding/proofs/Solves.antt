@@ -9,13 +9,13 @@ use Rattle.scope.specs.Table.{listFrom}
 use Rattle.calculus.specs.Expansion.{expand}
 use Rattle.calculus.specs.Order.{tree, answerOf, settingOf}
 use Rattle.state.specs.Work.{gOf}
-use Rattle.searching.specs.Search.{result, foundOf, Ended}
+use Rattle.searching.specs.Search.{result, foundOf, Searched}
 use Rattle.searching.specs.declared.Found.{Found}
 use Rattle.searching.specs.declared.Found.the-variants.{Model, Closed}
 use Rattle.deciding.specs.Decides.{Solved}
 use Rattle.deciding.specs.declared.Decided.the-variants.{Possible, Impossible}
 
-module _ {t : ℕ → Node} {n : ℕ} {goals w₁ w₂ m₂ : List ℕ} {r : Found} (z : gOf w₁ ≡ []) (f : Ended t n goals w₁ w₂ m₂ r) (s : List ℕ) where
+module _ {t : ℕ → Node} {n : ℕ} {goals w₁ w₂ m₂ : List ℕ} {r : Found} (z : gOf w₁ ≡ []) (f : Searched t n goals w₁ w₂ m₂ r) (s : List ℕ) where
   -- from no literals, with as much fuel as there are nodes
   whole : {y : Found} → r ≡ y → answerOf (tree (expand t) goals n []) ≡ foundOf y (gOf w₂)
   whole q =

@@ -1,4 +1,4 @@
 -- Laws for the proofs of derive's functions. Assumes nothing.
 pub mod Same
-pub mod Means
+pub mod Produces
 pub mod Answers

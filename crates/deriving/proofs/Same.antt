@@ -11,7 +11,7 @@ use Rattle.calculus.proofs.Search.{Grown, closes, joins, ends, parts, grown-who
 use Rattle.rules.specs.declared.Step.{Step}
 use Rattle.rules.specs.Steps.{U, C, S}
 use Rattle.rules.specs.Derivation.{removals, removed, stepsOf}
-use Rattle.deciding.proofs.Bridge.{clauses-same, search-same}
+use Rattle.asking.proofs.Same.{clauses-same, search-same}
 
 module _ (n : ℕ) (t u : ℕ → Node) (same : (i : ℕ) → i < n → t i ≡ u i) (goals : List ℕ) where
   removed-same : (G : List ℕ) → Good n G → (k : ℕ) → removed (expand t) goals G k ≡ removed (expand u) goals G k

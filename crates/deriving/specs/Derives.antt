@@ -1,17 +1,20 @@
 -- What derive does: the answer of the definition `derive`, its bytes, and what the answer means. Assumes nothing.
 use mathlib.Core.Path.{_≡_}
-use mathlib.Core.Bool.{true, false}
-use mathlib.Core.List.{List}
-use Prim.Native.Nat.{ℕ, _+_, _*_, _/_, _<_, _≤_}
-use lib.Dec.{leb, ltb}
-use lib.ListN.{length, take}
+use mathlib.Core.List.{List, [], _∷_, _++_}
+use Prim.Native.Nat.{ℕ, _<_, _≤_}
+use lib.Dec.{leb}
+use lib.ListN.{length, drop}
 use Rattle.scope.specs.declared.Node.{Node}
 use Rattle.scope.specs.declared.Refusal.{Refusal}
 use Rattle.scope.specs.Outcome.{Outcome, answer, refused, fine, require, _>>_, _>>=_}
-use Rattle.scope.specs.Block.{recordsIn}
-use Rattle.scope.specs.Table.{tables, tableTest, decode}
-use Rattle.scope.specs.Truth.{truth}
-use Rattle.rules.specs.Derive.{derive, derivedAfter, check}
+use Rattle.calculus.specs.Expansion.{expand}
+use Rattle.calculus.specs.Order.{Tree, tree, answerOf}
+use Rattle.calculus.specs.Decide.{asked, Satisfies, Unsatisfiable}
+use Rattle.rules.specs.declared.Step.{Step}
+use Rattle.rules.specs.Steps.{encodeSteps}
+use Rattle.rules.specs.Derivation.{stepsOf}
+use Rattle.rules.specs.Derive.{isImpossible, Derived as Given, blocks, derive, derivedAfter, check}
+use Rattle.published.specs.Bytes.{PublishedBytes}
 use Rattle.deriving.specs.declared.Derived.{Derived}
 use Rattle.deriving.specs.declared.Derived.the-variants.{Steps, Refused}
 
@@ -20,16 +23,28 @@ abbrev pub derivedOf : Derived → Outcome ℕ
 derivedOf (Steps k) = answer k
 derivedOf (Refused r) = refused (r .number) (r .place)
 
--- rows 20 and 23
-unfoldable pub rowsTest : ℕ → ℕ → ℕ → Outcome (Unit {0})
-rowsTest nodes goal area = require (ltb goal (2 * nodes)) 20 0 >> require (leb 32768 area) 23 0
+-- rows 30 and 31 and the derivation, of a search and its steps, as in the definition `derived`
+abbrev pub given : List Step → List ℕ → Given
+given ss d = record { steps = length ss; bytes = encodeSteps ss ++ drop (length (encodeSteps ss)) d }
 
--- no row before the search refuses
-pub record Prepared (t : List ℕ) (nodes goal : ℕ) (w : List ℕ) : Type 0 where
-  pub readable : tableTest t ≡ fine
-  pub all : nodes ≡ recordsIn tables t
-  pub inside : goal < 2 * nodes
-  pub area : 32768 ≤ length w
+abbrev pub row31 : List Step → List ℕ → Outcome Given
+row31 ss d =
+    require (leb (length (encodeSteps ss)) (length d)) 31 0
+    >> (require (leb (length (encodeSteps ss)) 33554432) 31 0
+    >> answer (given ss d))
+
+abbrev pub producedBy : Tree → List Step → List ℕ → Outcome Given
+producedBy search ss d = require (isImpossible (answerOf search)) 30 0 >> row31 ss d
+
+-- the same of the nodes t
+abbrev pub produced : (ℕ → Node) → ℕ → List ℕ → List ℕ → Outcome Given
+produced t n goals d = producedBy (tree (expand t) goals n []) (stepsOf (expand t) goals [] (tree (expand t) goals n [])) d
+
+-- the search over the nodes t was counted and its derivation written; no refusal before the search's
+pub record Produced (t : ℕ → Node) (n : ℕ) (goals d d′ : List ℕ) (r : Derived) : Type 0 where
+  pub answered : derivedOf r ≡ (produced t n goals d >>= λ x. answer (x .steps))
+  pub bytes : d′ ≡ derivedAfter d (produced t n goals d)
+  pub later : (f : Refusal) → r ≡ Refused f → 23 < f .number
 
 -- Derive, of the table t, a goal, and the work area w and the derivation bytes d, which it leaves as w′ and d′
 pub record Derives (t : List ℕ) (goal : ℕ) (w d w′ d′ : List ℕ) (r : Derived) : Type 0 where
@@ -40,8 +55,11 @@ pub record Derives (t : List ℕ) (goal : ℕ) (w d w′ d′ : List ℕ) (r : D
   -- a refusal up to row 23 leaves the work area as it was
   pub work : (f : Refusal) → r ≡ Refused f → f .number ≤ 23 → w′ ≡ w
   -- a derivation: no setting makes the goal true
-  pub sound : (k : ℕ) → r ≡ Steps k → (rs : List Node) → decode t ≡ answer rs → (v : List ℕ) → truth v rs goal ≡ false
+  pub never : (k : ℕ) → r ≡ Steps k → Unsatisfiable t goal
   -- .. and check accepts it
-  pub accepted : (k : ℕ) → r ≡ Steps k → check t goal w (take (512 * ((k + 125) / 126)) d′) ≡ fine
-  -- 30: a setting makes the goal true
-  pub complete : (place : ℕ) → derivedOf r ≡ refused 30 place → (rs : List Node) → decode t ≡ answer rs → (v : List ℕ) × (truth v rs goal ≡ true)
+  pub accepted : (k : ℕ) → r ≡ Steps k → check t goal w (blocks k d′) ≡ fine
+  -- .. and it is one by the published rules
+  pub published : (k : ℕ) → r ≡ Steps k → PublishedBytes t goal (blocks k d′)
+  -- 30, after rows 10 to 23: a setting makes the goal true
+  pub complete : (place : ℕ) → derivedOf r ≡ refused 30 place → (rs : List Node) → asked t (goal ∷ []) 0 0 (length w) ≡ answer rs
+      → (v : List ℕ) × Satisfies t goal v

@@ -2,12 +2,14 @@
 // that nothing is written before it is known that the goal is impossible and that the blocks fit; the second writes them.
 use counting::Tally;
 use scope::Refusal;
-use scope::Verdict;
 use table::Counted;
 ghost use mathlib.Core.Path.{_≡_};
 ghost use Prim.Native.Nat.{_*_, _/_, _≤_, min};
-ghost use Rattle.scope.specs.Outcome.{verdictOf};
-ghost use Rattle.deriving.specs.Derives.{rowsTest, Prepared, Derives};
+ghost use lib.ListN.{length};
+ghost use Rattle.calculus.specs.Model.{Goals};
+ghost use Rattle.index.specs.Index.{indexNode};
+ghost use Rattle.index.specs.Indexed.{Indexed};
+ghost use Rattle.deriving.specs.Derives.{Produced, Derives};
 
 // What derive answers.
 pub enum Derived {
@@ -27,38 +29,17 @@ fn room(lent: usize) -> usize
     }
 }
 
-// Rows 20 and 23.
-fn rows(nodes: usize, goal: usize, area: usize) -> Verdict
-    requires { ⌜ nodes ≤ 2016 ⌝ }
-    ensures { λ r. ⌜ verdictOf r ≡ rowsTest nodes goal area ⌝ }
+// The derivation of goals over an index: counted first, then, from the start again, written.
+fn produce(x: &[u16], n: usize, goals: &[u16], work: &mut [u16], d: &mut [u8]) -> Derived
+    requires { ⌜ Indexed (now x) n ⌝ }
+    requires { ⌜ Goals n (now goals) ⌝ }
+    requires { ⌜ 32768 ≤ length (now work) ⌝ }
+    ensures { λ r. ⌜ Produced (indexNode (now (x .entry))) n (now (goals .entry)) (now (d .entry)) (now (d .exit)) r ⌝ }
 {
-    if 2 * nodes <= goal {
-        return Verdict::Refused(Refusal {
-            number: 20,
-            place: 0,
-        });
-    }
-    if area < 32768 {
-        return Verdict::Refused(Refusal {
-            number: 23,
-            place: 0,
-        });
-    }
-    Verdict::Fine
-}
-
-// The derivation of a goal, where no row before the search refuses: counted first, then, from the start again, written.
-fn run(t: &[u8], nodes: usize, goal: usize, work: &mut [u16], d: &mut [u8]) -> Derived
-    requires { ⌜ Prepared (now t) nodes goal (now work) ⌝ }
-    ensures { λ r. ⌜ Derives (now (t .entry)) goal (now (work .entry)) (now (d .entry)) (now (work .exit)) (now (d .exit)) r ⌝ }
-{
-    let mut x = [0u16; 16128];
-    index::build(t, nodes, &mut x);
-    let goals = [goal as u16; 1];
     let mut masks = [0u64; 392];
-    solver::start(&x, nodes, &goals, work, &mut masks);
+    solver::start(x, n, goals, work, &mut masks);
     let most = room(d.len());
-    let tally = counting::count(&x, nodes, &goals, work, &mut masks, most + 1, 0);
+    let tally = counting::count(x, n, goals, work, &mut masks, most + 1, 0);
     match tally {
         Tally::Open => Derived::Refused(Refusal {
             number: 30,
@@ -71,8 +52,8 @@ fn run(t: &[u8], nodes: usize, goal: usize, work: &mut [u16], d: &mut [u8]) -> D
                     place: 0,
                 });
             }
-            solver::start(&x, nodes, &goals, work, &mut masks);
-            emitting::write(&x, nodes, &goals, work, &mut masks, d);
+            solver::start(x, n, goals, work, &mut masks);
+            emitting::write(x, n, goals, work, &mut masks, d);
             Derived::Steps(steps)
         }
     }
@@ -82,15 +63,12 @@ fn run(t: &[u8], nodes: usize, goal: usize, work: &mut [u16], d: &mut [u8]) -> D
 pub fn derive(t: &[u8], goal: usize, work: &mut [u16], d: &mut [u8]) -> Derived
     ensures { λ r. ⌜ Derives (now (t .entry)) goal (now (work .entry)) (now (d .entry)) (now (work .exit)) (now (d .exit)) r ⌝ }
 {
-    let c = table::count(t);
-    match c {
+    let l = asking::literal(goal);
+    let goals = [l; 1];
+    let mut x = [0u16; 16128];
+    let a = asking::ask(t, &goals, 0, 0, work.len(), &mut x);
+    match a {
         Counted::Refused(r) => Derived::Refused(r),
-        Counted::Nodes(nodes) => {
-            let v = rows(nodes, goal, work.len());
-            match v {
-                Verdict::Refused(r) => Derived::Refused(r),
-                Verdict::Fine => run(t, nodes, goal, work, d),
-            }
-        }
+        Counted::Nodes(n) => produce(&x, n, &goals, work, d),
     }
 }

@@ -4,7 +4,6 @@ use mathlib.Core.List.{List, [], _∷_, _++_}
 use Prim.Native.Nat.{ℕ, _+_, _*_, _≤_}
 use native.Mathlib.Omega.{arith}
 use lib.ListN.{length}
-use borrow.Author.Tests.{lt-ltb, le-leb}
 use Rattle.scope.specs.declared.Node.{Node}
 use Rattle.scope.specs.Outcome.{Outcome, answer, refused, _>>=_}
 use Rattle.scope.specs.Table.{decode}
@@ -12,6 +11,7 @@ use Rattle.scope.specs.Calls.{tableCount}
 use Rattle.scope.proofs.Tests.{refused-no, bound}
 use Rattle.calculus.specs.Order.{Answer, possible, impossible, unfinished, answerOf}
 use Rattle.calculus.specs.Decide.{searchOf, decide}
+use Rattle.calculus.proofs.Asked.{asked-fine}
 use Rattle.deciding.specs.declared.Decided.{Decided}
 use Rattle.deciding.specs.declared.Decided.the-variants.{Possible, Impossible, Refused}
 use Rattle.deciding.specs.Decides.{decidedOf, wordOf}
@@ -34,7 +34,7 @@ pub judged : (t : List ℕ) (goal : ℕ) (s w : List ℕ) (r : Decided) → 1024
 unfolding decide
 judged t goal s w r points area e rs reads inside =
     same-word r (answerOf (searchOf rs (goal ∷ [])))
-    (e ∙ rw (reads, lt-ltb goal (2 * length rs) inside, le-leb 1024 (length s) points, le-leb 32768 (length w) area))
+    (e ∙ rw (asked-fine t (goal ∷ []) 1024 (length s) (length w) reads (record { below = (inside, tt); settings = points; work = area })))
 
 -- a node's line, of the words of its two literals
 pub line-of : (rs : List Node) (n : ℕ) {yes no : List ℕ} → yes ≡ answerWord rs (2 * n) → no ≡ answerWord rs (2 * n + 1)

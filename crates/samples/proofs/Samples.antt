@@ -18,12 +18,13 @@ use Rattle.calculus.specs.Expansion.{chosen, templates, expand}
 use Rattle.calculus.specs.Order.{Answer, mem, valueOf, stateOf, some, firstOf, moveOf, clauses, move, tree, possible as found, impossible, unfinished, answerOf, atomHeld, bit, settingOf}
 use Rattle.calculus.specs.Model.{All}
 use Rattle.calculus.proofs.Lists.{every, every-all, all-at, all-imply}
-use Rattle.calculus.specs.Decide.{nodesOf, searchOf, settingsOn, decide}
+use Rattle.calculus.specs.Decide.{nodesOf, searchOf, settingsOn, asked, decide}
+use Rattle.calculus.proofs.Asked.{asked-fine}
 use Rattle.rules.specs.declared.Step.{Step}
 use Rattle.rules.specs.Steps.{U, stepOk, encodeSteps, decodeSteps}
 use Rattle.rules.specs.Rules.{among, unstruck, anyHolds, ruleU, ruleR, ruleE, ruleC, ruleS, apply, advance, ended, run, accepts}
 use Rattle.rules.specs.Derivation.{removals, stepsOf}
-use Rattle.rules.specs.Derive.{derivationOf, derive, check}
+use Rattle.rules.specs.Derive.{derivationOf, derived as given, derive, checked as taken, check}
 use Rattle.steps.proofs.Encode.{length-encode-steps, encode-steps-read}
 use Rattle.text.specs.Text.{ascii, digitsOf}
 use Rattle.text.specs.Listing.{heading, nodeLine, nodeLines}
@@ -73,10 +74,16 @@ module _ (goal : ℕ) (inside : ltb goal 20 ≡ true) where
   unfolding nodesA
   goal-ok = inside
 
+  -- no row refuses
+  asks : (needed points area : ℕ) → needed ≤ points → 32768 ≤ area → asked tableA (goal ∷ []) needed points area ≡ answer nodesA
+  asks needed points area long work =
+      asked-fine tableA (goal ∷ []) needed points area reads
+      (record { below = (ltb-true goal (2 * length nodesA) goal-ok, tt); settings = long; work = work })
+
   decides : (s w : List ℕ) → 1024 ≤ length s → 32768 ≤ length w
       → decide tableA goal s w ≡ answer (record { verdict = searchA goal; settings = settingsOn nodesA s (searchA goal) })
   unfolding decide
-  decides s w long area = rw (reads, goal-ok, le-leb 1024 (length s) long, le-leb 32768 (length w) area)
+  decides s w long area = rw (asks 1024 (length s) (length w) long area)
 
   finds : (p q : ℕ) (a : Answer) → searchA goal ≡ a → points a ≡ p ∷ q ∷ [] → Holds (possible goal p q)
   unfolding settingOf listFrom
@@ -95,18 +102,18 @@ module _ (goal : ℕ) (inside : ltb goal 20 ≡ true) where
     block = omega (arith, length-encode-steps ss, sized)
 
     checks : (w : List ℕ) → 32768 ≤ length w → check tableA goal w (encodeSteps ss) ≡ rulesA goal ss
-    unfolding check nodesA
+    unfolding check taken nodesA
     checks w area =
         let each : All (λ s. stepOk s ≡ true) ss = every-all stepOk ss (sized .2) in
         let back : decodeSteps (encodeSteps ss) ≡ answer ss =
         encode-steps-read ss (U 0) (sized .0) (omega (arith, sized)) (λ k h. all-at (λ s. stepOk s ≡ true) ss k (U 0) each h) in
-        rw (reads, goal-ok, le-leb 32768 (length w) area, back)
+        rw (asks 0 0 (length w) (omega arith) area, back)
 
     derives : searchA goal ≡ impossible → derivationOf nodesA (goal ∷ []) ≡ ss → rulesA goal ss ≡ fine → Holds (derived goal ss)
-    unfolding derive
+    unfolding derive given
     derives closed is ends = record {
       verdict = λ s w long area. decides s w long area ∙ ap (λ (a : Answer). answer (record { verdict = a; settings = settingsOn nodesA s a })) closed;
-      derivation = λ w d area room. rw (reads, goal-ok, le-leb 32768 (length w) area, closed, is, block, le-leb 512 (length d) room);
+      derivation = λ w d area room. rw (asks 0 0 (length w) (omega arith) area, closed, is, block, le-leb 512 (length d) room);
       accepted = λ w area. checks w area ∙ ends;
     }
 

@@ -1,71 +1,71 @@
 -- `checking::check` meets its contract: a refusal is the first row's that refuses, and else the derivation decides. Assumes nothing.
-use mathlib.Core.Path.{_≡_, ap, sym, _∙_}
 use borrow.Author.Needs.{needs}
-use Rattle.scope.specs.Outcome.{answer, verdictOf}
-use Rattle.scope.specs.Calls.{tableCount}
-use Rattle.table.specs.Counted.{countedOf}
-use Rattle.deciding.proofs.Nodes.{few-counted}
-use Rattle.checking.proofs.Answers.{refuses, table-refused, rows-refused, prepared}
+use Rattle.codec.specs.Valid.{Bytes}
+use Rattle.asking.proofs.Answers.{ask-refused}
+use Rattle.checking.proofs.Answers.{index, refuses, ends}
 use Rattle.checking.proofs.check.Statement.{statement}
 use Rattle.checking.proofs.check.Tie as tie
 
-count-requires : tie.Need-count-requires
-count-requires c κs = search needs
+-- the table is bytes
+bytes : (c : tie.After-shared-slice-known) → Bytes (c .before .args .t .now)
+bytes c i = c .shared-slice-known .given i .fits
 
-enum-known-c : tie.Need-enum-known-c
-enum-known-c c = search needs
+literal-requires : tie.Need-literal-requires
+literal-requires c κs = search needs
 
-enum-known-c-2 : tie.Need-enum-known-c-2
-enum-known-c-2 c = search needs
+slice-aggregate-ask : tie.Need-slice-aggregate-ask
+slice-aggregate-ask c = search needs
 
--- the table reads, and has as many nodes as were counted
-answered : (c : tie.After-known-told2) → tableCount (c .before .before .before .before .before .before .before .args .t .now) ≡ answer (c .before .c2 .given .0 .0)
-answered c = sym (c .before .before .before .count .ensures) ∙ ap countedOf (c .before .c2 .given .1)
+slice-aggregate-ask-2 : tie.Need-slice-aggregate-ask-2
+slice-aggregate-ask-2 c = search needs
 
-rows-requires : tie.Need-rows-requires
-rows-requires c κs = few-counted _ (λ i. c .before .before .before .before .before .before .shared-slice-known .given i .fits) (answered c)
+ask-requires : tie.Need-ask-requires
+ask-requires c κs = search needs
 
-enum-known-v : tie.Need-enum-known-v
-enum-known-v c = search needs
+enum-known-a : tie.Need-enum-known-a
+enum-known-a c = search needs
 
-enum-told : tie.Need-enum-told
-enum-told c = search needs
+enum-known-a-2 : tie.Need-enum-known-a-2
+enum-known-a-2 c = search needs
 
-opened-requires : tie.Need-opened-requires
-opened-requires c κs =
-    let s = c .before .before .before .before .before .before .before .before .before .before .before in
-    prepared (s .args .t .now) (s .args .goal) (s .args .work .now) (s .args .d .now) (answered (c .before .before .before .before)) (sym (c .before .before .before .rows .ensures) ∙ ap verdictOf (c .before .enum-told .given .1))
+slice-aggregate-replayed : tie.Need-slice-aggregate-replayed
+slice-aggregate-replayed c = search needs
+
+slice-aggregate-replayed-2 : tie.Need-slice-aggregate-replayed-2
+slice-aggregate-replayed-2 c = search needs
+
+replayed-requires : tie.Need-replayed-requires
+replayed-requires c κs =
+    let p = c .before .before .before .before .before .before .before .ask .ensures .prepared _ (c .before .before .before .before .a2 .given .1) in
+    (index p, (p .literals, p .admitted .work))
 
 returns : tie.Need-returns
 returns c =
-    let s = c .before .before .before .before .before .before .before in
-    refuses (s .args .t .now) (s .args .goal) (s .args .work .now) (s .args .d .now) (λ i. c .before .before .before .before .before .before .shared-slice-known .given i .fits) _
-    (table-refused (s .args .t .now) (s .args .goal) (s .args .work .now) (s .args .d .now) (sym (c .before .before .before .count .ensures) ∙ ap countedOf (c .before .c .given .1)))
-
-returns-2 : tie.Need-returns-2
-returns-2 c =
-    let s = c .before .before .before .before .before .before .before .before .before .before .before in
-    refuses (s .args .t .now) (s .args .goal) (s .args .work .now) (s .args .d .now) (λ i. c .before .before .before .before .before .before .before .before .before .before .shared-slice-known .given i .fits) _
-    (rows-refused (s .args .t .now) (s .args .goal) (s .args .work .now) (s .args .d .now) (answered (c .before .before .before .before)) (sym (c .before .before .before .rows .ensures) ∙ ap verdictOf (c .before .v .given .1)))
+    let k = c .before .before .before .before in
+    refuses _ _ _ _ (bytes (k .before .before .before .before .before .before)) (k .before .before .before .literal .ensures) _ (ask-refused _ _ _ _ _ _ (k .ask .ensures) (c .before .a .given .1))
 
 same-length : tie.Need-same-length
 same-length c = search needs
 
-returns-3 : tie.Need-returns-3
-returns-3 c = c .before .before .opened .ensures
+returns-2 : tie.Need-returns-2
+returns-2 c =
+    let k = c .before .before .before .before .before .before .before .before .before .before in
+    ends _ _ _ _ (bytes (k .before .before .before .before .before .before)) (k .before .before .before .literal .ensures) (k .ask .ensures .prepared _ (c .before .before .before .before .before .before .before .a2 .given .1)) _
+    (c .before .before .replayed .ensures)
 
 pub check-spec : {M : Type 1} → statement M
 check-spec =
     tie.close
     (tie.spec
-    count-requires
-    enum-known-c
-    enum-known-c-2
-    rows-requires
-    enum-known-v
-    enum-told
-    opened-requires
+    literal-requires
+    slice-aggregate-ask
+    slice-aggregate-ask-2
+    ask-requires
+    enum-known-a
+    enum-known-a-2
+    slice-aggregate-replayed
+    slice-aggregate-replayed-2
+    replayed-requires
     returns
-    returns-2
     same-length
-    returns-3)
+    returns-2)

@@ -1,0 +1,124 @@
+-- What counting and writing came to, as derive's answer: 30 or 31 after the search, or the derivation. Assumes nothing.
+use mathlib.Core.Path.{_≡_, refl, sym, ap, _∙_}
+use mathlib.Core.List.{List, []}
+use Prim.Native.Nat.{ℕ, _+_, _-_, _*_, _/_, _<_, _≤_, min}
+use native.Mathlib.Omega.{arith}
+use native.Mathlib.Decide.{decLt}
+use lib.ListN.{length}
+use borrow.Author.Tests.{le-leb, lt-leb}
+use Rattle.scope.specs.declared.Node.{Node}
+use Rattle.scope.specs.declared.Refusal.{Refusal}
+use Rattle.scope.specs.Outcome.{answer, refused}
+use Rattle.calculus.specs.Expansion.{expand}
+use Rattle.calculus.specs.Order.{Tree, tree, possible, impossible, answerOf}
+use Rattle.rules.specs.declared.Step.{Step}
+use Rattle.rules.specs.Steps.{encodeSteps}
+use Rattle.rules.specs.Derivation.{stepsOf}
+use Rattle.steps.proofs.Encode.{length-encode-steps}
+use Rattle.state.specs.Work.{gOf}
+use Rattle.searching.specs.Search.{result, foundOf}
+use Rattle.counting.specs.Count.{atMost, stepsFrom, foundBy, Tallied}
+use Rattle.counting.specs.declared.Tally.{Tally}
+use Rattle.counting.specs.declared.Tally.the-variants.{Open, Closed as Shut}
+use Rattle.counting.proofs.Counts.{most-under, most-over}
+use Rattle.emitting.specs.Trace.{Fits, written}
+use Rattle.deriving.specs.Derives.{given, row31, produced, Produced}
+use Rattle.deriving.specs.declared.Derived.{Derived}
+use Rattle.deriving.specs.declared.Derived.the-variants.{Steps, Refused}
+
+-- ---- how many steps fit
+
+-- a count up to one more than fit
+count-fits : (most m c : ℕ) → c ≡ atMost (most + 1) (0 + m) → c ≤ most → c ≡ m
+count-fits most m c e h = go (decLt (0 + m) (most + 1))
+  where
+    go : Dec (0 + m < most + 1) → c ≡ m
+    go (yes l) = omega (arith, most-under (most + 1) (0 + m) l, e)
+    go (no l) = absurd (omega (arith, most-over (most + 1) (0 + m) (omega (arith, l)), e))
+
+count-over : (most m c : ℕ) → c ≡ atMost (most + 1) (0 + m) → most < c → most < m
+count-over most m c e h = go (decLt (0 + m) (most + 1))
+  where
+    go : Dec (0 + m < most + 1) → most < m
+    go (yes l) = omega (arith, most-under (most + 1) (0 + m) l, e)
+    go (no l) = omega (arith, l)
+
+-- the rows of 31
+module _ (ss : List Step) (d : List ℕ) where
+  row-fits : length ss ≤ 126 * min (length d / 512) 65536 → row31 ss d ≡ answer (given ss d)
+  row-fits h =
+      let l = length-encode-steps ss in
+      rw (le-leb (length (encodeSteps ss)) (length d) (omega arith), le-leb (length (encodeSteps ss)) 33554432 (omega arith))
+
+  row-over : 126 * min (length d / 512) 65536 < length ss → row31 ss d ≡ refused 31 0
+  row-over h = go (decLt (length d) (length (encodeSteps ss)))
+    where
+      go : Dec (length d < length (encodeSteps ss)) → row31 ss d ≡ refused 31 0
+      go (yes l) = rw (lt-leb (length (encodeSteps ss)) (length d) l)
+      go (no l) =
+          let n = length-encode-steps ss in
+          rw (le-leb (length (encodeSteps ss)) (length d) (omega (arith, l)), lt-leb (length (encodeSteps ss)) 33554432 (omega (arith, l)))
+
+-- ---- the search
+
+module _ (t : ℕ → Node) (n : ℕ) (goals d : List ℕ) where
+  abbrev whole : Tree
+  whole = tree (expand t) goals n []
+
+  abbrev steps : List Step
+  steps = stepsOf (expand t) goals [] whole
+
+  -- from no literals, with as much fuel as there are nodes
+  from-none : (G : List ℕ) → G ≡ [] → tree (expand t) goals (n - length G) G ≡ whole
+  from-none G z =
+      let n0 : n - 0 ≡ n = omega arith in
+      ap (λ (F : List ℕ). tree (expand t) goals (n - length F) F) z ∙ ap (λ (k : ℕ). tree (expand t) goals k []) n0
+
+  steps-none : (G : List ℕ) → G ≡ [] → stepsFrom t n goals G ≡ steps
+  steps-none G z = ap (λ (F : List ℕ). stepsOf (expand t) goals F (tree (expand t) goals (n - length G) G)) z ∙ ap (stepsOf (expand t) goals []) (from-none G z)
+
+  refusal : {number : ℕ} → 23 < number → produced t n goals d ≡ refused number 0 → Produced t n goals d d (Refused (record { number = number; place = 0 }))
+  refusal {number} h e = record { answered = rw e; bytes = rw e; later = λ f q. let z : number ≡ f .number = cc in omega arith }
+
+  module _ {w₁ w₂ m₂ : List ℕ} {most : ℕ} {r : Tally} (z : gOf w₁ ≡ []) (m : most ≡ 126 * min (length d / 512) 65536)
+      (c : Tallied t n goals w₁ w₂ m₂ (most + 1) 0 r) where
+    -- what the count found is what the search ends on
+    found : foundOf (foundBy r) (gOf w₂) ≡ answerOf whole
+    found = c .searched .answered ∙ ap answerOf (from-none (gOf w₁) z)
+
+    pub produced-open : r ≡ Open → Produced t n goals d d (Refused (record { number = 30; place = 0 }))
+    produced-open e =
+        let v : possible (gOf w₂) ≡ answerOf whole = rw e at found in
+        refusal (omega arith) (rw (← v))
+
+    module _ {k : ℕ} (e : r ≡ Shut k) where
+      none : impossible ≡ answerOf whole
+      none = rw e at found
+
+      number : k ≡ atMost (most + 1) (0 + length steps)
+      number = c .counted k e ∙ ap (λ (ss : List Step). atMost (most + 1) (0 + length ss)) (steps-none (gOf w₁) z)
+
+      pub produced-over : most < k → Produced t n goals d d (Refused (record { number = 31; place = 0 }))
+      produced-over h = refusal (omega arith) (rw (← none) (row-over steps d (omega (arith, count-over most _ k number h))))
+
+      -- the steps fit, and the search starts again
+      module _ (h : k ≤ most) (w₃ : List ℕ) (y : gOf w₃ ≡ []) where
+        exact : k ≡ length steps
+        exact = count-fits most _ k number h
+
+        pub fits : Fits t n goals (gOf w₃) d
+        fits = record {
+          closes = ap answerOf (from-none (gOf w₃) y) ∙ sym none;
+          lent = omega (arith, ap length (steps-none (gOf w₃) y), exact, h, m);
+          most = omega (arith, ap length (steps-none (gOf w₃) y), exact, h, m);
+        }
+
+        answers : produced t n goals d ≡ answer (given steps d)
+        answers = rw (← none) (row-fits steps d (omega (arith, exact, h, m)))
+
+        pub produced-steps : {d′ : List ℕ} → d′ ≡ written (stepsFrom t n goals (gOf w₃)) d → Produced t n goals d d′ (Steps k)
+        produced-steps q = record {
+          answered = rw answers (ap answer exact);
+          bytes = rw answers (q ∙ ap (λ (ss : List Step). written ss d) (steps-none (gOf w₃) y));
+          later = λ f v. absurd (let z : _≡_ {A = ℕ} 0 1 = cc in omega arith);
+        }

@@ -1,0 +1,111 @@
+-- `deriving::produce` meets its contract: the laws of Produces say what counting and writing came to. Assumes nothing.
+use native.Mathlib.Omega.{arith}
+use borrow.Author.Needs.{needs}
+use Rattle.deriving.proofs.Produces.{produced-open, produced-over, fits, produced-steps}
+use Rattle.deriving.proofs.produce.Statement.{statement}
+use Rattle.deriving.proofs.produce.Tie as tie
+
+slice-aggregate-start : tie.Need-slice-aggregate-start
+slice-aggregate-start c = search needs
+
+start-requires : tie.Need-start-requires
+start-requires c κs = search needs
+
+room-requires : tie.Need-room-requires
+room-requires c κs = search needs
+
+slice-aggregate-count : tie.Need-slice-aggregate-count
+slice-aggregate-count c = search needs
+
+add-count : tie.Need-add-count
+add-count c = search needs
+
+count-requires : tie.Need-count-requires
+count-requires c κs =
+    let a = c .before .before .before .before .before .before in
+    let s = a .before .before .before .before .before .before .before in
+    (s .pre .0, (s .pre .1 .0, (a .start .ensures .0, omega arith)))
+
+enum-told : tie.Need-enum-told
+enum-told c = search needs
+
+enum-known-tally : tie.Need-enum-known-tally
+enum-known-tally c = search needs
+
+same-length : tie.Need-same-length
+same-length c = search needs
+
+returns : tie.Need-returns
+returns c =
+    let b = c .before .before .before .before .before .before .before in
+    produced-over _ _ _ _ (b .before .before .before .before .before .before .before .start .ensures .1) (b .before .before .before .room .ensures) (b .count .ensures) (c .before .before .tally .given .1) (omega arith)
+
+slice-aggregate-start-2 : tie.Need-slice-aggregate-start-2
+slice-aggregate-start-2 c = search needs
+
+start-requires-2 : tie.Need-start-requires-2
+start-requires-2 c κs = search needs
+
+slice-aggregate-write : tie.Need-slice-aggregate-write
+slice-aggregate-write c = search needs
+
+write-requires : tie.Need-write-requires
+write-requires c κs =
+    let a = c .before .before .before .before .before .before in
+    let b = a .before .before .before .before .before .before .before .before .before .before in
+    let s = b .before .before .before .before .before .before .before .before .before .before .before .before .before .before in (
+      s .pre .0,
+      (
+        s .pre .1 .0,
+        (
+          a .start2 .ensures .0,
+          fits _ _ _ _ (b .before .before .before .before .before .before .before .start .ensures .1) (b .before .before .before .room .ensures) (b .count .ensures) (a .before .before .before .before .before .tally .given .1)
+              (omega (arith, a .before .before .before .if1 .left)) (a .start2 .last .1 .1 .1 .0) (a .start2 .ensures .1),
+        ),
+      ),
+    )
+
+same-length-2 : tie.Need-same-length-2
+same-length-2 c = search needs
+
+returns-2 : tie.Need-returns-2
+returns-2 c =
+    let b = c .before .before .before .before .before in
+    produced-open _ _ _ _ (b .before .before .before .before .before .before .before .start .ensures .1) (b .before .before .before .room .ensures) (b .count .ensures) (c .enum-told .given .1)
+
+same-length-3 : tie.Need-same-length-3
+same-length-3 c = search needs
+
+same-length-4 : tie.Need-same-length-4
+same-length-4 c = search needs
+
+returns-3 : tie.Need-returns-3
+returns-3 c =
+    let a = c .before .before .before .before .before .before .before .before .before .before .before .before in
+    let b = a .before .before .before .before .before .before .before .before .before .before in
+    produced-steps _ _ _ _ (b .before .before .before .before .before .before .before .start .ensures .1) (b .before .before .before .room .ensures) (b .count .ensures) (a .before .before .before .before .before .tally .given .1)
+    (omega (arith, a .before .before .before .if1 .left)) (a .start2 .last .1 .1 .1 .0) (a .start2 .ensures .1) (c .before .before .before .before .before .write .ensures)
+
+pub produce-spec : {M : Type 1} → statement M
+produce-spec =
+    tie.close
+    (tie.spec
+    slice-aggregate-start
+    start-requires
+    room-requires
+    slice-aggregate-count
+    add-count
+    count-requires
+    enum-told
+    enum-known-tally
+    same-length
+    returns
+    slice-aggregate-start-2
+    start-requires-2
+    slice-aggregate-write
+    write-requires
+    same-length-2
+    returns-2
+    same-length-3
+    same-length-4
+    returns-3)

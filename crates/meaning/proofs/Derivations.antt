@@ -1,0 +1,174 @@
+-- What check's and derive's answers mean: where a derivation is accepted, or derive writes one, no setting makes the goal true
+-- (`check-never`, `derive-never`); what derive writes is accepted (`derived-accepted`); 30 says that some setting does (`derive-open`).
+-- Assumes nothing.
+use mathlib.Core.Path.{_≡_, refl, sym, ap, _∙_}
+use mathlib.Core.List.{List, [], _∷_, _++_}
+use mathlib.Core.Bool.{Bool, true, false, false≢true}
+use Prim.Native.Nat.{ℕ, _+_, _*_, _/_, _<_, _≤_}
+use native.Mathlib.Omega.{arith}
+use lib.Dec.{leb}
+use lib.ListN.{length, drop}
+use lib.Seq.{take-at}
+use borrow.Author.Tests.{leb-true}
+use Rattle.scope.specs.declared.Node.{Node}
+use Rattle.scope.specs.Outcome.{Outcome, answer, refused, fine, require, _>>_, _>>=_}
+use Rattle.scope.specs.Table.{decode}
+use Rattle.scope.specs.Truth.{truth}
+use Rattle.scope.proofs.Tests.{refused-no, bound}
+use Rattle.codec.specs.Valid.{Bytes}
+use Rattle.codec.proofs.Rows.{row}
+use Rattle.codec.proofs.Tables.{read-valid}
+use Rattle.calculus.specs.Expansion.{expand}
+use Rattle.calculus.specs.Order.{Answer, possible, impossible, unfinished, answerOf, settingOf}
+use Rattle.calculus.specs.Model.{All, Table, Below}
+use Rattle.calculus.specs.Decide.{nodesOf, searchOf, Admitted, asked, Satisfies, Unsatisfiable}
+use Rattle.calculus.proofs.Asked.{asked-rows, asked-fine, asked-read}
+use Rattle.calculus.proofs.Lists.{all-at, all-imply}
+use Rattle.calculus.proofs.Search.{never-cut}
+use Rattle.rules.specs.declared.Step.{Step}
+use Rattle.rules.specs.Steps.{C, decodeSteps, encodeSteps}
+use Rattle.rules.specs.Rules.{run, ended, accepts}
+use Rattle.rules.specs.Derive.{derivationOf, isImpossible, Derived, blocks, derived, derive, checked, check}
+use Rattle.rules.proofs.Sound.{check-sound}
+use Rattle.rules.proofs.Accepts.{derivation-accepted}
+use Rattle.rules.proofs.Steps.{Formed, derivation-formed}
+use Rattle.steps.proofs.Encode.{length-encode-steps, encode-steps-read}
+use Rattle.asking.proofs.Models.{table-of, model-of, literal-truth, evaluated-true, none-satisfies, setting-satisfies}
+use Rattle.published.specs.Bytes.{PublishedBytes}
+use Rattle.published.proofs.Calls.{check-derives}
+
+-- ---- a list of goals over the nodes of a table
+
+module _ (t : List ℕ) (rs : List Node) (all : Bytes t) (e : decode t ≡ answer rs) (goals : List ℕ) (B : Below (length rs) goals) where
+  table : Table (length rs) (nodesOf rs)
+  table = table-of t rs all e
+
+  -- where a derivation is accepted, no setting makes all goals true
+  accepted-never : (d : List ℕ) → checked rs goals d ≡ fine → (v : List ℕ) → All (λ g. truth v rs g ≡ true) goals → ⊥
+  unfolding checked
+  accepted-never d q v h =
+      let s = bound (decodeSteps d) (accepts (expand (nodesOf rs)) goals (length rs)) q in
+      check-sound (length rs) (nodesOf rs) goals table B (s .0) (s .2) (λ i. truth v rs (2 * i)) (model-of t rs all e v)
+      (all-imply (λ g. truth v rs g ≡ true) _ (λ g z. literal-truth v rs g ∙ z) goals h)
+
+  -- goals that are called impossible
+  module _ (few : length goals ≤ 64) (q : answerOf (searchOf rs goals) ≡ impossible) where
+    accepted : accepts (expand (nodesOf rs)) goals (length rs) (derivationOf rs goals) ≡ fine
+    accepted = derivation-accepted (length rs) (nodesOf rs) goals table B q
+
+    -- no steps are no derivation
+    some-steps : (ss : List Step) → accepts (expand (nodesOf rs)) goals (length rs) ss ≡ fine → 0 < length ss
+    unfolding run ended
+    some-steps [] a = refused-no a
+    some-steps (s ∷ ss) a = omega arith
+
+    -- the derivation in the solver's order is read back from its file
+    reads-back : length (encodeSteps (derivationOf rs goals)) ≤ 33554432 → decodeSteps (encodeSteps (derivationOf rs goals)) ≡ answer (derivationOf rs goals)
+    reads-back h =
+        let ss : List Step = derivationOf rs goals in
+        let formed : All Formed ss = derivation-formed (length rs) (nodesOf rs) goals (read-valid t rs all e .few) few table B in
+        encode-steps-read ss (C 0) (some-steps ss accepted) (omega (arith, length-encode-steps ss)) (λ k l. all-at Formed ss k (C 0) formed l .ok)
+
+    -- and accepted
+    own-checked : length (encodeSteps (derivationOf rs goals)) ≤ 33554432 → checked rs goals (encodeSteps (derivationOf rs goals)) ≡ fine
+    unfolding checked
+    own-checked h = rw (reads-back h) accepted
+
+-- ---- the rows of derive after the search
+
+closed : (a : Answer) → isImpossible a ≡ true → a ≡ impossible
+closed (possible G) e = absurd (false≢true e)
+closed impossible e = refl
+closed unfinished e = absurd (false≢true e)
+
+open-or-cut : {P : Type 0} (a : Answer) → isImpossible a ≡ false → (a ≡ unfinished → ⊥) → ((G : List ℕ) → a ≡ possible G → P) → P
+open-or-cut (possible G) e n f = f G refl
+open-or-cut impossible e n f = absurd (false≢true (sym e))
+open-or-cut unfinished e n f = absurd (n refl)
+
+-- row 30 refuses where its test fails
+row-30 : {A : Type 0} (c d e : Bool) (x : A) {place : ℕ} → (require c 30 0 >> (require d 31 0 >> (require e 31 0 >> answer x))) ≡ refused 30 place → c ≡ false
+row-30 false d e x q = refl
+row-30 true false e x q = absurd (let z : _≡_ {A = ℕ} 31 30 = cc in omega arith)
+row-30 true true false x q = absurd (let z : _≡_ {A = ℕ} 31 30 = cc in omega arith)
+row-30 true true true x q = refused-no (sym q)
+
+module _ (rs : List Node) (goals d : List ℕ) where
+  abbrev size : ℕ
+  size = length (encodeSteps (derivationOf rs goals))
+
+  -- what derive gives
+  abbrev given : Derived
+  given = record { steps = length (derivationOf rs goals); bytes = encodeSteps (derivationOf rs goals) ++ drop size d }
+
+  -- the rows that an answer has met
+  record Met (x : Derived) : Type 0 where
+    none : answerOf (searchOf rs goals) ≡ impossible
+    few : length (encodeSteps (derivationOf rs goals)) ≤ 33554432
+    file : blocks (x .steps) (x .bytes) ≡ encodeSteps (derivationOf rs goals)
+
+  met : (x : Derived) → derived rs goals d ≡ answer x → Met x
+  unfolding derived
+  met x q =
+      let ss : List Step = derivationOf rs goals in
+      let c = row (isImpossible (answerOf (searchOf rs goals))) 30 0 _ q in
+      let l = row (leb size (length d)) 31 0 _ (c .1) in
+      let m = row (leb size 33554432) 31 0 (answer given) (l .1) in
+      let z : answer given ≡ answer x = m .1 in
+      let same : x ≡ given = cc in
+      record {
+        none = closed (answerOf (searchOf rs goals)) (c .0);
+        few = leb-true size 33554432 (m .0);
+        file = rw same (take-at (encodeSteps ss) (drop size d) (512 * ((length ss + 125) / 126)) (length-encode-steps ss));
+      }
+
+  row-open : {place : ℕ} → derived rs goals d ≡ refused 30 place → isImpossible (answerOf (searchOf rs goals)) ≡ false
+  unfolding derived
+  row-open q = row-30 (isImpossible (answerOf (searchOf rs goals))) (leb size (length d)) (leb size 33554432) given q
+
+-- ---- the calls
+
+module _ (t : List ℕ) (all : Bytes t) (goal : ℕ) where
+  pub check-never : (w d : List ℕ) → check t goal w d ≡ fine → Unsatisfiable t goal
+  unfolding check
+  check-never w d q v h =
+      let b = bound (asked t (goal ∷ []) 0 0 (length w)) _ q in
+      let a = asked-read t (goal ∷ []) 0 0 (length w) (b .1) in
+      accepted-never t (b .0) all (a .0) (goal ∷ []) (a .1 .below) d (b .2) v (evaluated-true t (b .0) all (a .0) goal v h, tt)
+
+  -- the derivation of a goal that is called impossible, where 65,536 blocks hold it
+  pub own-accepted : (w : List ℕ) (rs : List Node) → asked t (goal ∷ []) 0 0 (length w) ≡ answer rs → answerOf (searchOf rs (goal ∷ [])) ≡ impossible
+      → length (encodeSteps (derivationOf rs (goal ∷ []))) ≤ 33554432 → check t goal w (encodeSteps (derivationOf rs (goal ∷ []))) ≡ fine
+  unfolding check
+  own-accepted w rs e q h =
+      let a = asked-read t (goal ∷ []) 0 0 (length w) e in
+      rw e (own-checked t rs all (a .0) (goal ∷ []) (a .1 .below) (omega arith) q h)
+
+  module _ (w d : List ℕ) where
+    -- 30: some setting makes the goal true
+    pub derive-open : {place : ℕ} → derive t goal w d ≡ refused 30 place → (rs : List Node) → asked t (goal ∷ []) 0 0 (length w) ≡ answer rs
+        → (v : List ℕ) × Satisfies t goal v
+    unfolding derive
+    derive-open q rs e =
+        let a = asked-read t (goal ∷ []) 0 0 (length w) e in
+        open-or-cut (answerOf (searchOf rs (goal ∷ []))) (row-open rs (goal ∷ []) d (rw e at q))
+        (never-cut (length rs) (nodesOf rs) (goal ∷ []) (table-of t rs all (a .0)) (a .1 .below))
+        (λ G z. (settingOf rs G ++ [], setting-satisfies t rs all (a .0) goal (a .1 .below .0) z []))
+
+    module _ (x : Derived) (q : derive t goal w d ≡ answer x) where
+      of-nodes : (rs : List Node) × (asked t (goal ∷ []) 0 0 (length w) ≡ answer rs) × (derived rs (goal ∷ []) d ≡ answer x)
+      unfolding derive
+      of-nodes = bound (asked t (goal ∷ []) 0 0 (length w)) _ q
+
+      pub derive-never : Unsatisfiable t goal
+      derive-never =
+          let a = asked-read t (goal ∷ []) 0 0 (length w) (of-nodes .1) in
+          none-satisfies t (of-nodes .0) all (a .0) goal (a .1 .below .0) (met (of-nodes .0) (goal ∷ []) d x (of-nodes .2) .none)
+
+      pub derived-accepted : check t goal w (blocks (x .steps) (x .bytes)) ≡ fine
+      derived-accepted =
+          let m = met (of-nodes .0) (goal ∷ []) d x (of-nodes .2) in
+          rw (m .file) (own-accepted w (of-nodes .0) (of-nodes .1) (m .none) (m .few))
+
+      pub derived-published : PublishedBytes t goal (blocks (x .steps) (x .bytes))
+      derived-published = check-derives t goal w (blocks (x .steps) (x .bytes)) derived-accepted

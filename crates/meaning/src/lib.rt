@@ -1,0 +1,1 @@
+// No code: what the answers of decide, derive and check mean, by their definitions, in proofs/.
