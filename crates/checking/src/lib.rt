@@ -42,7 +42,7 @@ pub fn check(t: &[u8], goal: usize, work: &mut [u16], d: &[u8]) -> Checked
 {
     let l = asking::literal(goal);
     let goals = [l; 1];
-    let mut x = [0u16; 16128];
+    let mut x = [0u16; 18270];
     let a = asking::ask(t, &goals, 0, 0, work.len(), &mut x);
     match a {
         Counted::Refused(f) => Checked::Refused(f),

@@ -43,7 +43,7 @@ fn set_point(x: &[u16], n: usize, work: &[u16], settings: &mut [u8], i: usize)
     if x[4 * i] != 2 {
         return;
     }
-    let v = state::value(work, n, (2 * i) as u16);
+    let v = state::value(n, work, (2 * i) as u16);
     if v == 1 {
         let point = x[4 * i + 1] as usize;
         settings[point] = 1;
@@ -70,7 +70,7 @@ fn solve(x: &[u16], n: usize, goals: &[u16], settings: &mut [u8], work: &mut [u1
     requires { ⌜ Room (now x) n (now settings) (now work) ⌝ }
     ensures { λ r. ⌜ Solved (indexNode (now (x .entry))) n (now (goals .entry)) (now (settings .entry)) (now (settings .exit)) r ⌝ }
 {
-    let mut masks = [0u64; 392];
+    let mut masks = [0u64; 33];
     solver::start(x, n, goals, work, &mut masks);
     let found = searching::search(x, n, goals, work, &mut masks);
     match found {
@@ -88,7 +88,7 @@ pub fn decide(t: &[u8], goal: usize, settings: &mut [u8], work: &mut [u16]) -> D
 {
     let l = asking::literal(goal);
     let goals = [l; 1];
-    let mut x = [0u16; 16128];
+    let mut x = [0u16; 18270];
     let a = asking::ask(t, &goals, 1024, settings.len(), work.len(), &mut x);
     match a {
         Counted::Refused(r) => Decided::Refused(r),

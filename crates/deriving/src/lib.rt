@@ -36,10 +36,11 @@ fn produce(x: &[u16], n: usize, goals: &[u16], work: &mut [u16], d: &mut [u8]) -
     requires { ⌜ 32768 ≤ length (now work) ⌝ }
     ensures { λ r. ⌜ Produced (indexNode (now (x .entry))) n (now (goals .entry)) (now (d .entry)) (now (d .exit)) r ⌝ }
 {
-    let mut masks = [0u64; 392];
+    let mut masks = [0u64; 33];
     solver::start(x, n, goals, work, &mut masks);
     let most = room(d.len());
-    let tally = counting::count(x, n, goals, work, &mut masks, most + 1, 0);
+    let templates = clause::templates();
+    let tally = counting::count(&templates, x, n, goals, work, &mut masks, most + 1, 0);
     match tally {
         Tally::Open => Derived::Refused(Refusal {
             number: 30,
@@ -53,7 +54,7 @@ fn produce(x: &[u16], n: usize, goals: &[u16], work: &mut [u16], d: &mut [u8]) -
                 });
             }
             solver::start(x, n, goals, work, &mut masks);
-            emitting::write(x, n, goals, work, &mut masks, d);
+            emitting::write(&templates, x, n, goals, work, &mut masks, d);
             Derived::Steps(steps)
         }
     }
@@ -65,7 +66,7 @@ pub fn derive(t: &[u8], goal: usize, work: &mut [u16], d: &mut [u8]) -> Derived
 {
     let l = asking::literal(goal);
     let goals = [l; 1];
-    let mut x = [0u16; 16128];
+    let mut x = [0u16; 18270];
     let a = asking::ask(t, &goals, 0, 0, work.len(), &mut x);
     match a {
         Counted::Refused(r) => Derived::Refused(r),
