@@ -2,10 +2,10 @@
 -- calculus' theorems speak of settings, as evaluate takes them. Assumes nothing.
 use mathlib.Core.Path.{_≡_, refl, sym, ap, _∙_}
 use mathlib.Core.List.{List, [], _∷_, _++_}
-use mathlib.Core.Bool.{Bool, true, false, cond, _&&_, false≢true}
+use mathlib.Core.Bool.{Bool, true, false, cond, false≢true}
 use Prim.Native.Nat.{ℕ, _+_, _*_, _/_, _<_, _≤_}
 use native.Mathlib.Omega.{arith}
-use native.Mathlib.Decide.{decLt, ℕ-discrete}
+use native.Mathlib.Decide.{decLt}
 use lib.Dec.{eqb, ltb}
 use lib.ListN.{length, getD, length-append, List·getD-append}
 use borrow.Author.Tests.{eq-eqb, eqb-true, le-ltb, lt-ltb, le-leb}
@@ -14,10 +14,10 @@ use Rattle.scope.specs.Outcome.{answer, fine, require}
 use Rattle.scope.specs.Table.{nodeBytes, formOk, sameNode, decode}
 use Rattle.scope.specs.Truth.{litTruth, truth}
 use Rattle.scope.specs.Calls.{settingsTest, evaluate}
-use Rattle.scope.proofs.Tests.{and-left, and-right, met, then-next}
+use Rattle.scope.proofs.Tests.{and-right, met, then-next}
 use Rattle.scope.proofs.First.{all-fine}
 use Rattle.codec.specs.Valid.{Bytes, Valid}
-use Rattle.codec.proofs.Records.{reads, small}
+use Rattle.codec.proofs.Records.{reads, Small, small}
 use Rattle.codec.proofs.Tables.{read-valid}
 use Rattle.truth.specs.Evaluated.{Low}
 use Rattle.truth.proofs.Low.{readable-low}
@@ -45,13 +45,6 @@ same-atom : (x y : Node) → x .kind ≡ 2 → y .kind ≡ 2 → x .a ≡ y .a �
 same-atom x y k l a b c =
     simp (eq-eqb (x .kind) (y .kind) (k ∙ sym l), eq-eqb (x .a) (y .a) a, eq-eqb (x .b) (y .b) (b ∙ sym c))
 
--- TRUE has no operands
-true-none : (x : Node) (one six : ℕ) → formOk x one six ≡ true → x .kind ≡ 1 → (x .a ≡ 0) × (x .b ≡ 0)
-unfolding formOk
-true-none x one six e k =
-    let z = and-right (eqb six 0) (eqb (x .a) 0 && eqb (x .b) 0) (and-right (eqb one 0) _ (simp k at e)) in
-    (eqb-true (x .a) 0 (and-left (eqb (x .a) 0) (eqb (x .b) 0) z), eqb-true (x .b) 0 (and-right (eqb (x .a) 0) (eqb (x .b) 0) z))
-
 module _ (t : List ℕ) (rs : List Node) (all : Bytes t) (e : decode t ≡ answer rs) where
   valid : Valid rs
   valid = read-valid t rs all e
@@ -67,9 +60,12 @@ module _ (t : List ℕ) (rs : List Node) (all : Bytes t) (e : decode t ≡ answe
       false≢true (sym (valid .once i j h b)
       ∙ same-atom (nodesOf rs i) (nodesOf rs j) k l a (none i (omega arith) k) (none j b l))
 
+  small-of : (i : ℕ) → i < length rs → Small (nodesOf rs i)
+  small-of i h = small (nodeBytes (nodesOf rs i)) i (omega (arith, valid .few)) (reads (nodeBytes (nodesOf rs i)) i (valid .each i h))
+
   pub table-of : Table (length rs) (nodesOf rs)
   table-of = record {
-    kinds = λ i h. (low i h .kinds, small (nodeBytes (nodesOf rs i)) i (omega (arith, valid .few)) (reads (nodeBytes (nodesOf rs i)) i (valid .each i h)) .kind);
+    kinds = λ i h. (low i h .kinds, small-of i h .kind);
     left = λ i h k. low i h .left k;
     right = λ i h k. low i h .right k;
     atoms = λ i j h b k l a. go i j h b k l a (decLt i j) (decLt j i);
@@ -83,14 +79,7 @@ module _ (t : List ℕ) (rs : List Node) (all : Bytes t) (e : decode t ≡ answe
 
   -- no cell holds more than the literals of no node
   pub cells-of : (i : ℕ) → i < length rs → (nodesOf rs i .a < always + 2) × (nodesOf rs i .b < always + 2)
-  cells-of i h = go (ℕ-discrete (nodesOf rs i .kind) 1) (ℕ-discrete (nodesOf rs i .kind) 2)
-    where
-      go : Dec (nodesOf rs i .kind ≡ 1) → Dec (nodesOf rs i .kind ≡ 2) → (nodesOf rs i .a < always + 2) × (nodesOf rs i .b < always + 2)
-      go (yes k) q = let z = true-none (nodesOf rs i) _ _ (reads (nodeBytes (nodesOf rs i)) i (valid .each i h) .form) k in (omega (arith, z .0), omega (arith, z .1))
-      go (no k) (yes q) = (omega (arith, low i h .point q), omega (arith, none i h q))
-      go (no k) (no q) =
-          let more : 2 < nodesOf rs i .kind = omega (arith, low i h .kinds, k, q) in
-          (omega (arith, low i h .left more, valid .few), omega (arith, low i h .right more, valid .few))
+  cells-of i h = (omega (arith, small-of i h .a), omega (arith, small-of i h .b))
 
 -- ---- the truths under a setting
 

@@ -21,14 +21,14 @@ use Rattle.rules.specs.Steps.{U, R, C}
 use Rattle.rules.specs.Rules.{isFails}
 use Rattle.rules.specs.Derivation.{removals, stepsOf}
 use Rattle.clause.specs.declared.Clause.{Clause}
-use Rattle.clause.specs.Stored.{literals}
+use Rattle.clause.specs.Literals.{literals}
 use Rattle.state.specs.Work.{gOf}
 use Rattle.state.specs.Holds.{Holds}
-use Rattle.moves.specs.Reason.{Reasoned}
+use Rattle.moves.specs.Place.{placeNumber, Placed, Reasoned}
 use Rattle.searching.specs.Search.{Searched}
 use Rattle.searching.specs.declared.Stop.the-variants.{Closed as Shut, Model as Ends, Fork}
 use Rattle.searching.specs.declared.Found.the-variants.{Model}
-use Rattle.searching.proofs.Searches.{tree-conflict, tree-unit, tree-split, fuel, Run, run-starts, run-conflict, run-done, run-split, run-room, run-unit, shut-open, shut-fork, open-fork, stopped-closed, stopped-model, left-model, right-searched}
+use Rattle.searching.proofs.Searches.{tree-conflict, tree-unit, tree-split, fuel, Run, run-starts, run-looked, run-conflict, run-done, run-split, run-room, run-unit, shut-open, shut-fork, open-fork, stopped-closed, stopped-model, left-model, right-searched}
 use Rattle.counting.specs.Count.{atMost, stepCount, Sized, Advanced, foundBy, Tallied}
 use Rattle.counting.specs.declared.Told.{Told}
 use Rattle.counting.specs.declared.Tally.{Tally}
@@ -130,24 +130,31 @@ module _ (t : ℕ → Node) (n : ℕ) (goals G : List ℕ) where
 
 -- ---- the size of a clause
 
-module _ {t : ℕ → Node} {n : ℕ} {goals G : List ℕ} {c : Clause} (q : Reasoned t n goals G c) where
-  sized-as : {r : ℕ} → r ≡ length (literals c) → r ≤ 2 → Sized t goals G r
-  sized-as e h = record {
-    conflict = λ k m. e ∙ sym (ap length (q .conflict k m));
-    unit = λ k l m. e ∙ sym (ap length (q .unit k l m));
-    low = h;
-  }
+module _ {t : ℕ → Node} {n : ℕ} {goals w : List ℕ} {c : Clause} (q : Reasoned t n goals w c) where
+  sized-as : {r : ℕ} → r ≡ length (literals c) → r ≤ 3 → Sized t goals (gOf w) (placeNumber w) r
+  sized-as e h = record { size = e ∙ ap length (q .clause); low = h }
 
-  pub sized-small : c .len < 2 → Sized t goals G (c .len)
+  pub sized-small : c .len < 3 → Sized t goals (gOf w) (placeNumber w) (c .len)
   sized-small h = sized-as (go (c .len) h) (omega (arith, h))
     where
-      go : (m : ℕ) → m < 2 → m ≡ length (cond (eqb m 0) [] (cond (eqb m 1) (c .first ∷ []) (c .first ∷ c .second ∷ [])))
+      go : (m : ℕ) → m < 3
+          → m ≡ length (cond (eqb m 0) [] (cond (eqb m 1) (c .first ∷ []) (cond (eqb m 2) (c .first ∷ c .second ∷ []) (c .first ∷ c .second ∷ c .third ∷ []))))
       go zero i = refl
       go (suc zero) i = refl
-      go (suc (suc m)) i = absurd (omega arith)
+      go (suc (suc zero)) i = refl
+      go (suc (suc (suc m))) i = absurd (omega arith)
 
-  pub sized-two : 2 ≤ c .len → Sized t goals G 2
-  sized-two h = sized-as (simp (ne-eqb (c .len) 0 (λ e. omega (arith, e, h)), ne-eqb (c .len) 1 (λ e. omega (arith, e, h)))) (omega arith)
+  pub sized-three : 3 ≤ c .len → Sized t goals (gOf w) (placeNumber w) 3
+  sized-three h =
+      sized-as (simp (ne-eqb (c .len) 0 (λ e. omega (arith, e, h)), ne-eqb (c .len) 1 (λ e. omega (arith, e, h)), ne-eqb (c .len) 2 (λ e. omega (arith, e, h))))
+      (omega arith)
+
+-- of the clause that the move looked up is on
+pub sized-on : {t : ℕ → Node} {goals w : List ℕ} {k r : ℕ} → Placed t goals w k → Sized t goals (gOf w) (placeNumber w) r → Sized t goals (gOf w) k r
+sized-on p z = rw (p .number) at z
+
+pub placed-there : {t : ℕ → Node} {goals w : List ℕ} {k : ℕ} → Placed t goals w k → Placed t goals w (placeNumber w)
+placed-there p = rw (p .number) p
 
 -- ---- the units
 
@@ -160,6 +167,10 @@ pub record Counting (t : ℕ → Node) (n : ℕ) (goals w m w′ m′ : List ℕ
 pub counting-starts : {t : ℕ → Node} {n : ℕ} {goals w m : List ℕ} {cap s : ℕ} → Holds t n goals w m → s ≤ cap → Counting t n goals w m w m cap s s
 counting-starts h l = record { run = run-starts h; low = l; same = refl }
 
+pub counting-looked : {t : ℕ → Node} {n : ℕ} {goals w m w′ m′ w″ : List ℕ} {cap s count : ℕ} → Counting t n goals w m w′ m′ cap s count
+    → Holds t n goals w″ m′ → gOf w″ ≡ gOf w′ → length w″ ≡ length w′ → Counting t n goals w m w″ m′ cap s count
+counting-looked r h g z = record { run = run-looked (r .run) h g z; low = r .low; same = rw g (r .same) }
+
 -- `more` of the steps to come are counted
 count-more : (cap count more rest all : ℕ) → all ≡ more + rest → atMost cap (atMost cap (count + more) + rest) ≡ atMost cap (count + all)
 count-more cap count more rest all e =
@@ -167,10 +178,10 @@ count-more cap count more rest all e =
     most-more cap (count + more) rest ∙ ap (atMost cap) z
 
 module _ {t : ℕ → Node} {n : ℕ} {goals w m w′ m′ : List ℕ} {cap s count : ℕ} (r : Counting t n goals w m w′ m′ cap s count) where
-  pub counting-conflict : {k size c : ℕ} → move (expand t) goals (gOf w′) ≡ Conflict k → Sized t goals (gOf w′) size → c ≡ atMost cap (count + (size + 1))
+  pub counting-conflict : {k size c : ℕ} → move (expand t) goals (gOf w′) ≡ Conflict k → Sized t goals (gOf w′) k size → c ≡ atMost cap (count + (size + 1))
       → Advanced t n goals w w′ m′ cap s (record { stop = Shut; count = c })
   counting-conflict {k} {size} {c} e z q =
-      let all : size + 1 ≡ stepCount t n goals (gOf w′) = ap (_+ 1) (z .conflict k e) ∙ sym (steps-conflict t n goals (gOf w′) e) in
+      let all : size + 1 ≡ stepCount t n goals (gOf w′) = ap (_+ 1) (z .size) ∙ sym (steps-conflict t n goals (gOf w′) e) in
       record {
         settled = run-conflict (r .run) e;
         low = omega (arith, q, most-low cap (count + (size + 1)));
@@ -203,12 +214,12 @@ module _ {t : ℕ → Node} {n : ℕ} {goals w m w′ m′ : List ℕ} {cap s co
               (count-more cap count 1 (left + right) (stepCount t n goals (gOf w′)) (steps-split t n goals (gOf w′) h e) ∙ r .same);
         }
 
-    pub counting-unit : {k l size c : ℕ} {w″ m″ : List ℕ} → move (expand t) goals (gOf w′) ≡ Single k l → Sized t goals (gOf w′) size
+    pub counting-unit : {k l size c : ℕ} {w″ m″ : List ℕ} → move (expand t) goals (gOf w′) ≡ Single k l → Sized t goals (gOf w′) k size
         → c ≡ atMost cap (count + size) → Holds t n goals w″ m″ → gOf w″ ≡ l ∷ gOf w′ → length w″ ≡ length w′ → length m″ ≡ length m′
         → Counting t n goals w m w″ m″ cap s c
     counting-unit {k} {l} {size} {c} e z q h y d f =
         let all : stepCount t n goals (gOf w′) ≡ size + stepCount t n goals (l ∷ gOf w′) =
-        steps-unit t n goals (gOf w′) (run-room (r .run) T B e) e ∙ ap (_+ stepCount t n goals (l ∷ gOf w′)) (sym (z .unit k l e)) in
+        steps-unit t n goals (gOf w′) (run-room (r .run) T B e) e ∙ ap (_+ stepCount t n goals (l ∷ gOf w′)) (sym (z .size)) in
         record {
           run = run-unit (r .run) T B e h y d f;
           low = omega (arith, q, most-low cap (count + size));

@@ -8,8 +8,7 @@ use lib.Dec.{ltb}
 use lib.ListN.{length, getD}
 use Rattle.scope.specs.declared.Node.{Node}
 use Rattle.calculus.specs.Expansion.{neg, expand}
-use Rattle.calculus.specs.Order.{clauses, move, tree}
-use Rattle.calculus.specs.declared.Move.the-variants.{Conflict, Unit as Single}
+use Rattle.calculus.specs.Order.{clauses, tree}
 use Rattle.rules.specs.declared.Step.{Step}
 use Rattle.rules.specs.Derivation.{stepsOf}
 use Rattle.state.specs.Work.{gOf}
@@ -33,11 +32,10 @@ stepsFrom t n goals G = stepsOf (expand t) goals G (tree (expand t) goals (n - l
 abbrev pub stepCount : (ℕ → Node) → ℕ → List ℕ → List ℕ → ℕ
 stepCount t n goals G = length (stepsFrom t n goals G)
 
--- how many literals the clause of the next conflict or unit has
-pub record Sized (t : ℕ → Node) (goals G : List ℕ) (r : ℕ) : Type 0 where
-  pub conflict : (k : ℕ) → move (expand t) goals G ≡ Conflict k → r ≡ length (getD (clauses (expand t) goals G) k [])
-  pub unit : (k l : ℕ) → move (expand t) goals G ≡ Single k l → r ≡ length (getD (clauses (expand t) goals G) k [])
-  pub low : r ≤ 2
+-- how many literals clause k has, at most three
+pub record Sized (t : ℕ → Node) (goals G : List ℕ) (k r : ℕ) : Type 0 where
+  pub size : r ≡ length (getD (clauses (expand t) goals G) k [])
+  pub low : r ≤ 3
 
 -- the units have joined, and their steps are counted, with those of the move that ends them; s were counted before
 pub record Advanced (t : ℕ → Node) (n : ℕ) (goals w w′ m′ : List ℕ) (cap s : ℕ) (r : Told) : Type 0 where

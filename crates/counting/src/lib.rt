@@ -6,9 +6,11 @@ ghost use mathlib.Core.Path.{_≡_};
 ghost use Prim.Native.Nat.{_+_, _≤_};
 ghost use Rattle.calculus.specs.Model.{Goals};
 ghost use Rattle.index.specs.Index.{indexNode};
-ghost use Rattle.clause.specs.Indexed.{Indexed};
-ghost use Rattle.state.specs.Work.{gOf};
+ghost use Rattle.index.specs.Indexed.{Indexed};
+ghost use Rattle.clause.specs.Templates.{rows};
+ghost use Rattle.state.specs.Work.{tail, gOf, Ready, Numbered};
 ghost use Rattle.state.specs.Holds.{Holds};
+ghost use Rattle.moves.specs.Place.{placeNumber, Placed};
 ghost use Rattle.counting.specs.Count.{atMost, Sized, Advanced, Tallied};
 
 // Where the units end, and the count up to there.
@@ -31,20 +33,23 @@ fn capped(s: usize, more: usize, cap: usize) -> usize
     if more < cap - s { s + more } else { cap }
 }
 
-// How many literals the clause of the next conflict or unit has.
-fn clause_size(x: &[u16], n: usize, goals: &[u16], work: &[u16], masks: &[u64]) -> usize
+// How many literals the clause has that the move looked up is on.
+fn clause_size(templates: &[[u8; 9]; 14], x: &[u16], n: usize, goals: &[u16], work: &[u16]) -> usize
+    requires { ⌜ now templates ≡ rows ⌝ }
     requires { ⌜ Indexed (now x) n ⌝ }
     requires { ⌜ Goals n (now goals) ⌝ }
-    requires { ⌜ Holds (indexNode (now x)) n (now goals) (now work) (now masks) ⌝ }
-    ensures { λ r. ⌜ Sized (indexNode (now (x .entry))) (now (goals .entry)) (gOf (now (work .entry))) r ⌝ }
+    requires { ⌜ Ready n (now work) × Numbered (indexNode (now x)) (now goals) (tail (now work)) ⌝ }
+    requires { ⌜ Placed (indexNode (now x)) (now goals) (now work) (placeNumber (now work)) ⌝ }
+    ensures { λ r. ⌜ Sized (indexNode (now (x .entry))) (now (goals .entry)) (gOf (now (work .entry))) (placeNumber (now (work .entry))) r ⌝ }
 {
-    let c = moves::reason(x, n, goals, work, masks);
-    if c.len < 2 { c.len as usize } else { 2 }
+    let c = moves::reason(templates, x, n, goals, work);
+    if c.len < 3 { c.len as usize } else { 3 }
 }
 
 // The units join, one after another, up to another move. A unit has as many steps as its clause has literals: an R for each but one,
 // and a U. A conflict has one more than its clause's literals.
 fn units(
+    templates: &[[u8; 9]; 14],
     x: &[u16],
     n: usize,
     goals: &[u16],
@@ -53,6 +58,7 @@ fn units(
     cap: usize,
     s: usize,
 ) -> Told
+    requires { ⌜ now templates ≡ rows ⌝ }
     requires { ⌜ Indexed (now x) n ⌝ }
     requires { ⌜ Goals n (now goals) ⌝ }
     requires { ⌜ Holds (indexNode (now x)) n (now goals) (now work) (now masks) ⌝ }
@@ -64,7 +70,7 @@ fn units(
         let m = moves::next_move(x, n, goals, work, masks);
         match m {
             Move::Conflict(_) => {
-                let size = clause_size(x, n, goals, work, masks);
+                let size = clause_size(templates, x, n, goals, work);
                 count = capped(count, size + 1, cap);
                 return Told {
                     stop: Stop::Closed,
@@ -72,7 +78,7 @@ fn units(
                 };
             }
             Move::Unit(_, l) => {
-                let size = clause_size(x, n, goals, work, masks);
+                let size = clause_size(templates, x, n, goals, work);
                 count = capped(count, size, cap);
                 solver::assume(x, n, goals, work, masks, l);
             }
@@ -95,6 +101,7 @@ fn units(
 
 // The search from the literals held, which stay held, s steps being counted: a model, or the count with that of all its steps.
 pub fn count(
+    templates: &[[u8; 9]; 14],
     x: &[u16],
     n: usize,
     goals: &[u16],
@@ -103,13 +110,14 @@ pub fn count(
     cap: usize,
     s: usize,
 ) -> Tally
+    requires { ⌜ now templates ≡ rows ⌝ }
     requires { ⌜ Indexed (now x) n ⌝ }
     requires { ⌜ Goals n (now goals) ⌝ }
     requires { ⌜ Holds (indexNode (now x)) n (now goals) (now work) (now masks) ⌝ }
     requires { ⌜ s ≤ cap ⌝ }
     ensures { λ r. ⌜ Tallied (indexNode (now (x .entry))) n (now (goals .entry)) (now (work .entry)) (now (work .exit)) (now (masks .exit)) cap s r ⌝ }
 {
-    let told = units(x, n, goals, work, masks, cap, s);
+    let told = units(templates, x, n, goals, work, masks, cap, s);
     let stop = told.stop;
     match stop {
         Stop::Closed => Tally::Closed(told.count),
@@ -117,13 +125,13 @@ pub fn count(
         Stop::Fork(l) => {
             let held = state::count(work);
             solver::assume(x, n, goals, work, masks, l);
-            let left = count(x, n, goals, work, masks, cap, told.count);
+            let left = count(templates, x, n, goals, work, masks, cap, told.count);
             match left {
                 Tally::Open => Tally::Open,
                 Tally::Closed(c) => {
-                    searching::undo_to(x, n, goals, work, masks, held);
+                    solver::undo_to(x, n, goals, work, masks, held);
                     solver::assume(x, n, goals, work, masks, clause::negated(l));
-                    count(x, n, goals, work, masks, cap, c)
+                    count(templates, x, n, goals, work, masks, cap, c)
                 }
             }
         }

@@ -15,8 +15,6 @@ use Rattle.scope.specs.declared.Node.{Node}
 use Rattle.scope.specs.Table.{listFrom}
 use Rattle.calculus.specs.Order.{mem, holds, fails, undecided, valueOf, atomHeld, bit, settingOf}
 use Rattle.calculus.proofs.Setting.{setting-length, setting-point}
-use Rattle.clause.specs.Classes.{wideValue}
-use Rattle.clause.proofs.Rows.{wide-low}
 use Rattle.state.specs.Work.{valueCode}
 use Rattle.deciding.specs.Setting.{Cleared, held, Marked}
 
@@ -48,12 +46,12 @@ value-held G l = go (mem l G) (mem _ G)
     go false true = refl
     go false false = refl
 
-module _ (G : List ℕ) (l : ℕ) (b : l < 4032) {v : ℕ} (e : v ≡ wideValue G l) where
+module _ (G : List ℕ) (l : ℕ) {v : ℕ} (e : v ≡ valueCode (valueOf G l)) where
   pub value-in : v ≡ 1 → mem l G ≡ true
-  value-in q = value-held G l ∙ eq-eqb (valueCode (valueOf G l)) 1 (sym (e ∙ wide-low G l b) ∙ q)
+  value-in q = value-held G l ∙ eq-eqb (valueCode (valueOf G l)) 1 (sym e ∙ q)
 
   pub value-out : (v ≡ 1 → ⊥) → mem l G ≡ false
-  value-out q = value-held G l ∙ ne-eqb (valueCode (valueOf G l)) 1 (λ z. q (e ∙ wide-low G l b ∙ z))
+  value-out q = value-held G l ∙ ne-eqb (valueCode (valueOf G l)) 1 (λ z. q (e ∙ z))
 
 module _ (x : Node) (i : ℕ) (G s : List ℕ) where
   pub marked-other : (x .kind ≡ 2 → ⊥) → Marked x i G s s

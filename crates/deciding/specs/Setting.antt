@@ -8,7 +8,7 @@ use lib.ListN.{length, getD, drop}
 use Rattle.scope.specs.declared.Node.{Node}
 use Rattle.calculus.specs.Order.{mem}
 use Rattle.index.specs.Index.{indexNode}
-use Rattle.clause.specs.Indexed.{Indexed}
+use Rattle.index.specs.Indexed.{Indexed}
 use Rattle.state.specs.Work.{Ready}
 
 -- the points below k are no, and nothing from 1,024 on has changed

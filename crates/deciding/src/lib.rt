@@ -43,7 +43,7 @@ fn set_point(x: &[u16], n: usize, work: &[u16], settings: &mut [u8], i: usize)
     if x[4 * i] != 2 {
         return;
     }
-    let v = state::value(work, n, (2 * i) as u16);
+    let v = state::value(n, work, (2 * i) as u16);
     if v == 1 {
         let point = x[4 * i + 1] as usize;
         settings[point] = 1;

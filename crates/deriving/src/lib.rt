@@ -39,7 +39,8 @@ fn produce(x: &[u16], n: usize, goals: &[u16], work: &mut [u16], d: &mut [u8]) -
     let mut masks = [0u64; 33];
     solver::start(x, n, goals, work, &mut masks);
     let most = room(d.len());
-    let tally = counting::count(x, n, goals, work, &mut masks, most + 1, 0);
+    let templates = clause::templates();
+    let tally = counting::count(&templates, x, n, goals, work, &mut masks, most + 1, 0);
     match tally {
         Tally::Open => Derived::Refused(Refusal {
             number: 30,
@@ -53,7 +54,7 @@ fn produce(x: &[u16], n: usize, goals: &[u16], work: &mut [u16], d: &mut [u8]) -
                 });
             }
             solver::start(x, n, goals, work, &mut masks);
-            emitting::write(x, n, goals, work, &mut masks, d);
+            emitting::write(&templates, x, n, goals, work, &mut masks, d);
             Derived::Steps(steps)
         }
     }

@@ -69,6 +69,20 @@ run-starts {w = w} {out} {g} h d = record {
   sets = refl;
 }
 
+-- the next move is looked up, which leaves the literals held
+pub run-looked : {t : ℕ → Node} {n : ℕ} {goals w m w′ m′ w″ out out′ : List ℕ} {g g′ : Writer} → Run t n goals w m w′ m′ out out′ g g′
+    → Holds t n goals w″ m′ → gOf w″ ≡ gOf w′ → length w″ ≡ length w′ → Run t n goals w m w″ m′ out out′ g g′
+run-looked r h e z = record {
+  holds = h;
+  grows = rw e (r .grows);
+  steps = r .steps;
+  pushed = r .pushed;
+  whole = rw e (r .whole);
+  due = rw e (r .due);
+  size = z ∙ r .size;
+  sets = r .sets;
+}
+
 module _ {t : ℕ → Node} {n : ℕ} {goals w m w′ m′ out out′ : List ℕ} {g g′ : Writer} (r : Run t n goals w m w′ m′ out out′ g g′) where
   -- some of the steps that are due are pushed
   more-whole : (ss ts : List Step) → stepsFrom t n goals (gOf w′) ≡ ss ++ ts → (r .steps ++ ss) ++ ts ≡ stepsFrom t n goals (gOf w)

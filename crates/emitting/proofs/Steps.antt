@@ -1,29 +1,30 @@
--- The steps of a search by its next move, and the removals of a clause literal by literal. Assumes nothing.
+-- The steps of a search by its next move, and the removals of a clause by the bits of its false literals. Assumes nothing.
 use mathlib.Core.Path.{_≡_, refl, sym, ap, _∙_}
-use mathlib.Core.Logic.{inl, inr}
 use mathlib.Core.Bool.{Bool, true, false, cond}
-use mathlib.Core.List.{List, [], _∷_, _++_, append-nil}
-use Prim.Native.Nat.{ℕ, suc, _-_, _<_}
-use lib.Dec.{eqb}
-use lib.ListN.{length}
-use borrow.Author.Tests.{eq-eqb, ne-eqb}
+use mathlib.Core.List.{List, [], _∷_, _++_}
+use Prim.Native.Nat.{ℕ, zero, suc, _+_, _-_, _*_, _/_, _%_, _<_, _≤_}
+use native.Mathlib.Omega.{arith}
+use native.Mathlib.Decide.{ℕ-discrete}
+use lib.Dec.{ltb}
+use lib.ListN.{length, getD}
+use borrow.Author.Tests.{ne-eqb, lt-ltb}
 use Rattle.scope.specs.declared.Node.{Node}
 use Rattle.calculus.specs.Expansion.{neg, expand}
-use Rattle.calculus.specs.Order.{Value, holds, fails, undecided, valueOf, move}
+use Rattle.calculus.specs.Order.{Value, holds, fails, undecided, valueOf, clauses, move}
 use Rattle.calculus.specs.Model.{Below}
 use Rattle.calculus.specs.declared.Move.the-variants.{Conflict, Unit as Single, Split}
 use Rattle.rules.specs.Steps.{U, R, C, S}
 use Rattle.rules.specs.Rules.{isFails}
 use Rattle.rules.specs.Derivation.{removals, removed, stepsOf}
 use Rattle.clause.specs.declared.Clause.{Clause}
-use Rattle.clause.specs.Stored.{literals}
-use Rattle.clause.specs.Classes.{wideValue}
-use Rattle.clause.proofs.Rows.{wide-low}
-use Rattle.state.specs.Work.{valueCode}
-use Rattle.moves.specs.Reason.{Reasoned}
+use Rattle.clause.specs.Literals.{literals}
+use Rattle.state.specs.Work.{gOf, valueCode}
+use Rattle.moves.specs.Place.{Placed, Reasoned}
+use Rattle.gather.specs.Kept.{positions, removalIf, removalsAt}
+use Rattle.gather.proofs.Removes.{removals-zero}
 use Rattle.searching.proofs.Searches.{tree-conflict, tree-unit, tree-split, fuel}
 use Rattle.counting.specs.Count.{stepsFrom}
-use Rattle.emitting.specs.Trace.{removal, OnClause}
+use Rattle.emitting.specs.Trace.{falseBit, falseBits}
 
 -- ---- the search from G, by its next move
 
@@ -43,78 +44,85 @@ module _ (t : ℕ → Node) (goals G : List ℕ) (n : ℕ) where
     unfolding stepsOf
     steps-split e = rw (fuel t goals G n h, tree-split t goals G (n - suc (length G)) e)
 
--- ---- removals
+-- ---- the false literals of a clause, as bits
 
--- a literal is false where its value says so
-false-value : (v : Value) → isFails v ≡ eqb (valueCode v) 2
-false-value holds = refl
-false-value fails = refl
-false-value undecided = refl
+-- a value halved says whether it is false
+pub half-false : (v : Value) → valueCode v / 2 ≡ cond (isFails v) 1 0
+half-false holds = refl
+half-false fails = refl
+half-false undecided = refl
 
-module _ (G : List ℕ) (k p l : ℕ) (b : l < 4032) {v : ℕ} (e : v ≡ wideValue G l) where
-  value-is : v ≡ valueCode (valueOf G l)
-  value-is = e ∙ wide-low G l b
+pub bit-low : (a : Bool) (G : List ℕ) (l : ℕ) → cond a (falseBit G l) 0 ≤ 1
+bit-low false G l = omega arith
+bit-low true G l = go (isFails (valueOf G l))
+  where
+    go : (b : Bool) → cond b 1 0 ≤ 1
+    go true = omega arith
+    go false = omega arith
 
-  pub removal-some : v ≡ 2 → removal G k p l ≡ R p k ∷ []
-  removal-some h = rw (false-value (valueOf G l) ∙ eq-eqb (valueCode (valueOf G l)) 2 (sym value-is ∙ h))
+-- a clause by its length
+by-length : (c : Clause) (P : ℕ → List ℕ → Type 0) → P 0 [] → P 1 (c .first ∷ []) → P 2 (c .first ∷ c .second ∷ [])
+    → ((m : ℕ) → 2 < m → P m (c .first ∷ c .second ∷ c .third ∷ [])) → P (c .len) (literals c)
+by-length c P none one two three = go (ℕ-discrete (c .len) 0) (ℕ-discrete (c .len) 1) (ℕ-discrete (c .len) 2)
+  where
+    go : Dec (c .len ≡ 0) → Dec (c .len ≡ 1) → Dec (c .len ≡ 2) → P (c .len) (literals c)
+    go (yes e) y z = rw e none
+    go (no a) (yes e) z = rw e one
+    go (no a) (no b) (yes e) = rw e two
+    go (no a) (no b) (no d) = rw (ne-eqb (c .len) 0 a, ne-eqb (c .len) 1 b, ne-eqb (c .len) 2 d) (three (c .len) (omega (arith, a, b, d)))
 
-  pub removal-none : (v ≡ 2 → ⊥) → removal G k p l ≡ []
-  removal-none h = rw (false-value (valueOf G l) ∙ ne-eqb (valueCode (valueOf G l)) 2 (λ q. h (value-is ∙ q)))
+pub few-literals : (c : Clause) → length (literals c) ≤ positions
+few-literals c = by-length c (λ (m : ℕ) (ls : List ℕ). length ls ≤ positions) (omega arith) (omega arith) (omega arith) (λ m h. omega arith)
 
-module _ (G : List ℕ) (k : ℕ) where
-  -- the literal in front, and the others
-  removals-cons : (p l : ℕ) (c : List ℕ) → removals G k p (l ∷ c) ≡ removal G k p l ++ removals G k (suc p) c
-  unfolding removals
-  removals-cons p l c = go (isFails (valueOf G l))
-    where
-      go : (b : Bool) → cond b (R p k ∷ removals G k (suc p) c) (removals G k (suc p) c) ≡ cond b (R p k ∷ []) [] ++ removals G k (suc p) c
-      go true = refl
-      go false = refl
+-- the literals that it has are of its own
+module _ (n : ℕ) (c : Clause) where
+  pub first-below : Below n (literals c) → 0 < c .len → c .first < 2 * n
+  first-below =
+      by-length c (λ (m : ℕ) (ls : List ℕ). Below n ls → 0 < m → c .first < 2 * n) (λ b h. absurd (omega arith)) (λ b h. b .0) (λ b h. b .0) (λ m k b h. b .0)
 
-  -- of a clause with no literal
-  pub removals-none : (c : Clause) → c .len ≡ 0 → removals G k 0 (literals c) ≡ []
-  unfolding removals
-  removals-none c e = rw (eq-eqb (c .len) 0 e)
+  pub second-below : Below n (literals c) → 1 < c .len → c .second < 2 * n
+  second-below =
+      by-length c (λ (m : ℕ) (ls : List ℕ). Below n ls → 1 < m → c .second < 2 * n) (λ b h. absurd (omega arith)) (λ b h. absurd (omega arith))
+      (λ b h. b .1 .0) (λ m k b h. b .1 .0)
 
--- the literals behind the first
-abbrev pub others : Clause → List ℕ
-others c = cond (eqb (c .len) 1) [] (c .second ∷ [])
+  pub third-below : Below n (literals c) → 2 < c .len → c .third < 2 * n
+  third-below =
+      by-length c (λ (m : ℕ) (ls : List ℕ). Below n ls → 2 < m → c .third < 2 * n) (λ b h. absurd (omega arith)) (λ b h. absurd (omega arith))
+      (λ b h. absurd (omega arith)) (λ m k b h. b .1 .1 .0)
 
-pub others-none : (c : Clause) → c .len ≡ 1 → others c ≡ []
-others-none c e = rw (eq-eqb (c .len) 1 e)
+-- its bits, position by position
+pub bits-of : (G : List ℕ) (c : Clause) {a b d : ℕ} → a ≡ cond (ltb 0 (c .len)) (falseBit G (c .first)) 0 → b ≡ cond (ltb 1 (c .len)) (falseBit G (c .second)) 0
+    → d ≡ cond (ltb 2 (c .len)) (falseBit G (c .third)) 0 → a + 2 * (b + 2 * d) ≡ falseBits G (literals c)
+bits-of G c p q r =
+    rw (p, q, r)
+    (by-length c (λ (m : ℕ) (ls : List ℕ). bitsAt m ≡ falseBits G ls) (omega arith) (omega arith) (omega arith)
+    (λ m h. rw (lt-ltb 0 m (omega arith), lt-ltb 1 m (omega arith), lt-ltb 2 m h) (omega arith)))
+  where
+    bitsAt : ℕ → ℕ
+    bitsAt m = cond (ltb 0 m) (falseBit G (c .first)) 0 + 2 * (cond (ltb 1 m) (falseBit G (c .second)) 0 + 2 * cond (ltb 2 m) (falseBit G (c .third)) 0)
 
-pub others-one : (c : Clause) → (c .len ≡ 1 → ⊥) → others c ≡ c .second ∷ []
-others-one c e = rw (ne-eqb (c .len) 1 e)
+-- the removals by bits are those of the clause
+removals-bits : (G : List ℕ) (k : ℕ) (c : List ℕ) (more p : ℕ) → length c ≤ more → removalsAt more k p (falseBits G c) ≡ removals G k p c
+unfolding removalsAt removals
+removals-bits G k [] more p h = removals-zero more k p
+removals-bits G k (l ∷ c) zero p h = absurd (omega arith)
+removals-bits G k (l ∷ c) (suc more) p h = go (isFails (valueOf G l)) (falseBits G c) (removals-bits G k c more (suc p) (omega arith))
+  where
+    go : (b : Bool) (y : ℕ) → removalsAt more k (suc p) y ≡ removals G k (suc p) c
+        → removalIf ((cond b 1 0 + 2 * y) % 2) k p ++ removalsAt more k (suc p) ((cond b 1 0 + 2 * y) / 2)
+        ≡ cond b (R p k ∷ removals G k (suc p) c) (removals G k (suc p) c)
+    go true y e =
+        let odd : (1 + 2 * y) % 2 ≡ 1 = omega arith in
+        let half : (1 + 2 * y) / 2 ≡ y = omega arith in
+        rw (odd, half, e)
+    go false y e =
+        let even : (0 + 2 * y) % 2 ≡ 0 = omega arith in
+        let half : (0 + 2 * y) / 2 ≡ y = omega arith in
+        rw (even, half, e)
 
-module _ (c : Clause) (some : c .len ≡ 0 → ⊥) where
-  literals-some : literals c ≡ c .first ∷ others c
-  literals-some = rw (ne-eqb (c .len) 0 some) (go (eqb (c .len) 1))
-    where
-      go : (b : Bool) → cond b (c .first ∷ []) (c .first ∷ c .second ∷ []) ≡ c .first ∷ cond b [] (c .second ∷ [])
-      go true = refl
-      go false = refl
-
-  pub below-some : (n : ℕ) → Below n (literals c) → Below n (c .first ∷ others c)
-  below-some n b = rw literals-some at b
-
-  module _ (G : List ℕ) (k : ℕ) where
-    pub removals-some : removals G k 0 (literals c) ≡ removal G k 0 (c .first) ++ removals G k 1 (others c)
-    removals-some = rw literals-some (removals-cons G k 0 (c .first) (others c))
-
-    -- one literal; two
-    pub removals-one : c .len ≡ 1 → removals G k 0 (literals c) ≡ removal G k 0 (c .first)
-    unfolding removals
-    removals-one e = removals-some ∙ ap (λ (d : List ℕ). removal G k 0 (c .first) ++ removals G k 1 d) (others-none c e) ∙ append-nil (removal G k 0 (c .first))
-
-    pub removals-two : (c .len ≡ 1 → ⊥) → removals G k 0 (literals c) ≡ removal G k 0 (c .first) ++ removal G k 1 (c .second)
-    unfolding removals
-    removals-two e =
-        removals-some
-        ∙ ap (λ (d : List ℕ). removal G k 0 (c .first) ++ removals G k 1 d) (others-one c e)
-        ∙ ap (removal G k 0 (c .first) ++_) (removals-cons G k 1 (c .second) [] ∙ append-nil (removal G k 1 (c .second)))
-
--- the removals of the next move's clause
-pub removed-is : (t : ℕ → Node) (n : ℕ) (goals G : List ℕ) (k : ℕ) {c : Clause} → Reasoned t n goals G c → OnClause t goals G k
-    → removed (expand t) goals G k ≡ removals G k 0 (literals c)
-removed-is t n goals G k r (inl e) = ap (removals G k 0) (r .conflict k e)
-removed-is t n goals G k r (inr (l, e)) = ap (removals G k 0) (r .unit k l e)
+-- those of the clause that the move looked up is on
+pub removed-is : {t : ℕ → Node} {n : ℕ} {goals w : List ℕ} {k bits : ℕ} {c : Clause} → Placed t goals w k → Reasoned t n goals w c
+    → bits ≡ falseBits (gOf w) (literals c) → removed (expand t) goals (gOf w) k ≡ removalsAt positions k 0 bits
+removed-is {t} {n} {goals} {w} {k} {bits} {c} p r e =
+    let clause : literals c ≡ getD (clauses (expand t) goals (gOf w)) k [] = rw (p .number) at (r .clause) in
+    ap (removals (gOf w) k 0) (sym clause) ∙ sym (removals-bits (gOf w) k (literals c) positions 0 (few-literals c)) ∙ ap (removalsAt positions k 0) (sym e)

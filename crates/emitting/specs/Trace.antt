@@ -1,38 +1,32 @@
 -- What the functions of the writing pass leave: the literals held, and the steps that were pushed. Assumes nothing.
 use mathlib.Core.Path.{_≡_}
-use mathlib.Core.Logic.{_⊎_}
 use mathlib.Core.Bool.{cond}
 use mathlib.Core.List.{List, [], _∷_, _++_}
-use Prim.Native.Nat.{ℕ, _*_, _/_, _≤_}
+use Prim.Native.Nat.{ℕ, _+_, _*_, _/_, _≤_}
 use lib.ListN.{length, drop}
 use Rattle.scope.specs.declared.Node.{Node}
 use Rattle.calculus.specs.Expansion.{neg, expand}
 use Rattle.calculus.specs.Order.{valueOf, move, impossible}
-use Rattle.calculus.specs.declared.Move.the-variants.{Conflict, Unit as Single, Split}
+use Rattle.calculus.specs.declared.Move.the-variants.{Split}
 use Rattle.rules.specs.declared.Step.{Step}
-use Rattle.rules.specs.Steps.{R, encodeSteps}
+use Rattle.rules.specs.Steps.{encodeSteps}
 use Rattle.rules.specs.Rules.{isFails}
 use Rattle.state.specs.Work.{gOf}
 use Rattle.state.specs.Holds.{Holds}
 use Rattle.gather.specs.declared.Writer.{Writer}
-use Rattle.gather.specs.Kept.{gathered, Space, Pushed}
+use Rattle.gather.specs.Kept.{Space, Pushed}
 use Rattle.searching.specs.Search.{result, Extends}
 use Rattle.counting.specs.Count.{stepsFrom}
-use Rattle.emitting.specs.declared.At.{At}
 use Rattle.emitting.specs.declared.Turn.{Turn}
 use Rattle.emitting.specs.declared.Turn.the-variants.{Closed, Fork}
 
--- 'an R for each false literal of the clause': of its literal l, at position p of clause k
-abbrev pub removal : List ℕ → ℕ → ℕ → ℕ → List Step
-removal G k p l = cond (isFails (valueOf G l)) (R p k ∷ []) []
+-- whether a literal is false, as a bit; and those of a clause's literals, the first lowest
+abbrev pub falseBit : List ℕ → ℕ → ℕ
+falseBit G l = cond (isFails (valueOf G l)) 1 0
 
--- the next move is a conflict or a unit on clause k
-abbrev pub OnClause : (ℕ → Node) → List ℕ → List ℕ → ℕ → Type 0
-OnClause t goals G k = (move (expand t) goals G ≡ Conflict k) ⊎ ((l : ℕ) × (move (expand t) goals G ≡ Single k l))
-
--- the writer of a block that was lent
-abbrev pub lent : List ℕ → At → Writer
-lent block at = gathered block (at .count) (at .blocks)
+abbrev pub falseBits : List ℕ → List ℕ → ℕ
+falseBits G [] = 0
+falseBits G (l ∷ c) = falseBit G l + 2 * falseBits G c
 
 -- the search from G closes, and its steps fit
 pub record Due (t : ℕ → Node) (n : ℕ) (goals G out : List ℕ) (g : Writer) : Type 0 where

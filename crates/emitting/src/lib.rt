@@ -3,30 +3,29 @@
 // conflict or a split, it is a struct, taken and returned by value.
 use calculus::Move;
 use clause::Clause;
+use gather::At;
 use gather::Writer;
 use rules::Step;
 ghost use mathlib.Core.Path.{_≡_};
+ghost use mathlib.Core.Bool.{cond};
 ghost use mathlib.Core.List.{[], _∷_, _++_};
 ghost use Prim.Native.Nat.{_+_, _*_, _<_, _≤_};
+ghost use lib.Dec.{ltb};
 ghost use lib.ListN.{length};
 ghost use Rattle.calculus.specs.Expansion.{expand};
 ghost use Rattle.calculus.specs.Model.{Below, Goals};
 ghost use Rattle.rules.specs.Steps.{step};
-ghost use Rattle.rules.specs.Derivation.{removals, removed};
+ghost use Rattle.rules.specs.Derivation.{removed};
 ghost use Rattle.index.specs.Index.{mostNodes, indexNode};
-ghost use Rattle.clause.specs.Indexed.{Indexed};
-ghost use Rattle.clause.specs.Stored.{literals};
-ghost use Rattle.state.specs.Work.{gOf, Ready};
+ghost use Rattle.index.specs.Indexed.{Indexed};
+ghost use Rattle.clause.specs.Templates.{rows};
+ghost use Rattle.clause.specs.Literals.{literals};
+ghost use Rattle.state.specs.Work.{tail, gOf, Ready, Numbered};
 ghost use Rattle.state.specs.Holds.{Holds};
-ghost use Rattle.gather.specs.Kept.{Space, Pushed};
+ghost use Rattle.moves.specs.Place.{Placed};
+ghost use Rattle.gather.specs.Kept.{lent, Space, Pushed};
 ghost use Rattle.counting.specs.Count.{stepsFrom};
-ghost use Rattle.emitting.specs.Trace.{removal, OnClause, lent, Due, Stepped, Emitted, Fits, written};
-
-// How many steps a writer's block holds, and how many blocks are written.
-pub struct At {
-    pub count: usize,
-    pub blocks: usize,
-}
+ghost use Rattle.emitting.specs.Trace.{falseBit, falseBits, Due, Stepped, Emitted, Fits, written};
 
 // Where a phase ends: at a conflict, or at a split on a literal.
 pub enum Turn {
@@ -46,82 +45,58 @@ pub struct Ahead {
     pub at: At,
 }
 
-// Literal l, at position p of clause k: an R if it is false.
-fn remove(n: usize, work: &[u16], out: &mut [u8], w: Writer, k: u16, p: u8, l: u16) -> Writer
+// 1 if a clause of a length has a position i and its literal there, l, is false, else 0.
+fn false_at(n: usize, work: &[u16], len: u8, i: u8, l: u16) -> u8
     requires { ⌜ Ready n (now work) ⌝ }
-    requires { ⌜ (n ≤ mostNodes) × (l < 2 * n) ⌝ }
-    requires { ⌜ Space (length (removal (gOf (now work)) k p l)) (now out) w ⌝ }
-    ensures { λ r. ⌜ Pushed (removal (gOf (now (work .entry))) k p l) (now (out .entry)) w (now (out .exit)) r ⌝ }
+    requires { ⌜ (n ≤ mostNodes) × (i < len → l < 2 * n) ⌝ }
+    ensures { λ r. ⌜ r ≡ cond (ltb i len) (falseBit (gOf (now (work .entry))) l) 0 ⌝ }
 {
-    let v = state::value(work, n, l);
-    if v == 2 {
-        return gather::push(
-            out,
-            w,
-            Step {
-                rule: 82,
-                position: p,
-                value: k,
-            },
-        );
+    if i < len {
+        return (state::value(n, work, l) / 2) as u8;
     }
-    w
+    0
 }
 
-// An R for each false literal of clause k, in position order.
-fn removals(n: usize, work: &[u16], out: &mut [u8], w: Writer, k: u16, c: Clause) -> Writer
+// The positions of a clause's false literals, as bits.
+fn false_bits(n: usize, work: &[u16], c: Clause) -> u8
     requires { ⌜ Ready n (now work) ⌝ }
     requires { ⌜ (n ≤ mostNodes) × Below n (literals c) ⌝ }
-    requires { ⌜ Space (length (removals (gOf (now work)) k 0 (literals c))) (now out) w ⌝ }
-    ensures { λ r. ⌜ Pushed (removals (gOf (now (work .entry))) k 0 (literals c)) (now (out .entry)) w (now (out .exit)) r ⌝ }
+    ensures { λ r. ⌜ r ≡ falseBits (gOf (now (work .entry))) (literals c) ⌝ }
 {
-    let len = c.len;
-    let first = c.first;
-    let second = c.second;
-    if len == 0 {
-        return w;
-    }
-    let v = remove(n, work, out, w, k, 0, first);
-    if len == 1 {
-        return v;
-    }
-    remove(n, work, out, v, k, 1, second)
+    let first = false_at(n, work, c.len, 0, c.first);
+    let second = false_at(n, work, c.len, 1, c.second);
+    let third = false_at(n, work, c.len, 2, c.third);
+    first + 2 * (second + 2 * third)
 }
 
-// The steps on clause k, that of the next move: its removals, and a U or a C.
+// The steps on clause k, that of the move looked up: its removals, and a U or a C.
 fn on_clause(
+    templates: &[[u8; 9]; 14],
     x: &[u16],
     n: usize,
     goals: &[u16],
     work: &[u16],
-    masks: &[u64],
     out: &mut [u8],
     w: Writer,
     rule: u8,
     k: u16,
 ) -> Writer
+    requires { ⌜ now templates ≡ rows ⌝ }
     requires { ⌜ Indexed (now x) n ⌝ }
     requires { ⌜ Goals n (now goals) ⌝ }
-    requires { ⌜ Holds (indexNode (now x)) n (now goals) (now work) (now masks) ⌝ }
-    requires { ⌜ OnClause (indexNode (now x)) (now goals) (gOf (now work)) k ⌝ }
+    requires { ⌜ Ready n (now work) × Numbered (indexNode (now x)) (now goals) (tail (now work)) ⌝ }
+    requires { ⌜ Placed (indexNode (now x)) (now goals) (now work) k ⌝ }
     requires { ⌜ Space (length (removed (expand (indexNode (now x))) (now goals) (gOf (now work)) k) + 1) (now out) w ⌝ }
     ensures { λ r. ⌜ Pushed (removed (expand (indexNode (now (x .entry)))) (now (goals .entry)) (gOf (now (work .entry))) k ++ step rule 0 k ∷ []) (now (out .entry)) w (now (out .exit)) r ⌝ }
 {
-    let c = moves::reason(x, n, goals, work, masks);
-    let v = removals(n, work, out, w, k, c);
-    gather::push(
-        out,
-        v,
-        Step {
-            rule,
-            position: 0,
-            value: k,
-        },
-    )
+    let c = moves::reason(templates, x, n, goals, work);
+    let bits = false_bits(n, work, c);
+    gather::push_move(out, w, rule, k, bits)
 }
 
 // The moves up to a conflict or a split, with their steps.
 fn phase(
+    templates: &[[u8; 9]; 14],
     x: &[u16],
     n: usize,
     goals: &[u16],
@@ -130,6 +105,7 @@ fn phase(
     out: &mut [u8],
     w: Writer,
 ) -> Told
+    requires { ⌜ now templates ≡ rows ⌝ }
     requires { ⌜ Indexed (now x) n ⌝ }
     requires { ⌜ Goals n (now goals) ⌝ }
     requires { ⌜ Holds (indexNode (now x)) n (now goals) (now work) (now masks) ⌝ }
@@ -141,14 +117,14 @@ fn phase(
         let m = moves::next_move(x, n, goals, work, masks);
         match m {
             Move::Conflict(k) => {
-                v = on_clause(x, n, goals, work, masks, out, v, 67, k);
+                v = on_clause(templates, x, n, goals, work, out, v, 67, k);
                 return Told {
                     turn: Turn::Closed,
                     w: v,
                 };
             }
             Move::Unit(k, l) => {
-                v = on_clause(x, n, goals, work, masks, out, v, 85, k);
+                v = on_clause(templates, x, n, goals, work, out, v, 85, k);
                 solver::assume(x, n, goals, work, masks, l);
             }
             Move::Done => {
@@ -178,6 +154,7 @@ fn phase(
 
 // The same, with the block lent.
 fn settle(
+    templates: &[[u8; 9]; 14],
     x: &[u16],
     n: usize,
     goals: &[u16],
@@ -187,6 +164,7 @@ fn settle(
     block: &mut [u8; 512],
     at: At,
 ) -> Ahead
+    requires { ⌜ now templates ≡ rows ⌝ }
     requires { ⌜ Indexed (now x) n ⌝ }
     requires { ⌜ Goals n (now goals) ⌝ }
     requires { ⌜ Holds (indexNode (now x)) n (now goals) (now work) (now masks) ⌝ }
@@ -199,7 +177,7 @@ fn settle(
         count: at.count,
         blocks: at.blocks,
     };
-    let told = phase(x, n, goals, work, masks, out, w);
+    let told = phase(templates, x, n, goals, work, masks, out, w);
     let v = told.w;
     let turn = told.turn;
     let after = v.block;
@@ -215,6 +193,7 @@ fn settle(
 
 // The steps of a search that closes. The literals held stay held; what joined is taken back only before a right branch.
 fn emit(
+    templates: &[[u8; 9]; 14],
     x: &[u16],
     n: usize,
     goals: &[u16],
@@ -224,13 +203,14 @@ fn emit(
     block: &mut [u8; 512],
     at: At,
 ) -> At
+    requires { ⌜ now templates ≡ rows ⌝ }
     requires { ⌜ Indexed (now x) n ⌝ }
     requires { ⌜ Goals n (now goals) ⌝ }
     requires { ⌜ Holds (indexNode (now x)) n (now goals) (now work) (now masks) ⌝ }
     requires { ⌜ Due (indexNode (now x)) n (now goals) (gOf (now work)) (now out) (lent (now block) at) ⌝ }
     ensures { λ r. ⌜ Emitted (indexNode (now (x .entry))) n (now (goals .entry)) (now (work .entry)) (now (work .exit)) (now (masks .exit)) (now (out .entry)) (now (out .exit)) (lent (now (block .entry)) at) (lent (now (block .exit)) r) ⌝ }
 {
-    let a = settle(x, n, goals, work, masks, out, block, at);
+    let a = settle(templates, x, n, goals, work, masks, out, block, at);
     let turn = a.turn;
     let p = a.at;
     match turn {
@@ -238,16 +218,25 @@ fn emit(
         Turn::Fork(l) => {
             let held = state::count(work);
             solver::assume(x, n, goals, work, masks, l);
-            let b = emit(x, n, goals, work, masks, out, block, p);
-            searching::undo_to(x, n, goals, work, masks, held);
+            let b = emit(templates, x, n, goals, work, masks, out, block, p);
+            solver::undo_to(x, n, goals, work, masks, held);
             solver::assume(x, n, goals, work, masks, clause::negated(l));
-            emit(x, n, goals, work, masks, out, block, b)
+            emit(templates, x, n, goals, work, masks, out, block, b)
         }
     }
 }
 
 // The steps of a search that closes, in blocks at the start of d.
-pub fn write(x: &[u16], n: usize, goals: &[u16], work: &mut [u16], masks: &mut [u64], d: &mut [u8])
+pub fn write(
+    templates: &[[u8; 9]; 14],
+    x: &[u16],
+    n: usize,
+    goals: &[u16],
+    work: &mut [u16],
+    masks: &mut [u64],
+    d: &mut [u8],
+)
+    requires { ⌜ now templates ≡ rows ⌝ }
     requires { ⌜ Indexed (now x) n ⌝ }
     requires { ⌜ Goals n (now goals) ⌝ }
     requires { ⌜ Holds (indexNode (now x)) n (now goals) (now work) (now masks) ⌝ }
@@ -256,6 +245,7 @@ pub fn write(x: &[u16], n: usize, goals: &[u16], work: &mut [u16], masks: &mut [
 {
     let mut block = [0u8; 512];
     let p = emit(
+        templates,
         x,
         n,
         goals,

@@ -3,19 +3,20 @@ use mathlib.Core.Path.{_≡_, refl, sym, ap, _∙_}
 use mathlib.Core.List.{List, _∷_}
 use Prim.Native.Nat.{ℕ, zero, suc, _+_, _-_, _<_, _≤_}
 use native.Mathlib.Omega.{arith}
-use lib.ListN.{length, drop, length-drop}
+use lib.ListN.{length, drop}
 use lib.Seq.{drop-drop}
 use Rattle.scope.specs.declared.Node.{Node}
 use Rattle.calculus.specs.Expansion.{neg, expand}
 use Rattle.calculus.specs.Order.{move, conflict, unit, split, model, tree, possible, impossible, orElse, answerOf}
 use Rattle.calculus.specs.Model.{Table, Below, Fresh, Good}
+use Rattle.calculus.specs.declared.Move.{Move}
 use Rattle.calculus.specs.declared.Move.the-variants.{Conflict, Unit as Single, Done, Split}
 use Rattle.calculus.proofs.Literals.{neg-fresh}
 use Rattle.calculus.proofs.Count.{room}
 use Rattle.calculus.proofs.Fresh.{unit-fresh, split-fresh}
 use Rattle.state.specs.Work.{gOf}
-use Rattle.state.specs.Holds.{Holds}
-use Rattle.searching.specs.Search.{result, Extends, foundOf, Splits, Settled, Searched}
+use Rattle.state.specs.Holds.{Holds, Splits}
+use Rattle.searching.specs.Search.{result, Extends, foundOf, Settled, Searched}
 use Rattle.searching.specs.declared.Stop.{Stop}
 use Rattle.searching.specs.declared.Stop.the-variants.{Closed as Shut, Model as Open, Fork}
 use Rattle.searching.specs.declared.Found.{Found}
@@ -43,14 +44,6 @@ extends-on {G} {H} {F} x y =
           ap (λ (k : ℕ). drop k F) (sym z) ∙ sym (drop-drop (length H - length G) (length F - length H) F)
           ∙ ap (λ (E : List ℕ). drop (length H - length G) E) (y .first) ∙ x .first;
     }
-
--- one literal more is taken back
-pub back-one : (xs ys zs : List ℕ) → length ys ≤ length xs → 0 < length ys → ys ≡ drop (length xs - length ys) xs → zs ≡ drop 1 ys
-    → (length zs ≡ length ys - 1) × (zs ≡ drop (length xs - length zs) xs)
-back-one xs ys zs h p e d =
-    let k : length zs ≡ length ys - 1 = ap length d ∙ length-drop 1 ys in
-    let s : length xs - length ys + 1 ≡ length xs - length zs = omega arith in
-    (k, d ∙ ap (λ (q : List ℕ). drop 1 q) e ∙ drop-drop 1 (length xs - length ys) xs ∙ ap (λ (m : ℕ). drop m xs) s)
 
 -- ---- the search from G, by its next move
 
@@ -118,6 +111,15 @@ pub record Run (t : ℕ → Node) (n : ℕ) (goals w m w′ m′ : List ℕ) : T
 
 pub run-starts : {t : ℕ → Node} {n : ℕ} {goals w m : List ℕ} → Holds t n goals w m → Run t n goals w m w m
 run-starts {w = w} h = record { holds = h; grows = extends-self (gOf w); same = refl; size = refl; sets = refl }
+
+-- the next move is looked up, which leaves the literals held
+pub looked : {t : ℕ → Node} {n : ℕ} {goals w m G : List ℕ} {v u : Move} → Holds t n goals w m → v ≡ move (expand t) goals G → gOf w ≡ G → v ≡ u
+    → move (expand t) goals (gOf w) ≡ u
+looked {t} {goals = goals} h e g q = ap (move (expand t) goals) g ∙ sym e ∙ q
+
+pub run-looked : {t : ℕ → Node} {n : ℕ} {goals w m w′ m′ w″ : List ℕ} → Run t n goals w m w′ m′ → Holds t n goals w″ m′ → gOf w″ ≡ gOf w′
+    → length w″ ≡ length w′ → Run t n goals w m w″ m′
+run-looked r h g z = record { holds = h; grows = rw g (r .grows); same = rw g (r .same); size = z ∙ r .size; sets = r .sets }
 
 module _ {t : ℕ → Node} {n : ℕ} {goals w m w′ m′ : List ℕ} (r : Run t n goals w m w′ m′) where
   pub run-conflict : {k : ℕ} → move (expand t) goals (gOf w′) ≡ Conflict k → Settled t n goals w w′ m′ Shut

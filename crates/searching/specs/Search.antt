@@ -38,10 +38,6 @@ pub record Settled (t : ℕ → Node) (n : ℕ) (goals w w′ m′ : List ℕ) (
   pub ends : r ≡ Open → result t n goals (gOf w′) ≡ possible (gOf w′)
   pub forks : (l : ℕ) → r ≡ Fork l → move (expand t) goals (gOf w′) ≡ Split l
 
--- the next move from G is a split
-abbrev pub Splits : (ℕ → List (List ℕ)) → List ℕ → List ℕ → Type 0
-Splits e goals G = (l : ℕ) × (move e goals G ≡ Split l)
-
 -- the search is done: its answer, with the final literals where there is a model; those of the start are still held
 pub record Searched (t : ℕ → Node) (n : ℕ) (goals w w′ m′ : List ℕ) (r : Found) : Type 0 where
   pub holds : Holds t n goals w′ m′

@@ -1,16 +1,11 @@
 // The search: recursive, a call for each branch of a split, so the number of undecided nodes falls at each call. The work area is carried
 // along, and taken back to a split before its right branch.
 use calculus::Move;
-ghost use mathlib.Core.Path.{_≡_};
-ghost use Prim.Native.Nat.{_-_, _<_};
-ghost use lib.ListN.{length, drop};
-ghost use Rattle.calculus.specs.Expansion.{expand};
 ghost use Rattle.calculus.specs.Model.{Goals};
 ghost use Rattle.index.specs.Index.{indexNode};
-ghost use Rattle.clause.specs.Indexed.{Indexed};
-ghost use Rattle.state.specs.Work.{gOf};
+ghost use Rattle.index.specs.Indexed.{Indexed};
 ghost use Rattle.state.specs.Holds.{Holds};
-ghost use Rattle.searching.specs.Search.{Splits, Settled, Searched};
+ghost use Rattle.searching.specs.Search.{Settled, Searched};
 
 // Where the units end: at a conflict, at a model, or at a split on a literal.
 pub enum Stop {
@@ -51,20 +46,6 @@ fn propagate(x: &[u16], n: usize, goals: &[u16], work: &mut [u16], masks: &mut [
     }
 }
 
-// The literals that joined after the first `held`, at least one, are assumed no more. With those the next move is a split.
-pub fn undo_to(x: &[u16], n: usize, goals: &[u16], work: &mut [u16], masks: &mut [u64], held: u16)
-    requires { ⌜ Indexed (now x) n ⌝ }
-    requires { ⌜ Goals n (now goals) ⌝ }
-    requires { ⌜ Holds (indexNode (now x)) n (now goals) (now work) (now masks) ⌝ }
-    requires { ⌜ (held < length (gOf (now work))) × Splits (expand (indexNode (now x))) (now goals) (drop (length (gOf (now work)) - held) (gOf (now work))) ⌝ }
-    ensures { λ _. ⌜ Holds (indexNode (now (x .entry))) n (now (goals .entry)) (now (work .exit)) (now (masks .exit)) ⌝ }
-    ensures { λ _. ⌜ gOf (now (work .exit)) ≡ drop (length (gOf (now (work .entry))) - held) (gOf (now (work .entry))) ⌝ }
-{
-    while held < state::count(work) {
-        solver::undo(x, n, goals, work, masks);
-    }
-}
-
 // The search from the literals held, which stay held: a model, or every branch closes. What joined is taken back only before a right
 // branch.
 pub fn search(x: &[u16], n: usize, goals: &[u16], work: &mut [u16], masks: &mut [u64]) -> Found
@@ -84,7 +65,7 @@ pub fn search(x: &[u16], n: usize, goals: &[u16], work: &mut [u16], masks: &mut 
             match left {
                 Found::Model => Found::Model,
                 Found::Closed => {
-                    undo_to(x, n, goals, work, masks, held);
+                    solver::undo_to(x, n, goals, work, masks, held);
                     solver::assume(x, n, goals, work, masks, clause::negated(l));
                     search(x, n, goals, work, masks)
                 }

@@ -11,7 +11,7 @@ use Rattle.state.specs.Work.{gOf}
 use Rattle.state.proofs.count.Reads as count-reads
 use Rattle.solver.proofs.assume.Reads as assume-reads
 use Rattle.searching.proofs.Searches.{fork-fresh, fork-less, undo-less, undo-splits, right-fresh, right-list, forked}
-use Rattle.searching.proofs.undo_to.Reads as undo-to-reads
+use Rattle.solver.proofs.undo_to.Reads as undo-to-reads
 use Rattle.counting.proofs.Counts.{ended-closed, ended-open, left-open, left-low, right-tallied}
 use Rattle.counting.proofs.units.Reads as units-reads
 use Rattle.counting.proofs.count.Reads as count
@@ -20,29 +20,19 @@ use Rattle.counting.proofs.+count.Lts-count as count-lts
 use Rattle.counting.proofs.+count.{statement}
 use Rattle.counting.proofs.+count.Tie.{close}
 
-abbrev μ-count : Measures 4 count-kinds.ps ℕ
-μ-count κs a = a .1 .0 - length (gOf (a .1 .1 .1 .0 .now))
+abbrev μ-count : Measures 5 count-kinds.ps ℕ
+μ-count κs a = a .1 .1 .0 - length (gOf (a .1 .1 .1 .1 .0 .now))
 
-abbrev count-at : ℕ → In 4 count-kinds.ps
-count-at t = and 4 count-kinds.ps (is 4 count-kinds.ps μ-count t) count.Pre
+abbrev count-at : ℕ → In 5 count-kinds.ps
+count-at t = and 5 count-kinds.ps (is 5 count-kinds.ps μ-count t) count.Pre
 
-abbrev count-below : ℕ → In 4 count-kinds.ps
-count-below t = and 4 count-kinds.ps (falls 4 count-kinds.ps _<_ μ-count t) count.Pre
+abbrev count-below : ℕ → In 5 count-kinds.ps
+count-below t = and 5 count-kinds.ps (falls 5 count-kinds.ps _<_ μ-count t) count.Pre
 
 abbrev count-claims : ℕ → count-lts.Claims
 count-claims t = (
-  units-reads.Asked,
-  units-reads.Learnt,
-  count-reads.Asked,
-  count-reads.Learnt,
-  assume-reads.Asked,
-  assume-reads.Learnt,
-  count-below t,
-  count.Post,
-  undo-to-reads.Asked,
-  undo-to-reads.Learnt,
-  negated-reads.Asked,
-  negated-reads.Learnt,
+  units-reads.Asked, units-reads.Learnt, count-reads.Asked, count-reads.Learnt, assume-reads.Asked, assume-reads.Learnt,
+  count-below t, count.Post, undo-to-reads.Asked, undo-to-reads.Learnt, negated-reads.Asked, negated-reads.Learnt,
 )
 
 count-units-requires : (t : ℕ) → count-lts.Need-units-requires (count-claims t) (count-at t) count.Post
@@ -65,7 +55,7 @@ count-assume-requires t c κs =
     let at-stop = c .before .before .before .before .before in
     let at-units = at-stop .before .before .before .before .before .before in
     let s = at-units .before .before .before .before .before .before .before in
-    let p = s .pre .1 in
+    let p = s .pre .1 .1 in
     let f = forked (at-units .units .ensures .settled) (p .0 .table) (p .1 .0 .below) (at-stop .stop .given .1) in
     (p .0, (p .1 .0, (at-units .units .ensures .settled .holds, fork-fresh f)))
 
@@ -75,9 +65,9 @@ count-count-requires-2 t c κs =
     let at-stop = at-assume .before .before .before .before .before .before in
     let at-units = at-stop .before .before .before .before .before .before in
     let s = at-units .before .before .before .before .before .before .before in
-    let p = s .pre .1 in
+    let p = s .pre .1 .1 in
     let f = forked (at-units .units .ensures .settled) (p .0 .table) (p .1 .0 .below) (at-stop .stop .given .1) in
-    (omega (arith, s .pre .0, fork-less f (at-assume .assume .ensures .1)), (p .0, (p .1 .0, (at-assume .assume .ensures .0, at-units .units .ensures .low))))
+    (omega (arith, s .pre .0, fork-less f (at-assume .assume .ensures .1)), (s .pre .1 .0, (p .0, (p .1 .0, (at-assume .assume .ensures .0, at-units .units .ensures .low)))))
 
 count-enum-told-3 : (t : ℕ) → count-lts.Need-enum-told-3 (count-claims t) (count-at t) count.Post
 count-enum-told-3 t c = search needs
@@ -93,7 +83,7 @@ count-undo-to-requires t c κs =
     let at-stop = at-count′ .before .before .before in
     let at-units = at-stop .before .before .before .before .before .before in
     let s = at-units .before .before .before .before .before .before .before in
-    let p = s .pre .1 in
+    let p = s .pre .1 .1 in
     let f = forked (at-units .units .ensures .settled) (p .0 .table) (p .1 .0 .below) (at-stop .stop .given .1) in
     let h = at-count′ .count .ensures in
     let q = at-assume .assume .ensures .1 in
@@ -105,7 +95,7 @@ count-negated-requires t c κs =
     let at-stop = c .before .before .before .before .before .before .before .before .before .before .before .before .before .before .before .before .before .before .before .before .before .before .before .before .before .before .before .before .before in
     let at-units = at-stop .before .before .before .before .before .before in
     let s = at-units .before .before .before .before .before .before .before in
-    let p = s .pre .1 in
+    let p = s .pre .1 .1 in
     let f = forked (at-units .units .ensures .settled) (p .0 .table) (p .1 .0 .below) (at-stop .stop .given .1) in
     omega (arith, fork-fresh f .0, p .0 .few)
 
@@ -118,7 +108,7 @@ count-assume-requires-2 t c κs =
     let at-stop = at-count′ .before .before .before in
     let at-units = at-stop .before .before .before .before .before .before in
     let s = at-units .before .before .before .before .before .before .before in
-    let p = s .pre .1 in
+    let p = s .pre .1 .1 in
     let f = forked (at-units .units .ensures .settled) (p .0 .table) (p .1 .0 .below) (at-stop .stop .given .1) in
     let u = at-undo-to .undo-to .ensures in
     let x = at-count .count2 .ensures .searched .grows in
@@ -136,12 +126,12 @@ count-count-requires-3 t c κs =
     let at-stop = at-count′ .before .before .before in
     let at-units = at-stop .before .before .before .before .before .before in
     let s = at-units .before .before .before .before .before .before .before in
-    let p = s .pre .1 in
+    let p = s .pre .1 .1 in
     let f = forked (at-units .units .ensures .settled) (p .0 .table) (p .1 .0 .below) (at-stop .stop .given .1) in
     let x = at-count .count2 .ensures .searched .grows in
     let d = right-list f (at-count′ .count .ensures) (at-assume′ .assume .ensures .1) x (at-undo-to .undo-to .ensures .1) (at-negated .negated .ensures) (at-assume .assume2 .ensures .1) in
     let low = left-low (at-units .units .ensures) (p .0 .table) (p .1 .0 .below) (at-stop .stop .given .1) (at-assume′ .assume .ensures .1) (at-count .count2 .ensures) (at-left .left .given .1) in
-    (omega (arith, s .pre .0, fork-less f d), (p .0, (p .1 .0, (at-assume .assume2 .ensures .0, low))))
+    (omega (arith, s .pre .0, fork-less f d), (s .pre .1 .0, (p .0, (p .1 .0, (at-assume .assume2 .ensures .0, low)))))
 
 count-same-length : (t : ℕ) → count-lts.Need-same-length (count-claims t) (count-at t) count.Post
 count-same-length t c = search needs
@@ -174,7 +164,7 @@ count-returns-3 t c =
     let at-stop = at-assume .before .before .before .before .before .before in
     let at-units = at-stop .before .before .before .before .before .before in
     let s = at-units .before .before .before .before .before .before .before in
-    let p = s .pre .1 in
+    let p = s .pre .1 .1 in
     left-open (at-units .units .ensures) (p .0 .table) (p .1 .0 .below) (at-stop .stop .given .1) (at-assume .assume .ensures .1) (at-count .count2 .ensures) (c .enum-told3 .given .1)
 
 count-same-length-7 : (t : ℕ) → count-lts.Need-same-length-7 (count-claims t) (count-at t) count.Post
@@ -185,7 +175,7 @@ count-same-length-7 t c =
     let at-count′ = at-undo-to .before .before .before .before .before .before .before .before .before .before in
     let at-assume′ = at-count′ .before .before .before .before .before .before .before in
     let at-units = at-assume′ .before .before .before .before .before .before .before .before .before .before .before .before in
-    omega (arith, at-count .count3 .kept .1 .1 .1 .0, at-assume .assume2 .kept .1 .1 .1 .0, at-undo-to .undo-to .kept .1 .1 .1 .0, at-count′ .count2 .kept .1 .1 .1 .0, at-assume′ .assume .kept .1 .1 .1 .0, at-units .units .kept .1 .1 .1 .0)
+    omega (arith, at-count .count3 .kept .1 .1 .1 .1 .0, at-assume .assume2 .kept .1 .1 .1 .0, at-undo-to .undo-to .kept .1 .1 .1 .0, at-count′ .count2 .kept .1 .1 .1 .1 .0, at-assume′ .assume .kept .1 .1 .1 .0, at-units .units .kept .1 .1 .1 .1 .0)
 
 count-same-length-8 : (t : ℕ) → count-lts.Need-same-length-8 (count-claims t) (count-at t) count.Post
 count-same-length-8 t c =
@@ -195,7 +185,7 @@ count-same-length-8 t c =
     let at-count′ = at-undo-to .before .before .before .before .before .before .before .before .before .before in
     let at-assume′ = at-count′ .before .before .before .before .before .before .before in
     let at-units = at-assume′ .before .before .before .before .before .before .before .before .before .before .before .before in
-    omega (arith, at-count .count3 .kept .1 .1 .1 .1 .0, at-assume .assume2 .kept .1 .1 .1 .1 .0, at-undo-to .undo-to .kept .1 .1 .1 .1 .0, at-count′ .count2 .kept .1 .1 .1 .1 .0, at-assume′ .assume .kept .1 .1 .1 .1 .0, at-units .units .kept .1 .1 .1 .1 .0)
+    omega (arith, at-count .count3 .kept .1 .1 .1 .1 .1 .0, at-assume .assume2 .kept .1 .1 .1 .1 .0, at-undo-to .undo-to .kept .1 .1 .1 .1 .0, at-count′ .count2 .kept .1 .1 .1 .1 .1 .0, at-assume′ .assume .kept .1 .1 .1 .1 .0, at-units .units .kept .1 .1 .1 .1 .1 .0)
 
 count-returns-4 : (t : ℕ) → count-lts.Need-returns-4 (count-claims t) (count-at t) count.Post
 count-returns-4 t c =
@@ -210,7 +200,7 @@ count-returns-4 t c =
     let at-stop = at-count′′ .before .before .before in
     let at-units = at-stop .before .before .before .before .before .before in
     let s = at-units .before .before .before .before .before .before .before in
-    let p = s .pre .1 in
+    let p = s .pre .1 .1 in
     let f = forked (at-units .units .ensures .settled) (p .0 .table) (p .1 .0 .below) (at-stop .stop .given .1) in
     let x = at-count′ .count2 .ensures .searched .grows in
     let d = right-list f (at-count′′ .count .ensures) (at-assume′ .assume .ensures .1) x (at-undo-to .undo-to .ensures .1) (at-negated .negated .ensures) (at-assume .assume2 .ensures .1) in

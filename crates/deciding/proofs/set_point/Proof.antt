@@ -1,5 +1,4 @@
 -- `deciding::set_point` meets its contract, by the kind of the node and the value of its positive literal. Assumes nothing.
-use mathlib.Core.Logic.{inl}
 use Prim.Native.Nat.{_+_, _*_, _<_}
 use lib.ListN.{getD}
 use Rattle.index.specs.Index.{indexNode}
@@ -8,10 +7,6 @@ use native.Mathlib.Omega.{arith}
 use borrow.Author.Needs.{needs}
 use Rattle.deciding.proofs.set_point.Statement.{statement}
 use Rattle.deciding.proofs.set_point.Tie as tie
-
--- the positive literal of the node
-low : (s : tie.Start) → 2 * s .args .i < 4032
-low s = omega (arith, s .pre .0 .indexed .few, s .pre .1)
 
 mul-if1 : tie.Need-mul-if1
 mul-if1 c = search needs
@@ -33,7 +28,7 @@ cast-value : tie.Need-cast-value
 cast-value c = search needs
 
 value-requires : tie.Need-value-requires
-value-requires c κs = (c .before .before .before .before .before .pre .0 .ready, (c .before .before .before .before .before .pre .0 .indexed .few, inl (omega (arith, c .before .before .before .before .before .pre .1))))
+value-requires c κs = (c .before .before .before .before .before .pre .0 .ready, (c .before .before .before .before .before .pre .0 .indexed .few, omega (arith, c .before .before .before .before .before .pre .1)))
 
 mul-point : tie.Need-mul-point
 mul-point c = search needs
@@ -69,10 +64,10 @@ unfolding indexNode
 returns-2 c =
     let s = c .before .before .before .before .before .before .before .before in
     let b : getD (s .args .x .now) (4 * s .args .i + 1) 0 < 1024 = s .pre .0 .points (s .args .i) (s .pre .1) (c .before .before .before .if1 .left) in
-    marked-in _ _ _ _ (c .before .before .before .if1 .left) (value-in _ _ (low s) (c .before .before .value .ensures) (c .before .if2 .taken)) b (s .pre .0 .room)
+    marked-in _ _ _ _ (c .before .before .before .if1 .left) (value-in _ _ (c .before .before .value .ensures) (c .before .if2 .taken)) b (s .pre .0 .room)
 
 returns-3 : tie.Need-returns-3
-returns-3 c = marked-out _ _ _ _ (value-out _ _ (low (c .before .before .before .before .before .before .before)) (c .before .value .ensures) (c .if2 .left))
+returns-3 c = marked-out _ _ _ _ (value-out _ _ (c .before .value .ensures) (c .if2 .left))
 
 pub set-point-spec : {M : Type 1} → statement M
 set-point-spec =

@@ -13,36 +13,26 @@ use Rattle.emitting.proofs.Runs.{emitted-closed, forked, left-due, righ
 use Rattle.emitting.proofs.emit.Reads as emit
 use Rattle.emitting.proofs.emit.Kinds as emit-kinds
 use Rattle.emitting.proofs.+emit.Lts-emit as emit-lts
-use Rattle.searching.proofs.undo_to.Reads as undo-to-reads
+use Rattle.solver.proofs.undo_to.Reads as undo-to-reads
 use Rattle.emitting.proofs.settle.Reads as settle-reads
 use Rattle.clause.proofs.negated.Reads as negated-reads
 use Rattle.solver.proofs.assume.Reads as assume-reads
 use Rattle.emitting.proofs.+emit.{statement}
 use Rattle.emitting.proofs.+emit.Tie.{close}
 
-abbrev μ-emit : Measures 6 emit-kinds.ps ℕ
-μ-emit κs a = a .1 .0 - length (gOf (a .1 .1 .1 .0 .now))
+abbrev μ-emit : Measures 7 emit-kinds.ps ℕ
+μ-emit κs a = a .1 .1 .0 - length (gOf (a .1 .1 .1 .1 .0 .now))
 
-abbrev emit-at : ℕ → In 6 emit-kinds.ps
-emit-at t = and 6 emit-kinds.ps (is 6 emit-kinds.ps μ-emit t) emit.Pre
+abbrev emit-at : ℕ → In 7 emit-kinds.ps
+emit-at t = and 7 emit-kinds.ps (is 7 emit-kinds.ps μ-emit t) emit.Pre
 
-abbrev emit-below : ℕ → In 6 emit-kinds.ps
-emit-below t = and 6 emit-kinds.ps (falls 6 emit-kinds.ps _<_ μ-emit t) emit.Pre
+abbrev emit-below : ℕ → In 7 emit-kinds.ps
+emit-below t = and 7 emit-kinds.ps (falls 7 emit-kinds.ps _<_ μ-emit t) emit.Pre
 
 abbrev emit-claims : ℕ → emit-lts.Claims
 emit-claims t = (
-  settle-reads.Asked,
-  settle-reads.Learnt,
-  count-reads.Asked,
-  count-reads.Learnt,
-  assume-reads.Asked,
-  assume-reads.Learnt,
-  emit-below t,
-  emit.Post,
-  undo-to-reads.Asked,
-  undo-to-reads.Learnt,
-  negated-reads.Asked,
-  negated-reads.Learnt,
+  settle-reads.Asked, settle-reads.Learnt, count-reads.Asked, count-reads.Learnt, assume-reads.Asked, assume-reads.Learnt,
+  emit-below t, emit.Post, undo-to-reads.Asked, undo-to-reads.Learnt, negated-reads.Asked, negated-reads.Learnt,
 )
 
 emit-settle-requires : (t : ℕ) → emit-lts.Need-settle-requires (emit-claims t) (emit-at t) emit.Post
@@ -62,7 +52,7 @@ emit-assume-requires t c κs =
     let at-turn = c .before .before .before .before .before in
     let at-settle = at-turn .before .before .before .before .before .before .before .before .before in
     let s = at-settle .before .before .before .before .before .before .before .before .before .before in
-    let p = s .pre .1 in
+    let p = s .pre .1 .1 in
     let r = at-settle .settle .ensures in
     let e = at-turn .turn .given .1 in
     let f = forked r (p .0 .table) (p .1 .0 .below) e in
@@ -74,13 +64,13 @@ emit-emit-requires t c κs =
     let at-turn = at-assume .before .before .before .before .before .before in
     let at-settle = at-turn .before .before .before .before .before .before .before .before .before in
     let s = at-settle .before .before .before .before .before .before .before .before .before .before in
-    let p = s .pre .1 in
+    let p = s .pre .1 .1 in
     let r = at-settle .settle .ensures in
     let e = at-turn .turn .given .1 in
     let f = forked r (p .0 .table) (p .1 .0 .below) e in
     let q = at-assume .assume .ensures .1 in
     let d = left-due r (p .0 .table) (p .1 .0 .below) e (p .1 .1 .1 .space) q in
-    (omega (arith, s .pre .0, fork-less f q), (p .0, (p .1 .0, (at-assume .assume .ensures .0, d))))
+    (omega (arith, s .pre .0, fork-less f q), (s .pre .1 .0, (p .0, (p .1 .0, (at-assume .assume .ensures .0, d)))))
 
 emit-undo-to-requires : (t : ℕ) → emit-lts.Need-undo-to-requires (emit-claims t) (emit-at t) emit.Post
 emit-undo-to-requires t c κs =
@@ -90,7 +80,7 @@ emit-undo-to-requires t c κs =
     let at-turn = at-count .before .before .before in
     let at-settle = at-turn .before .before .before .before .before .before .before .before .before in
     let s = at-settle .before .before .before .before .before .before .before .before .before .before in
-    let p = s .pre .1 in
+    let p = s .pre .1 .1 in
     let r = at-settle .settle .ensures in
     let e = at-turn .turn .given .1 in
     let f = forked r (p .0 .table) (p .1 .0 .below) e in
@@ -104,7 +94,7 @@ emit-negated-requires t c κs =
     let at-turn = c .before .before .before .before .before .before .before .before .before .before .before .before .before .before .before .before .before .before .before .before .before .before .before .before .before .before .before .before .before .before in
     let at-settle = at-turn .before .before .before .before .before .before .before .before .before in
     let s = at-settle .before .before .before .before .before .before .before .before .before .before in
-    let p = s .pre .1 in
+    let p = s .pre .1 .1 in
     let r = at-settle .settle .ensures in
     let e = at-turn .turn .given .1 in
     let f = forked r (p .0 .table) (p .1 .0 .below) e in
@@ -119,7 +109,7 @@ emit-assume-requires-2 t c κs =
     let at-turn = at-count .before .before .before in
     let at-settle = at-turn .before .before .before .before .before .before .before .before .before in
     let s = at-settle .before .before .before .before .before .before .before .before .before .before in
-    let p = s .pre .1 in
+    let p = s .pre .1 .1 in
     let r = at-settle .settle .ensures in
     let e = at-turn .turn .given .1 in
     let f = forked r (p .0 .table) (p .1 .0 .below) e in
@@ -137,7 +127,7 @@ emit-emit-requires-2 t c κs =
     let at-turn = at-count .before .before .before in
     let at-settle = at-turn .before .before .before .before .before .before .before .before .before in
     let s = at-settle .before .before .before .before .before .before .before .before .before .before in
-    let p = s .pre .1 in
+    let p = s .pre .1 .1 in
     let r = at-settle .settle .ensures in
     let e = at-turn .turn .given .1 in
     let f = forked r (p .0 .table) (p .1 .0 .below) e in
@@ -145,7 +135,7 @@ emit-emit-requires-2 t c κs =
     let a = at-emit .emit .ensures in
     let y = right-list f (at-count .count .ensures) q (a .grows) (at-undo-to .undo-to .ensures .1) (at-negated .negated .ensures) (at-assume .assume2 .ensures .1) in
     let d = right-due r (p .0 .table) (p .1 .0 .below) e (p .1 .1 .1 .space) q a y in
-    (omega (arith, s .pre .0, fork-less f y), (p .0, (p .1 .0, (at-assume .assume2 .ensures .0, d))))
+    (omega (arith, s .pre .0, fork-less f y), (s .pre .1 .0, (p .0, (p .1 .0, (at-assume .assume2 .ensures .0, d)))))
 
 emit-same-length : (t : ℕ) → emit-lts.Need-same-length (emit-claims t) (emit-at t) emit.Post
 emit-same-length t c = search needs
@@ -167,7 +157,7 @@ emit-same-length-4 t c =
     let at-emit′ = at-undo-to .before .before .before .before .before .before .before .before .before in
     let at-assume′ = at-emit′ .before .before .before .before .before .before .before .before .before in
     let at-settle = at-assume′ .before .before .before .before .before .before .before .before .before .before .before .before .before .before .before in
-    omega (arith, at-emit .emit2 .kept .1 .1 .1 .0, at-assume .assume2 .kept .1 .1 .1 .0, at-undo-to .undo-to .kept .1 .1 .1 .0, at-emit′ .emit .kept .1 .1 .1 .0, at-assume′ .assume .kept .1 .1 .1 .0, at-settle .settle .kept .1 .1 .1 .0)
+    omega (arith, at-emit .emit2 .kept .1 .1 .1 .1 .0, at-assume .assume2 .kept .1 .1 .1 .0, at-undo-to .undo-to .kept .1 .1 .1 .0, at-emit′ .emit .kept .1 .1 .1 .1 .0, at-assume′ .assume .kept .1 .1 .1 .0, at-settle .settle .kept .1 .1 .1 .1 .0)
 
 emit-same-length-5 : (t : ℕ) → emit-lts.Need-same-length-5 (emit-claims t) (emit-at t) emit.Post
 emit-same-length-5 t c =
@@ -177,14 +167,14 @@ emit-same-length-5 t c =
     let at-emit′ = at-undo-to .before .before .before .before .before .before .before .before .before in
     let at-assume′ = at-emit′ .before .before .before .before .before .before .before .before .before in
     let at-settle = at-assume′ .before .before .before .before .before .before .before .before .before .before .before .before .before .before .before in
-    omega (arith, at-emit .emit2 .kept .1 .1 .1 .1 .0, at-assume .assume2 .kept .1 .1 .1 .1 .0, at-undo-to .undo-to .kept .1 .1 .1 .1 .0, at-emit′ .emit .kept .1 .1 .1 .1 .0, at-assume′ .assume .kept .1 .1 .1 .1 .0, at-settle .settle .kept .1 .1 .1 .1 .0)
+    omega (arith, at-emit .emit2 .kept .1 .1 .1 .1 .1 .0, at-assume .assume2 .kept .1 .1 .1 .1 .0, at-undo-to .undo-to .kept .1 .1 .1 .1 .0, at-emit′ .emit .kept .1 .1 .1 .1 .1 .0, at-assume′ .assume .kept .1 .1 .1 .1 .0, at-settle .settle .kept .1 .1 .1 .1 .1 .0)
 
 emit-same-length-6 : (t : ℕ) → emit-lts.Need-same-length-6 (emit-claims t) (emit-at t) emit.Post
 emit-same-length-6 t c =
     let at-emit = c .before .before .before .before .before .before in
     let at-emit′ = at-emit .before .before .before .before .before .before .before .before .before .before .before .before .before .before .before .before .before .before .before .before .before .before .before .before .before .before in
     let at-settle = at-emit′ .before .before .before .before .before .before .before .before .before .before .before .before .before .before .before .before .before .before .before .before .before .before .before .before in
-    omega (arith, at-emit .emit2 .kept .1 .1 .1 .1 .1 .0, at-emit′ .emit .kept .1 .1 .1 .1 .1 .0, at-settle .settle .kept .1 .1 .1 .1 .1 .0)
+    omega (arith, at-emit .emit2 .kept .1 .1 .1 .1 .1 .1 .0, at-emit′ .emit .kept .1 .1 .1 .1 .1 .1 .0, at-settle .settle .kept .1 .1 .1 .1 .1 .1 .0)
 
 emit-returns-2 : (t : ℕ) → emit-lts.Need-returns-2 (emit-claims t) (emit-at t) emit.Post
 emit-returns-2 t c =
@@ -198,7 +188,7 @@ emit-returns-2 t c =
     let at-turn = at-count .before .before .before in
     let at-settle = at-turn .before .before .before .before .before .before .before .before .before in
     let s = at-settle .before .before .before .before .before .before .before .before .before .before in
-    let p = s .pre .1 in
+    let p = s .pre .1 .1 in
     let r = at-settle .settle .ensures in
     let e = at-turn .turn .given .1 in
     let f = forked r (p .0 .table) (p .1 .0 .below) e in

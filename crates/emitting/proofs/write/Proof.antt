@@ -9,9 +9,10 @@ use Rattle.emitting.proofs.write.Tie as tie
 
 emit-requires : tie.Need-emit-requires
 emit-requires c κs =
-    let at-place = c .before .before .before .before .before .before .before .before .before in
-    let s = at-place in
-    (s .pre .0, (s .pre .1 .0, (s .pre .1 .1 .0, start-due (replicate 512 0) (length-replicate {A = ℕ} 512 0) (s .pre .1 .1 .1))))
+    let s = c .before .before .before .before .before .before .before .before .before in
+    let p = s .pre in
+    let d = start-due (replicate 512 0) (length-replicate {A = ℕ} 512 0) (p .1 .1 .1 .1) in
+    (p .0, (p .1 .0, (p .1 .1 .0, (p .1 .1 .1 .0, d))))
 
 close-requires : tie.Need-close-requires
 close-requires c κs = search needs
@@ -27,7 +28,8 @@ same-length-3 c = search needs
 
 returns : tie.Need-returns
 returns c =
-    let at-close = c .before .before in
+    let at-place = c .before .before in
+    let at-close = at-place in
     let at-emit = at-close .before .before .before .before .before .before .before .before .before in
     written (at-emit .emit .ensures .pushed) (at-close .close .ensures)
 

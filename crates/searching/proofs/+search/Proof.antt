@@ -12,7 +12,7 @@ use Rattle.state.proofs.count.Reads as count-reads
 use Rattle.solver.proofs.assume.Reads as assume-reads
 use Rattle.searching.proofs.Searches.{fork-fresh, fork-less, undo-less, undo-splits, right-fresh, right-list, stopped-closed, stopped-model, forked, left-model, right-searched}
 use Rattle.searching.proofs.propagate.Reads as propagate-reads
-use Rattle.searching.proofs.undo_to.Reads as undo-to-reads
+use Rattle.solver.proofs.undo_to.Reads as undo-to-reads
 use Rattle.searching.proofs.search.Reads as search′
 use Rattle.searching.proofs.search.Kinds as search-kinds
 use Rattle.searching.proofs.+search.Lts-search as search-lts

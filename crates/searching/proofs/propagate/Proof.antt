@@ -1,11 +1,11 @@
 -- `searching::propagate` meets its contract: before each turn the search from here ends on what the search from the start does.
 -- The measure is the number of undecided nodes. Assumes nothing.
-use mathlib.Core.Path.{sym, ap, _∙_}
+use mathlib.Core.Path.{ap, _∙_}
 use Prim.Native.Nat.{_-_}
 use lib.ListN.{length}
 use Rattle.index.specs.Index.{indexNode}
 use Rattle.state.specs.Work.{gOf}
-use Rattle.searching.proofs.Searches.{Run, run-starts, run-conflict, run-done, run-split, run-fresh, run-room, run-unit}
+use Rattle.searching.proofs.Searches.{Run, run-starts, run-looked, looked, run-conflict, run-done, run-split, run-fresh, run-room, run-unit}
 use native.Mathlib.Omega.{arith}
 use borrow.Author.Needs.{needs}
 use Rattle.searching.proofs.propagate.Statement.{statement}
@@ -30,16 +30,22 @@ enum-told : tie.Need-enum-told Inv-loop μ-loop
 enum-told c = search needs
 
 same-length : tie.Need-same-length Inv-loop μ-loop
-same-length c = c .before .before .before .before .before .loop .inv .size
+same-length c =
+    let at-next-move = c .before .before .before .before in
+    let at-loop = at-next-move .before .before .before in
+    at-next-move .next-move .kept .1 .1 .1 .0 ∙ at-loop .loop .inv .size
 
 same-length-2 : tie.Need-same-length-2 Inv-loop μ-loop
-same-length-2 c = c .before .before .before .before .before .loop .inv .sets
+same-length-2 c = c .before .before .before .before .before .before .before .loop .inv .sets
 
 returns : tie.Need-returns Inv-loop μ-loop
 returns c =
-    let at-next-move = c .before .before in
+    let at-next-move = c .before .before .before .before in
     let at-loop = at-next-move .before .before .before in
-    run-conflict (at-loop .loop .inv) (sym (at-next-move .next-move .ensures) ∙ c .enum-told .given .1)
+    let v = at-next-move .next-move in
+    let r = run-looked (at-loop .loop .inv) (v .ensures .1 .0) (v .ensures .1 .1 .0) (v .kept .1 .1 .1 .0) in
+    let e = looked (r .holds) (v .ensures .0) (v .ensures .1 .1 .0) (c .enum-told .given .1) in
+    run-conflict r e
 
 enum-known-m : tie.Need-enum-known-m Inv-loop μ-loop
 enum-known-m c = search needs
@@ -47,36 +53,39 @@ enum-known-m c = search needs
 assume-requires : tie.Need-assume-requires Inv-loop μ-loop
 assume-requires c κs =
     let at-m = c .before .before .before in
-    let at-next-move = at-m .before .before in
+    let at-next-move = at-m .before .before .before .before in
     let at-loop = at-next-move .before .before .before in
     let at-place = at-loop .before .before .before .before .before in
     let s = at-place in
-    let e = sym (at-next-move .next-move .ensures) ∙ at-m .m .given .1 in
-    let r = at-loop .loop .inv in
+    let v = at-next-move .next-move in
+    let r = run-looked (at-loop .loop .inv) (v .ensures .1 .0) (v .ensures .1 .1 .0) (v .kept .1 .1 .1 .0) in
+    let e = looked (r .holds) (v .ensures .0) (v .ensures .1 .1 .0) (at-m .m .given .1) in
     (s .pre .0, (s .pre .1 .0, (r .holds, run-fresh r (s .pre .0 .table) (s .pre .1 .0 .below) e)))
 
 loop-less : tie.Need-loop-less Inv-loop μ-loop
 loop-less c =
     let at-assume = c .before .before .before .before in
     let at-m = at-assume .before .before .before .before in
-    let at-next-move = at-m .before .before in
+    let at-next-move = at-m .before .before .before .before in
     let at-loop = at-next-move .before .before .before in
     let at-place = at-loop .before .before .before .before .before in
     let s = at-place in
-    let e = sym (at-next-move .next-move .ensures) ∙ at-m .m .given .1 in
-    let r = at-loop .loop .inv in
-    omega (arith, run-room r (s .pre .0 .table) (s .pre .1 .0 .below) e, ap length (at-assume .assume .ensures .1))
+    let v = at-next-move .next-move in
+    let r = run-looked (at-loop .loop .inv) (v .ensures .1 .0) (v .ensures .1 .1 .0) (v .kept .1 .1 .1 .0) in
+    let e = looked (r .holds) (v .ensures .0) (v .ensures .1 .1 .0) (at-m .m .given .1) in
+    omega (arith, run-room r (s .pre .0 .table) (s .pre .1 .0 .below) e, ap length (at-assume .assume .ensures .1), ap length (v .ensures .1 .1 .0))
 
 loop-again : tie.Need-loop-again Inv-loop μ-loop
 loop-again c =
     let at-assume = c .before .before .before .before in
     let at-m = at-assume .before .before .before .before in
-    let at-next-move = at-m .before .before in
+    let at-next-move = at-m .before .before .before .before in
     let at-loop = at-next-move .before .before .before in
     let at-place = at-loop .before .before .before .before .before in
     let s = at-place in
-    let e = sym (at-next-move .next-move .ensures) ∙ at-m .m .given .1 in
-    let r = at-loop .loop .inv in
+    let v = at-next-move .next-move in
+    let r = run-looked (at-loop .loop .inv) (v .ensures .1 .0) (v .ensures .1 .1 .0) (v .kept .1 .1 .1 .0) in
+    let e = looked (r .holds) (v .ensures .0) (v .ensures .1 .1 .0) (at-m .m .given .1) in
     let a = at-assume .assume in
     run-unit r (s .pre .0 .table) (s .pre .1 .0 .below) e (a .ensures .0) (a .ensures .1) (a .kept .1 .1 .1 .0) (a .kept .1 .1 .1 .1 .0)
 
@@ -84,31 +93,43 @@ enum-told-2 : tie.Need-enum-told-2 Inv-loop μ-loop
 enum-told-2 c = search needs
 
 same-length-3 : tie.Need-same-length-3 Inv-loop μ-loop
-same-length-3 c = c .before .before .before .before .before .loop .inv .size
+same-length-3 c =
+    let at-next-move = c .before .before .before .before in
+    let at-loop = at-next-move .before .before .before in
+    at-next-move .next-move .kept .1 .1 .1 .0 ∙ at-loop .loop .inv .size
 
 same-length-4 : tie.Need-same-length-4 Inv-loop μ-loop
-same-length-4 c = c .before .before .before .before .before .loop .inv .sets
+same-length-4 c = c .before .before .before .before .before .before .before .loop .inv .sets
 
 returns-2 : tie.Need-returns-2 Inv-loop μ-loop
 returns-2 c =
-    let at-next-move = c .before .before in
+    let at-next-move = c .before .before .before .before in
     let at-loop = at-next-move .before .before .before in
-    run-done (at-loop .loop .inv) (sym (at-next-move .next-move .ensures) ∙ c .enum-told2 .given .1)
+    let v = at-next-move .next-move in
+    let r = run-looked (at-loop .loop .inv) (v .ensures .1 .0) (v .ensures .1 .1 .0) (v .kept .1 .1 .1 .0) in
+    let e = looked (r .holds) (v .ensures .0) (v .ensures .1 .1 .0) (c .enum-told2 .given .1) in
+    run-done r e
 
 enum-known-m-2 : tie.Need-enum-known-m-2 Inv-loop μ-loop
 enum-known-m-2 c = search needs
 
 same-length-5 : tie.Need-same-length-5 Inv-loop μ-loop
-same-length-5 c = c .before .before .before .before .before .before .loop .inv .size
+same-length-5 c =
+    let at-next-move = c .before .before .before .before .before in
+    let at-loop = at-next-move .before .before .before in
+    at-next-move .next-move .kept .1 .1 .1 .0 ∙ at-loop .loop .inv .size
 
 same-length-6 : tie.Need-same-length-6 Inv-loop μ-loop
-same-length-6 c = c .before .before .before .before .before .before .loop .inv .sets
+same-length-6 c = c .before .before .before .before .before .before .before .before .loop .inv .sets
 
 returns-3 : tie.Need-returns-3 Inv-loop μ-loop
 returns-3 c =
-    let at-next-move = c .before .before .before in
+    let at-next-move = c .before .before .before .before .before in
     let at-loop = at-next-move .before .before .before in
-    run-split (at-loop .loop .inv) (sym (at-next-move .next-move .ensures) ∙ c .before .m2 .given .1)
+    let v = at-next-move .next-move in
+    let r = run-looked (at-loop .loop .inv) (v .ensures .1 .0) (v .ensures .1 .1 .0) (v .kept .1 .1 .1 .0) in
+    let e = looked (r .holds) (v .ensures .0) (v .ensures .1 .1 .0) (c .before .m2 .given .1) in
+    run-split r e
 
 pub propagate-spec : {M : Type 1} → statement M
 propagate-spec =
