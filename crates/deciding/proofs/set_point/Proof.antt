@@ -33,7 +33,8 @@ cast-value : tie.Need-cast-value
 cast-value c = search needs
 
 value-requires : tie.Need-value-requires
-value-requires c κs = (c .before .before .before .before .before .pre .0 .ready, (c .before .before .before .before .before .pre .0 .indexed .few, inl (omega (arith, c .before .before .before .before .before .pre .1))))
+value-requires c κs =
+    (c .before .before .before .before .before .pre .0 .ready, (c .before .before .before .before .before .pre .0 .indexed .few, inl (omega (arith, c .before .before .before .before .before .pre .1))))
 
 mul-point : tie.Need-mul-point
 mul-point c = search needs
