@@ -1,16 +1,15 @@
 -- The rows as the functions meet them, and what asking answers. Assumes nothing.
 use mathlib.Core.Path.{_≡_, refl, sym, ap, _∙_}
 use mathlib.Core.List.{List, [], _∷_}
-use mathlib.Core.Bool.{Bool, true, false}
-use Prim.Native.Nat.{ℕ, _+_, _-_, _*_, _<_, _≤_, min}
+use Prim.Native.Nat.{ℕ, _-_, _*_, _<_, _≤_, min}
 use native.Mathlib.Decide.{decLt}
 use native.Mathlib.Omega.{arith}
-use lib.Dec.{leb, ltb}
-use lib.ListN.{length, getD}
+use lib.Dec.{ltb}
+use lib.ListN.{length}
 use borrow.Author.Tests.{lt-ltb, le-ltb, le-leb, lt-leb}
 use Rattle.scope.specs.declared.Node.{Node}
 use Rattle.scope.specs.declared.Refusal.{Refusal}
-use Rattle.scope.specs.Outcome.{Outcome, answer, refused, fine, require, first, _>>_, _>>=_}
+use Rattle.scope.specs.Outcome.{Outcome, answer, refused, fine, first, _>>_, _>>=_}
 use Rattle.scope.specs.Table.{decode}
 use Rattle.scope.specs.Calls.{tableCount}
 use Rattle.scope.proofs.Tests.{refused-no, passed-on}

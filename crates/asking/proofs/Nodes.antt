@@ -1,7 +1,7 @@
 -- A table that was counted: the nodes that it reads as, and those of its index. Assumes nothing.
 use mathlib.Core.Path.{_≡_, sym, ap, _∙_}
 use mathlib.Core.List.{List, []}
-use Prim.Native.Nat.{ℕ, _+_, _*_, _<_, _≤_}
+use Prim.Native.Nat.{ℕ, _+_, _<_, _≤_}
 use native.Mathlib.Nat.{zero-add}
 use native.Mathlib.Omega.{arith}
 use lib.ListN.{length}
@@ -21,7 +21,6 @@ use Rattle.calculus.specs.Model.{Table}
 use Rattle.calculus.specs.Decide.{nodesOf, searchOf, Admitted}
 use Rattle.calculus.proofs.Asked.{asked-fine}
 use Rattle.index.specs.Index.{indexSize, mostNodes, always, indexNode, Built}
-use Rattle.index.specs.Indexed.{Indexed}
 use Rattle.asking.specs.Asks.{mostGoals, Prepared}
 use Rattle.asking.proofs.Models.{low, table-of, cells-of}
 use Rattle.asking.proofs.Same.{table-same, search-same}

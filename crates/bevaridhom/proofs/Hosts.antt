@@ -9,14 +9,13 @@ use lib.Dec.{ltb}
 use lib.ListN.{length, take}
 use borrow.Author.Tests.{lt-ltb}
 use Rattle.scope.specs.declared.Refusal.{Refusal}
-use Rattle.scope.specs.Outcome.{Outcome, answer, refused, fine, require, _>>=_}
+use Rattle.scope.specs.Outcome.{Outcome, answer, refused, require, _>>=_}
 use Rattle.scope.specs.Truth.{truth}
 use Rattle.scope.specs.Calls.{settingsTest, evaluate}
 use Rattle.scope.proofs.Tests.{refused-no, then-first, then-next}
 use Rattle.codec.specs.Valid.{Bytes}
 use Rattle.codec.proofs.Bytes.{bytes-take}
-use Rattle.calculus.specs.Order.{impossible}
-use Rattle.calculus.specs.Decide.{Decided as Given, decide, Unsatisfiable, _⇔_}
+use Rattle.calculus.specs.Decide.{decide, Unsatisfiable, _⇔_}
 use Rattle.meaning.proofs.Decisions.{decide-exact}
 use Rattle.meaning.proofs.Numbers.{decide-numbered, derive-numbered, check-numbered}
 use Rattle.deciding.specs.declared.Decided.{Decided}
@@ -33,7 +32,6 @@ use Rattle.adding.specs.declared.Added.{Added as Put}
 use Rattle.adding.specs.declared.Added.the-variants.{At, Refused as NotPut}
 use Rattle.adding.specs.Added.{addedOf}
 use Rattle.cnf.specs.Text.{File, fileOf}
-use Rattle.cnf.specs.Meaning.{clausesTrue}
 use Rattle.cnf.specs.Reader.{Means, Turns}
 use Rattle.cnfread.specs.Reads.{Reads}
 use Rattle.bevaridhom.specs.Answers.{decideAnswer, HostDecides, deriveAnswer, HostDerives, checkAnswer, HostChecks, markAnswer, Unmet, HostReads}

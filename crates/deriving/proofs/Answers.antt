@@ -1,22 +1,20 @@
 -- Where derive ends: at the first row's refusal, or with what counting and writing came to. Assumes nothing.
 use mathlib.Core.Path.{_≡_, refl, sym, ap, _∙_}
 use mathlib.Core.List.{List, [], _∷_}
-use Prim.Native.Nat.{ℕ, _<_, _≤_, min}
+use Prim.Native.Nat.{ℕ, _≤_, min}
 use native.Mathlib.Omega.{arith}
 use lib.ListN.{length}
-use Rattle.scope.specs.declared.Node.{Node}
 use Rattle.scope.specs.declared.Refusal.{Refusal}
-use Rattle.scope.specs.Outcome.{Outcome, answer, refused, fine, _>>=_}
+use Rattle.scope.specs.Outcome.{Outcome, answer, refused, _>>=_}
 use Rattle.scope.proofs.Tests.{refused-no, bound}
 use Rattle.codec.specs.Valid.{Bytes}
 use Rattle.calculus.specs.Expansion.{expand}
 use Rattle.calculus.specs.Order.{Tree, tree}
-use Rattle.calculus.specs.Decide.{nodesOf, searchOf, asked}
+use Rattle.calculus.specs.Decide.{nodesOf, asked}
 use Rattle.index.specs.Index.{indexNode}
 use Rattle.rules.specs.declared.Step.{Step}
 use Rattle.rules.specs.Derivation.{stepsOf}
 use Rattle.rules.specs.Derive.{derivationOf, Derived as Given, blocks, derived, derive, derivedAfter, check}
-use Rattle.published.specs.Bytes.{PublishedBytes}
 use Rattle.asking.specs.Asks.{Prepared}
 use Rattle.asking.proofs.Nodes.{search-in}
 use Rattle.asking.proofs.Answers.{literal-small, asked-same}

@@ -1,5 +1,5 @@
 -- What counting and writing came to, as derive's answer: 30 or 31 after the search, or the derivation. Assumes nothing.
-use mathlib.Core.Path.{_≡_, refl, sym, ap, _∙_}
+use mathlib.Core.Path.{_≡_, sym, ap, _∙_}
 use mathlib.Core.List.{List, []}
 use Prim.Native.Nat.{ℕ, _+_, _-_, _*_, _/_, _<_, _≤_, min}
 use native.Mathlib.Omega.{arith}
@@ -7,7 +7,6 @@ use native.Mathlib.Decide.{decLt}
 use lib.ListN.{length}
 use borrow.Author.Tests.{le-leb, lt-leb}
 use Rattle.scope.specs.declared.Node.{Node}
-use Rattle.scope.specs.declared.Refusal.{Refusal}
 use Rattle.scope.specs.Outcome.{answer, refused}
 use Rattle.calculus.specs.Expansion.{expand}
 use Rattle.calculus.specs.Order.{Tree, tree, possible, impossible, answerOf}
@@ -16,14 +15,13 @@ use Rattle.rules.specs.Steps.{encodeSteps}
 use Rattle.rules.specs.Derivation.{stepsOf}
 use Rattle.steps.proofs.Encode.{length-encode-steps}
 use Rattle.state.specs.Work.{gOf}
-use Rattle.searching.specs.Search.{result, foundOf}
+use Rattle.searching.specs.Search.{foundOf}
 use Rattle.counting.specs.Count.{atMost, stepsFrom, foundBy, Tallied}
 use Rattle.counting.specs.declared.Tally.{Tally}
 use Rattle.counting.specs.declared.Tally.the-variants.{Open, Closed as Shut}
 use Rattle.counting.proofs.Counts.{most-under, most-over}
 use Rattle.emitting.specs.Trace.{Fits, written}
 use Rattle.deriving.specs.Derives.{given, row31, produced, Produced}
-use Rattle.deriving.specs.declared.Derived.{Derived}
 use Rattle.deriving.specs.declared.Derived.the-variants.{Steps, Refused}
 
 -- ---- how many steps fit

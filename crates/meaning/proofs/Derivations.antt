@@ -1,7 +1,7 @@
 -- What check's and derive's answers mean: where a derivation is accepted, or derive writes one, no setting makes the goal true
 -- (`check-never`, `derive-never`); what derive writes is accepted (`derived-accepted`); 30 says that some setting does (`derive-open`).
 -- Assumes nothing.
-use mathlib.Core.Path.{_≡_, refl, sym, ap, _∙_}
+use mathlib.Core.Path.{_≡_, refl, sym, _∙_}
 use mathlib.Core.List.{List, [], _∷_, _++_}
 use mathlib.Core.Bool.{Bool, true, false, false≢true}
 use Prim.Native.Nat.{ℕ, _+_, _*_, _/_, _<_, _≤_}
@@ -11,7 +11,7 @@ use lib.ListN.{length, drop}
 use lib.Seq.{take-at}
 use borrow.Author.Tests.{leb-true}
 use Rattle.scope.specs.declared.Node.{Node}
-use Rattle.scope.specs.Outcome.{Outcome, answer, refused, fine, require, _>>_, _>>=_}
+use Rattle.scope.specs.Outcome.{answer, refused, fine, require, _>>_}
 use Rattle.scope.specs.Table.{decode}
 use Rattle.scope.specs.Truth.{truth}
 use Rattle.scope.proofs.Tests.{refused-no, bound}
@@ -21,8 +21,8 @@ use Rattle.codec.proofs.Tables.{read-valid}
 use Rattle.calculus.specs.Expansion.{expand}
 use Rattle.calculus.specs.Order.{Answer, possible, impossible, unfinished, answerOf, settingOf}
 use Rattle.calculus.specs.Model.{All, Table, Below}
-use Rattle.calculus.specs.Decide.{nodesOf, searchOf, Admitted, asked, Satisfies, Unsatisfiable}
-use Rattle.calculus.proofs.Asked.{asked-rows, asked-fine, asked-read}
+use Rattle.calculus.specs.Decide.{nodesOf, searchOf, asked, Satisfies, Unsatisfiable}
+use Rattle.calculus.proofs.Asked.{asked-read}
 use Rattle.calculus.proofs.Lists.{all-at, all-imply}
 use Rattle.calculus.proofs.Search.{never-cut}
 use Rattle.rules.specs.declared.Step.{Step}

@@ -7,7 +7,7 @@ use native.Mathlib.Omega.{arith}
 use lib.Dec.{eqb, leb, ltb}
 use lib.ListN.{length, getD}
 use Rattle.scope.specs.declared.Format.{Format}
-use Rattle.scope.specs.Outcome.{Outcome, answer, refused, fine, require, first, _>>_, _>>=_}
+use Rattle.scope.specs.Outcome.{Outcome, answer, refused, require, first, _>>_, _>>=_}
 use Rattle.scope.specs.Block.{wordAt, checkOk, headOk, paddingOk, blockTest, blockAt, recordAt, recordsIn}
 use Rattle.scope.specs.Table.{tables, nodeOf, nodeAt, formOk, rangeOk, orderOk, readRecord, repeats, recordTest, lengthOk, blockRows, tableTest, listFrom, decode}
 use Rattle.scope.proofs.Tests.{refused-no}
@@ -16,7 +16,7 @@ use Rattle.calculus.specs.Order.{answerOf}
 use Rattle.calculus.specs.Decide.{nodesOf, searchOf, goalRow, goalsTest, rowsTest, asked, decided, decide}
 use Rattle.rules.specs.declared.Step.{Step}
 use Rattle.rules.specs.Steps.{derivations, stepAt, stepOk, sizeOk, formTest, decodeSteps, encodeSteps}
-use Rattle.rules.specs.Rules.{Progress, running, complete, root, apply, advance, ended, run, accepts}
+use Rattle.rules.specs.Rules.{Progress, running, complete, root, apply, advance, ended, run}
 use Rattle.rules.specs.Derive.{derivationOf, isImpossible, derived, derive, checked, check}
 
 pub record Numbered {A : Type 0} (x : Outcome A) : Type 0 where

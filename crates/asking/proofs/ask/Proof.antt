@@ -1,7 +1,6 @@
 -- `asking::ask` meets its contract: a refusal is the first row's that refuses, and else the index is that of the table's nodes.
 -- Assumes nothing.
 use mathlib.Core.Path.{_≡_, _∙_, ap, sym}
-use native.Mathlib.Omega.{arith}
 use borrow.Author.Needs.{needs}
 use Rattle.scope.specs.Outcome.{answer, verdictOf}
 use Rattle.scope.specs.Calls.{tableCount}
@@ -53,8 +52,10 @@ same-length c = search needs
 
 returns-3 : tie.Need-returns-3
 returns-3 c =
+    let k = c .before .before .before .before .before .before .before in
+    let s = k .before .before .before .before .before .before in
     asks-some _ _ _ _ _ _ _
-    (prepares _ (answered (c .before .before .before .before .before .before .before)) (bytes (c .before .before .before .before .before .before .before .before .before .before .before .before .before)) _ (search needs) (c .before .before .build .ensures) _ _ _ _ (c .before .before .before .before .before .before .before .before .before .before .before .before .before .before .pre .0)
+    (prepares _ (answered k) (bytes s) _ (search needs) (c .before .before .build .ensures) _ _ _ _ (s .before .pre .0)
     (rows-met _ _ _ _ _ (sym (c .before .before .before .before .before .before .rows .ensures) ∙ ap verdictOf (c .before .before .before .before .enum-told .given .1))))
 
 pub ask-spec : {M : Type 1} → statement M

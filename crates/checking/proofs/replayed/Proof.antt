@@ -35,7 +35,8 @@ same-length c = search needs
 
 returns-2 : tie.Need-returns-2
 returns-2 c =
-    steps-end _ (sym (c .before .before .before .before .before .before .before .before .before .count .ensures) ∙ ap openedOf (c .before .before .before .before .before .before .before .o2 .given .1))
+    steps-end _
+    (sym (c .before .before .before .before .before .before .before .before .before .count .ensures) ∙ ap openedOf (c .before .before .before .before .before .before .before .o2 .given .1))
     (c .before .before .before .before .check-run .ensures) (sym (ap verdictOf (c .enum-told .given .1)))
 
 same-length-2 : tie.Need-same-length-2
@@ -43,7 +44,8 @@ same-length-2 c = search needs
 
 returns-3 : tie.Need-returns-3
 returns-3 c =
-    steps-end _ (sym (c .before .before .before .before .before .before .before .before .before .before .count .ensures) ∙ ap openedOf (c .before .before .before .before .before .before .before .before .o2 .given .1))
+    steps-end _
+    (sym (c .before .before .before .before .before .before .before .before .before .before .count .ensures) ∙ ap openedOf (c .before .before .before .before .before .before .before .before .o2 .given .1))
     (c .before .before .before .before .before .check-run .ensures) (sym (ap verdictOf (c .before .v .given .1)))
 
 pub replayed-spec : {M : Type 1} → statement M

@@ -28,7 +28,9 @@ cast-value : tie.Need-cast-value
 cast-value c = search needs
 
 value-requires : tie.Need-value-requires
-value-requires c κs = (c .before .before .before .before .before .pre .0 .ready, (c .before .before .before .before .before .pre .0 .indexed .few, omega (arith, c .before .before .before .before .before .pre .1)))
+value-requires c κs =
+    let start = c .before .before .before .before .before in
+    (start .pre .0 .ready, (start .pre .0 .indexed .few, omega (arith, start .pre .1)))
 
 mul-point : tie.Need-mul-point
 mul-point c = search needs

@@ -29,7 +29,9 @@ same-length : tie.Need-same-length
 same-length c = search needs
 
 returns : tie.Need-returns
-returns c = solved-closed (c .before .before .before .before .before .before .before .before .before .before .before .start .ensures .1) (c .before .before .before .before .before .search .ensures) _ (c .enum-told .given .1)
+returns c =
+    solved-closed (c .before .before .before .before .before .before .before .before .before .before .before .start .ensures .1)
+    (c .before .before .before .before .before .search .ensures) _ (c .enum-told .given .1)
 
 same-length-2 : tie.Need-same-length-2
 same-length-2 c = search needs
@@ -39,7 +41,9 @@ same-length-3 c = search needs
 
 returns-2 : tie.Need-returns-2
 returns-2 c =
-    solved-model (c .before .before .before .before .before .before .before .before .before .before .before .before .before .before .before .before .start .ensures .1) (c .before .before .before .before .before .before .before .before .before .before .search .ensures) _
+    solved-model
+    (c .before .before .before .before .before .before .before .before .before .before .before .before .before .before .before .before .start .ensures .1)
+    (c .before .before .before .before .before .before .before .before .before .before .search .ensures) _
     (c .before .before .before .before .before .enum-told2 .given .1) (c .before .before .set-points .ensures)
 
 pub solve-spec : {M : Type 1} → statement M

@@ -53,7 +53,8 @@ same-length-2 c = search needs
 returns-2 : tie.Need-returns-2
 returns-2 c =
     let k = c .before .before .before .before .before .before .before .before .before .before .before .before .before in
-    ends _ _ _ _ (bytes (k .before .before .before .before .before .before)) (k .before .before .before .literal .ensures) (k .ask .ensures .prepared _ (c .before .before .before .before .before .before .before .before .before .before .a2 .given .1)) _
+    ends _ _ _ _ (bytes (k .before .before .before .before .before .before)) (k .before .before .before .literal .ensures)
+    (k .ask .ensures .prepared _ (c .before .before .before .before .before .before .before .before .before .before .a2 .given .1)) _
     (c .before .before .before .before .produce .ensures)
 
 pub derive-spec : {M : Type 1} → statement M

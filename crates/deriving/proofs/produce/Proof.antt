@@ -38,7 +38,8 @@ same-length c = search needs
 returns : tie.Need-returns
 returns c =
     let b = c .before .before .before .before .before .before .before in
-    produced-over _ _ _ _ (b .before .before .before .before .before .before .before .start .ensures .1) (b .before .before .before .room .ensures) (b .count .ensures) (c .before .before .tally .given .1) (omega arith)
+    produced-over _ _ _ _ (b .before .before .before .before .before .before .before .start .ensures .1) (b .before .before .before .room .ensures)
+    (b .count .ensures) (c .before .before .tally .given .1) (omega arith)
 
 slice-aggregate-start-2 : tie.Need-slice-aggregate-start-2
 slice-aggregate-start-2 c = search needs
@@ -59,7 +60,8 @@ write-requires c κs =
         s .pre .1 .0,
         (
           a .start2 .ensures .0,
-          fits _ _ _ _ (b .before .before .before .before .before .before .before .start .ensures .1) (b .before .before .before .room .ensures) (b .count .ensures) (a .before .before .before .before .before .tally .given .1)
+          fits _ _ _ _ (b .before .before .before .before .before .before .before .start .ensures .1) (b .before .before .before .room .ensures)
+              (b .count .ensures) (a .before .before .before .before .before .tally .given .1)
               (omega (arith, a .before .before .before .if1 .left)) (a .start2 .last .1 .1 .1 .0) (a .start2 .ensures .1),
         ),
       ),
@@ -83,7 +85,8 @@ returns-3 : tie.Need-returns-3
 returns-3 c =
     let a = c .before .before .before .before .before .before .before .before .before .before .before .before in
     let b = a .before .before .before .before .before .before .before .before .before .before in
-    produced-steps _ _ _ _ (b .before .before .before .before .before .before .before .start .ensures .1) (b .before .before .before .room .ensures) (b .count .ensures) (a .before .before .before .before .before .tally .given .1)
+    produced-steps _ _ _ _ (b .before .before .before .before .before .before .before .start .ensures .1) (b .before .before .before .room .ensures)
+    (b .count .ensures) (a .before .before .before .before .before .tally .given .1)
     (omega (arith, a .before .before .before .if1 .left)) (a .start2 .last .1 .1 .1 .0) (a .start2 .ensures .1) (c .before .before .before .before .before .write .ensures)
 
 pub produce-spec : {M : Type 1} → statement M
