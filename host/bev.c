@@ -81,6 +81,12 @@ static int print_overview(void)
     return DONE;
 }
 
+static int print_version(void)
+{
+    printf("bev %d.%d\n", BEV_VERSION_MAJOR, BEV_VERSION_MINOR);
+    return DONE;
+}
+
 static int print_help(const struct command *c)
 {
     printf("usage: bev %s %s\n\n%s.\n\n%s", c->name, c->arguments, c->summary, c->help);
@@ -90,7 +96,10 @@ static int print_help(const struct command *c)
 static int wrong_use(const struct command *c, const char *name, const char *cause)
 {
     complain(name, cause);
-    fprintf(stderr, c ? "usage: bev %s %s\n" : "try: bev --help\n", c ? c->name : "", c ? c->arguments : "");
+    if (c)
+        fprintf(stderr, "usage: bev %s %s\n", c->name, c->arguments);
+    else
+        fputs("try: bev --help\n", stderr);
     return FAILED;
 }
 
@@ -165,7 +174,7 @@ static int run(char **argument)
     if (strcmp(argument[1], "--help") == 0 || strcmp(argument[1], "-h") == 0 || strcmp(argument[1], "help") == 0)
         return help(argument[2]);
     if (strcmp(argument[1], "--version") == 0)
-        return printf("bev %d.%d\n", BEV_VERSION_MAJOR, BEV_VERSION_MINOR) < 0 ? FAILED : DONE;
+        return print_version();
     const struct command *c = find_command(argument[1]);
     return c ? run_command(c, argument + 2) : wrong_use(NULL, argument[1], "is no command");
 }

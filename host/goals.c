@@ -58,13 +58,10 @@ int run_decide(const struct words *w)
     int status = FAILED;
     if (parse_goal(w->word[1], &goal) && load_table(w->word[0], &table)) {
         bev_decided d = decide(&table, goal, settings);
-        if (d.number)
-            status = refuse(d.number, d.place, &of);
-        else if (d.possible)
-            status = tell_possible(&table, settings, w, &of);
-        else
-            status = puts("impossible") < 0 ? FAILED : IMPOSSIBLE;
+        status = d.number ? refuse(d.number, d.place, &of) : d.possible ? tell_possible(&table, settings, w, &of) : IMPOSSIBLE;
     }
+    if (status == IMPOSSIBLE)
+        puts("impossible");
     free(table.at);
     return status;
 }
@@ -109,11 +106,10 @@ int run_check(const struct words *w)
     int status = FAILED;
     if (parse_goal(w->word[1], &goal) && load_table(w->word[0], &table) && load(w->word[2], BEV_DERIVATION_MAX + 1, &file)) {
         bev_checked c = bev_check(table.at, table.len, goal, work, BEV_WORK, file.at, file.len);
-        if (c.number)
-            status = refuse(c.number, c.place, &(struct names){ w->word[0], w->word[1], w->word[2] });
-        else
-            status = puts("accepted") < 0 ? FAILED : DONE;
+        status = c.number ? refuse(c.number, c.place, &(struct names){ w->word[0], w->word[1], w->word[2] }) : DONE;
     }
+    if (status == DONE)
+        puts("accepted");
     free(file.at);
     free(table.at);
     return status;

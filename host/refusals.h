@@ -16,6 +16,7 @@ struct refusal {
 };
 
 #define READS_TABLE "count, record, evaluate, add, decide, derive, check"
+#define READS_STEPS "check, open, step"
 
 static const struct refusal refusals[] = {
     { 9, ABOUT_TABLE, "the used length is beyond the buffer", "0", "add" },
@@ -33,11 +34,11 @@ static const struct refusal refusals[] = {
     { 23, ABOUT_TABLE, "the work area is under 32,768 numbers", "0", "decide, derive, check" },
     { 30, ABOUT_GOAL, "the goal is possible", "0", "derive" },
     { 31, ABOUT_GOAL, "the derivation needs more bytes than were lent, or more than 65,536 blocks", "0", "derive" },
-    { 40, ABOUT_FILE, "the derivation's length is zero, no multiple of 512, or over 33,554,432", "0", "check, open" },
-    { 41, ABOUT_FILE, "the block's check is wrong", "block", "check, open" },
-    { 42, ABOUT_FILE, "the block's letter, index or count is wrong, or it is short but not the last", "block", "check, open" },
-    { 43, ABOUT_FILE, "a byte behind the block's steps is not zero", "block", "check, open" },
-    { 44, ABOUT_FILE, "the step's rule is unknown, or its position is not one of the rule", "step", "check, open" },
+    { 40, ABOUT_FILE, "the derivation's length is zero, no multiple of 512, or over 33,554,432", "0", READS_STEPS },
+    { 41, ABOUT_FILE, "the block's check is wrong", "block", READS_STEPS },
+    { 42, ABOUT_FILE, "the block's letter, index or count is wrong, or it is short but not the last", "block", READS_STEPS },
+    { 43, ABOUT_FILE, "a byte behind the block's steps is not zero", "block", READS_STEPS },
+    { 44, ABOUT_FILE, "the step's rule is unknown, or its position is not one of the rule", "step", READS_STEPS },
     { 45, ABOUT_FILE, "the condition of the step's rule does not hold", "step", "check" },
     { 46, ABOUT_FILE, "the derivation was complete before this step", "step", "check" },
     { 47, ABOUT_FILE, "the steps end with a branch open", "step count", "check" },

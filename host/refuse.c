@@ -15,7 +15,7 @@ static const struct refusal *find(uint16_t number)
 static const char *subject(const struct refusal *r, const struct names *of)
 {
     const char *name = r->about == ABOUT_GOAL ? of->goal : r->about == ABOUT_FILE ? of->file : of->table;
-    return strcmp(name, "-") == 0 ? "standard input" : name;
+    return !name ? "the input" : strcmp(name, "-") == 0 ? "standard input" : name;
 }
 
 /* Prints a refusal with its meaning, and of which argument it speaks. */

@@ -146,7 +146,41 @@ def checking(bev, folder, rounds):
                     put(d, derivation(tried))
                     says(bev, checked(records, goal, tried), "check", t, goal, d, about=f"{d}, step ")
                     explains(bev, records, goal, tried, t, d)
+    wording(bev, t, d)
     forms(bev, t, d)
+
+WORDS_18 = """U0 {18}, the goal: 18 is the one literal left, so it is held
+U1 {10}, of 18: 10 is the one literal left, so it is held
+U2 {16}, of 18: 16 is the one literal left, so it is held
+S1 1 is undecided: it is held, and 0 once its branch has closed
+  E3 {1, 2}, of 10: 1 is held, so the clause is struck
+  R4.0 {0, 3}, of 10: 0 is false, since 1 is held, and is struck
+  U4 {[0], 3}, of 10: 3 is the one literal left, so it is held
+  R6.0 {0, 2}, of 16: 0 is false, since 1 is held, and is struck
+  R6.1 {[0], 2}, of 16: 2 is false, since 3 is held, and is struck
+  C6 {[0], [2]}, of 16: every literal is struck, so the branch closes; now 0 is held
+R3.0 {1, 2}, of 10: 1 is false, since 0 is held, and is struck
+U3 {[1], 2}, of 10: 2 is the one literal left, so it is held
+R5.0 {1, 3}, of 16: 1 is false, since 0 is held, and is struck
+R5.1 {[1], 3}, of 16: 3 is false, since 2 is held, and is struck
+C5 {[1], [3]}, of 16: every literal is struck, so the branch closes, the last one
+"""
+WORDS_13 = """U0 {13}, the goal: 13 is the one literal left, so it is held
+C1 {}, of 13: it is empty, so the branch closes, the last one
+"""
+
+def wording(bev, t, d):
+    """Every rule in full, with an erasure, which the solver's order never has."""
+    put(t, table(A))
+    steps = search(A, 18)[1]
+    for goal, steps, words in ((18, steps[:4] + [("E", 0, 3)] + steps[4:], WORDS_18), (13, search(A, 13)[1], WORDS_13)):
+        put(d, derivation(steps))
+        bev.answers(ANSWERED, "accepted\n", "check", t, goal, d)
+        bev.answers(ANSWERED, words, "steps", d, t, goal)
+    put(d, derivation(steps + steps[-1:]))
+    bev.refuses(46, 2, "steps", d, t, 13, about=f"{d}, step 2", before=WORDS_13 + "C1 {}, of 13: may not stand here\n")
+    put(d, derivation(steps[:1]))
+    bev.refuses(47, 1, "steps", d, t, 13, about=f"{d}, step count 1", before=WORDS_13.split("\n")[0] + "\n")
 
 def forms(bev, t, d):
     """Rows 40 to 44, and the longest derivations."""

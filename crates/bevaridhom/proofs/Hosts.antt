@@ -1,13 +1,27 @@
 -- What a host is told of decide, derive, check and the DIMACS reader, whatever case the answer is. Assumes nothing.
 use mathlib.Core.Path.{_≡_, _∙_, ap, sym, refl}
+use mathlib.Core.Bool.{true}
 use mathlib.Core.List.{List}
-use Prim.Native.Nat.{ℕ, _≤_, _<_}
-use Rattle.scope.specs.Outcome.{Outcome, answer, refused, _>>=_}
-use Rattle.scope.proofs.Tests.{refused-no}
-use Rattle.calculus.specs.Decide.{decide}
+use mathlib.Core.Logic.{inl, inr}
+use Prim.Native.Nat.{ℕ, _*_, _≤_, _<_}
+use native.Mathlib.Omega.{arith}
+use lib.Dec.{ltb}
+use lib.ListN.{length, take}
+use borrow.Author.Tests.{lt-ltb}
+use Rattle.scope.specs.declared.Refusal.{Refusal}
+use Rattle.scope.specs.Outcome.{Outcome, answer, refused, fine, require, _>>=_}
+use Rattle.scope.specs.Truth.{truth}
+use Rattle.scope.specs.Calls.{settingsTest, evaluate}
+use Rattle.scope.proofs.Tests.{refused-no, then-first, then-next}
+use Rattle.codec.specs.Valid.{Bytes}
+use Rattle.codec.proofs.Bytes.{bytes-take}
+use Rattle.calculus.specs.Order.{impossible}
+use Rattle.calculus.specs.Decide.{Decided as Given, decide, Unsatisfiable, _⇔_}
+use Rattle.meaning.proofs.Decisions.{decide-exact}
+use Rattle.meaning.proofs.Numbers.{decide-numbered, derive-numbered, check-numbered}
 use Rattle.deciding.specs.declared.Decided.{Decided}
 use Rattle.deciding.specs.declared.Decided.the-variants.{Possible, Impossible, Refused}
-use Rattle.deciding.specs.Decides.{Word, wordOf, decidedOf, Decides}
+use Rattle.deciding.specs.Decides.{can, cannot, wordOf, decidedOf, Decides}
 use Rattle.rules.specs.Derive.{derive, check}
 use Rattle.deriving.specs.declared.Derived.{Derived}
 use Rattle.deriving.specs.declared.Derived.the-variants.{Steps, Refused as NotDerived}
@@ -16,60 +30,150 @@ use Rattle.checking.specs.declared.Checked.{Checked}
 use Rattle.checking.specs.declared.Checked.the-variants.{Accepted, Refused as NotAccepted}
 use Rattle.checking.specs.Checks.{checkedOf, Checks}
 use Rattle.adding.specs.declared.Added.{Added as Put}
+use Rattle.adding.specs.declared.Added.the-variants.{At, Refused as NotPut}
 use Rattle.adding.specs.Added.{addedOf}
+use Rattle.cnf.specs.Text.{File, fileOf}
+use Rattle.cnf.specs.Meaning.{clausesTrue}
+use Rattle.cnf.specs.Reader.{Means, Turns}
 use Rattle.cnfread.specs.Reads.{Reads}
-use Rattle.bevaridhom.specs.declared.BevDecided.{BevDecided}
-use Rattle.bevaridhom.specs.Answers.{decideAnswer, HostDecides, deriveAnswer, HostDerives, checkAnswer, HostChecks, markAnswer, HostReads}
+use Rattle.bevaridhom.specs.Answers.{decideAnswer, HostDecides, deriveAnswer, HostDerives, checkAnswer, HostChecks, markAnswer, Unmet, HostReads}
 
 same-number : {A : Type 0} {m n p q : ℕ} → _≡_ {A = Outcome A} (refused m p) (refused n q) → m ≡ n
 same-number e = cc
 
--- a refusal of the definition is one of the answer, which leaves the work area as it was
-kept : (t : List ℕ) (goal : ℕ) (s w s′ w′ : List ℕ) (d : Decided) → Decides t goal s w s′ w′ d
-    → (number place : ℕ) → decide t goal s w ≡ refused number place → w′ ≡ w
-kept t goal s w s′ w′ Possible h number place e = refused-no (sym (h .answered ∙ ap (_>>= λ d. answer (wordOf (d .verdict))) e))
-kept t goal s w s′ w′ Impossible h number place e = refused-no (sym (h .answered ∙ ap (_>>= λ d. answer (wordOf (d .verdict))) e))
-kept t goal s w s′ w′ (Refused f) h number place e = h .work f refl
+-- a refusal of what is made of an answer is the answer's
+of-refused : {A B : Type 0} (x : Outcome A) (f : A → B) {number place : ℕ} → refused number place ≡ (x >>= λ a. answer (f a)) → x ≡ refused number place
+of-refused (answer a) f e = refused-no e
+of-refused (refused m p) f e = cc
 
-pub told : (t : List ℕ) (goal : ℕ) (s w s′ w′ : List ℕ) (d : Decided) {d′ : Decided} → Decides t goal s w s′ w′ d → d ≡ d′
-    → HostDecides t goal s w s′ w′ (decideAnswer (decidedOf d′))
-told t goal s w s′ w′ d h e = record {
-  answered = ap (λ (x : Decided). decideAnswer (decidedOf x)) (sym e) ∙ ap decideAnswer (h .answered);
-  settings = h .settings;
-  work = kept t goal s w s′ w′ d h;
-}
+-- ---- decide
 
--- a refusal of the definition is that of the answer
-kept-derive : (t : List ℕ) (goal : ℕ) (w d w′ d′ : List ℕ) (r : Derived) → Derives t goal w d w′ d′ r
-    → (number place : ℕ) → derive t goal w d ≡ refused number place → number ≤ 23 → w′ ≡ w
-kept-derive t goal w d w′ d′ (Steps k) h number place e n = refused-no (sym (h .answered ∙ ap (_>>= λ x. answer (x .steps)) e))
-kept-derive t goal w d w′ d′ (NotDerived f) h number place e n =
-    let q : _≡_ {A = Outcome ℕ} (refused (f .number) (f .place)) (refused number place) = h .answered ∙ ap (_>>= λ x. answer (x .steps)) e in
-    h .work f refl (rw (same-number q) n)
+module _ (t : List ℕ) (goal : ℕ) (s w s′ w′ : List ℕ) where
+  -- of the definition, a refusal is one of the answer
+  decide-refused : (f : Refusal) → Decides t goal s w s′ w′ (Refused f) → decide t goal s w ≡ refused (f .number) (f .place)
+  decide-refused f h = of-refused (decide t goal s w) (λ d. wordOf (d .verdict)) (h .answered)
 
-pub told-derive : (t : List ℕ) (goal : ℕ) (w d w′ d′ : List ℕ) (r : Derived) {r′ : Derived} → Derives t goal w d w′ d′ r → r ≡ r′
-    → HostDerives t goal w d w′ d′ (deriveAnswer (derivedOf r′))
-told-derive t goal w d w′ d′ r h e = record {
-  answered = ap (λ (x : Derived). deriveAnswer (derivedOf x)) (sym e) ∙ ap deriveAnswer (h .answered);
-  bytes = h .bytes;
-  work = kept-derive t goal w d w′ d′ r h;
-}
+  decide-kept : (d : Decided) → Decides t goal s w s′ w′ d → (number place : ℕ) → decide t goal s w ≡ refused number place → w′ ≡ w
+  decide-kept Possible h number place e = refused-no (sym (h .answered ∙ ap (_>>= λ d. answer (wordOf (d .verdict))) e))
+  decide-kept Impossible h number place e = refused-no (sym (h .answered ∙ ap (_>>= λ d. answer (wordOf (d .verdict))) e))
+  decide-kept (Refused f) h number place e = h .work f refl
 
-kept-check : (t : List ℕ) (goal : ℕ) (w d w′ : List ℕ) (r : Checked) → Checks t goal w d w′ r
-    → (number place : ℕ) → check t goal w d ≡ refused number place → number < 45 → w′ ≡ w
-kept-check t goal w d w′ Accepted h number place e n = refused-no (sym (h .answered ∙ e))
-kept-check t goal w d w′ (NotAccepted f) h number place e n = h .work f refl (rw (same-number (h .answered ∙ e)) n)
+  exact-by : (d : Decided) → Decides t goal s w s′ w′ d → decideAnswer (decidedOf d) .number ≡ 0 → (decideAnswer (decidedOf d) .possible ≡ 0) ⇔ Unsatisfiable t goal
+  exact-by Possible h z =
+      (λ e. absurd (omega arith), λ none. absurd (let q : can ≡ cannot = h .exact can refl .1 none in let y : _≡_ {A = ℕ} 0 1 = cc in omega arith))
+  exact-by Impossible h z = (λ e. h .exact cannot refl .0 refl, λ none. refl)
+  exact-by (Refused f) h z = absurd (omega (arith, decide-numbered t goal s w .positive (f .number) (f .place) (decide-refused f h)))
 
-pub told-check : (t : List ℕ) (goal : ℕ) (w d w′ : List ℕ) (r : Checked) {r′ : Checked} → Checks t goal w d w′ r → r ≡ r′
-    → HostChecks t goal w d w′ (checkAnswer (checkedOf r′))
-told-check t goal w d w′ r h e = record {
-  answered = ap (λ (x : Checked). checkAnswer (checkedOf x)) (sym e) ∙ ap checkAnswer (h .answered);
-  work = kept-check t goal w d w′ r h;
-}
+  satisfied-by : (d : Decided) → Decides t goal s w s′ w′ d → decideAnswer (decidedOf d) .possible ≡ 1 → evaluate t goal s′ ≡ answer true
+  satisfied-by Possible h e = h .satisfied refl
+  satisfied-by Impossible h e = absurd (omega arith)
+  satisfied-by (Refused f) h e = absurd (omega arith)
 
-pub told-read : (text buf after : List ℕ) (v : Put) {v′ : Put} → Reads text buf v after → v ≡ v′ → HostReads text buf (markAnswer (addedOf v′)) after
-told-read text buf after v h e = record {
-  answered = ap (λ (x : Put). markAnswer (addedOf x)) (sym e) ∙ ap markAnswer (h .answered);
-  bytes = h .bytes;
-  kept = h .kept;
-}
+  pub told : (d : Decided) {d′ : Decided} → Decides t goal s w s′ w′ d → d ≡ d′ → HostDecides t goal s w s′ w′ (decideAnswer (decidedOf d′))
+  told d {d′} k e =
+      let h : Decides t goal s w s′ w′ d′ = rw e at k in
+      record {
+        answered = ap decideAnswer (h .answered);
+        settings = h .settings;
+        work = decide-kept d′ h;
+        exact = exact-by d′ h;
+        satisfied = satisfied-by d′ h;
+      }
+
+-- ---- derive
+
+module _ (t : List ℕ) (goal : ℕ) (w d w′ d′ : List ℕ) where
+  derive-kept : (r : Derived) → Derives t goal w d w′ d′ r → (number place : ℕ) → derive t goal w d ≡ refused number place → number ≤ 23 → w′ ≡ w
+  derive-kept (Steps k) h number place e n = refused-no (sym (h .answered ∙ ap (_>>= λ x. answer (x .steps)) e))
+  derive-kept (NotDerived f) h number place e n =
+      let q : _≡_ {A = Outcome ℕ} (refused (f .number) (f .place)) (refused number place) = h .answered ∙ ap (_>>= λ x. answer (x .steps)) e in
+      h .work f refl (rw (same-number q) n)
+
+  -- number 0 is that of a step count
+  by-steps : {P : ℕ → Type 0} (r : Derived) → Derives t goal w d w′ d′ r → ((k : ℕ) → r ≡ Steps k → P k)
+      → deriveAnswer (derivedOf r) .number ≡ 0 → P (deriveAnswer (derivedOf r) .steps)
+  by-steps (Steps k) h p e = p k refl
+  by-steps (NotDerived f) h p e =
+      absurd (omega (arith, derive-numbered t goal w d .positive (f .number) (f .place) (of-refused (derive t goal w d) (λ x. x .steps) (h .answered))))
+
+  pub told-derive : (r : Derived) {r′ : Derived} → Derives t goal w d w′ d′ r → r ≡ r′ → HostDerives t goal w d w′ d′ (deriveAnswer (derivedOf r′))
+  told-derive r {r′} k e =
+      let h : Derives t goal w d w′ d′ r′ = rw e at k in
+      record {
+        answered = ap deriveAnswer (h .answered);
+        bytes = h .bytes;
+        work = derive-kept r′ h;
+        never = by-steps r′ h (h .never);
+        accepted = by-steps r′ h (h .accepted);
+        published = by-steps r′ h (h .published);
+      }
+
+-- ---- check
+
+module _ (t : List ℕ) (goal : ℕ) (w d w′ : List ℕ) where
+  check-kept : (r : Checked) → Checks t goal w d w′ r → (number place : ℕ) → check t goal w d ≡ refused number place → number < 45 → w′ ≡ w
+  check-kept Accepted h number place e n = refused-no (sym (h .answered ∙ e))
+  check-kept (NotAccepted f) h number place e n = h .work f refl (rw (same-number (h .answered ∙ e)) n)
+
+  -- number 0 is that of an accepted derivation
+  by-accepted : (r : Checked) → Checks t goal w d w′ r → checkAnswer (checkedOf r) .number ≡ 0 → r ≡ Accepted
+  by-accepted Accepted h e = refl
+  by-accepted (NotAccepted f) h e = absurd (omega (arith, check-numbered t goal w d .positive (f .number) (f .place) (sym (h .answered))))
+
+  pub told-check : (r : Checked) {r′ : Checked} → Checks t goal w d w′ r → r ≡ r′ → HostChecks t goal w d w′ (checkAnswer (checkedOf r′))
+  told-check r {r′} k e =
+      let h : Checks t goal w d w′ r′ = rw e at k in
+      record {
+        answered = ap checkAnswer (h .answered);
+        work = check-kept r′ h;
+        never = λ z. h .never (by-accepted r′ h z);
+        published = λ z. h .published (by-accepted r′ h z);
+        ours = λ rs a q l s. ap (λ (y : Checked). checkAnswer (checkedOf y) .number) (h .ours rs a q l s);
+      }
+
+-- ---- the DIMACS reader
+
+-- a table whose goal means the file: no setting makes the one true exactly when none makes the other
+module _ (f : File) (goal used : ℕ) (after : List ℕ) (m : Means f goal used after) where
+  unmet : Unsatisfiable (take used after) goal ⇔ Unmet f
+  unfolding evaluate
+  unmet = (
+    λ none v test e. none v (rw (m .readable, lt-ltb goal (2 * length (m .nodes)) (m .inside), test) (ap answer (m .truths v ∙ e))),
+    λ none v e.
+        let a = then-next (require (ltb goal (2 * length (m .nodes))) 20 0) _ (rw (m .readable) at e) in
+        let z : answer (truth v (m .nodes) goal) ≡ answer true = then-next (settingsTest v) _ a in
+        let q : truth v (m .nodes) goal ≡ true = cc in
+        none v (then-first (settingsTest v) _ a) (sym (m .truths v) ∙ q),
+  )
+
+same-file : (text : List ℕ) (f g : File) → fileOf text ≡ answer f → fileOf text ≡ answer g → f ≡ g
+same-file text f g p q = cc
+
+positive : (number : ℕ) → Turns number → 0 < number
+positive number (inl (inl e)) = omega arith
+positive number (inl (inr e)) = omega arith
+positive number (inr (inl e)) = omega arith
+positive number (inr (inr e)) = omega arith
+
+module _ (text buf after : List ℕ) (all : Bytes after) where
+  means-by : (v : Put) → Reads text buf v after → markAnswer (addedOf v) .number ≡ 0
+      → (f : File) × (fileOf text ≡ answer f) × Means f (markAnswer (addedOf v) .literal) (markAnswer (addedOf v) .used) after
+  means-by (At m) h e = h .means m refl
+  means-by (NotPut r) h e = absurd (omega (arith, positive (r .number) (h .turns r refl)))
+
+  pub told-read : (v : Put) {v′ : Put} → Reads text buf v after → v ≡ v′ → HostReads text buf (markAnswer (addedOf v′)) after
+  told-read v {v′} k e =
+      let h : Reads text buf v′ after = rw e at k in
+      let a = markAnswer (addedOf v′) in
+      record {
+        answered = ap markAnswer (h .answered);
+        bytes = h .bytes;
+        kept = h .kept;
+        means = means-by v′ h;
+        exact = λ z f q s w d y.
+            let b = means-by v′ h z in
+            let u = unmet (b .0) (a .literal) (a .used) after (b .2) in
+            let x = decide-exact (take (a .used) after) (a .literal) s w (bytes-take (a .used) after all) y in
+            let g : b .0 ≡ f = same-file text (b .0) f (b .1) q in
+            rw (← g) (λ c. u .0 (x .0 c), λ none. x .1 (u .1 none));
+      }

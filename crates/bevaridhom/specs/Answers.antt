@@ -1,17 +1,22 @@
 -- The answers for a host in C: number 0 and the values, or the refusal's number and place and every value 0. Assumes nothing.
 use mathlib.Core.Path.{_≡_}
 use mathlib.Core.Bool.{Bool, true, false}
-use mathlib.Core.List.{List}
+use mathlib.Core.List.{List, [], _∷_}
 use Prim.Native.Nat.{ℕ, _≤_, _<_}
+use lib.ListN.{length, take}
 use Rattle.scope.specs.declared.Node.{Node}
-use Rattle.scope.specs.Outcome.{Outcome, answer, refused, _>>=_}
-use Rattle.scope.specs.Calls.{Added}
-use Rattle.calculus.specs.Decide.{decide, settingsAfter}
-use Rattle.rules.specs.Derive.{derive, derivedAfter, check}
+use Rattle.scope.specs.Outcome.{Outcome, answer, refused, fine, _>>=_}
+use Rattle.scope.specs.Calls.{Added, settingsTest, evaluate}
+use Rattle.calculus.specs.Order.{impossible, answerOf}
+use Rattle.calculus.specs.Decide.{searchOf, Decided, asked, decide, settingsAfter, Unsatisfiable, _⇔_}
+use Rattle.rules.specs.Steps.{encodeSteps}
+use Rattle.rules.specs.Derive.{derivationOf, blocks, derive, derivedAfter, check}
+use Rattle.published.specs.Bytes.{PublishedBytes}
 use Rattle.deciding.specs.Decides.{Word, can, cannot, nothing, wordOf}
 use Rattle.adding.specs.declared.Mark.{Mark}
-use Rattle.cnf.specs.Text.{fileOf}
-use Rattle.cnf.specs.Reader.{dimacs}
+use Rattle.cnf.specs.Text.{File, fileOf}
+use Rattle.cnf.specs.Meaning.{clausesTrue}
+use Rattle.cnf.specs.Reader.{dimacs, Means}
 use Rattle.adding.specs.Added.{marked}
 use Rattle.bevaridhom.specs.declared.BevCount.{BevCount}
 use Rattle.bevaridhom.specs.declared.BevRecord.{BevRecord}
@@ -58,31 +63,43 @@ abbrev pub decideAnswer : Outcome Word → BevDecided
 decideAnswer (answer x) = record { number = 0; place = 0; possible = wordBit x }
 decideAnswer (refused n p) = record { number = n; place = p; possible = 0 }
 
--- decide for a host: its answer, the settings bytes, and a work area that a refusal leaves as it was
+-- decide for a host: its answer, the settings bytes, a work area that a refusal leaves as it was, and what the answer means: possible 0
+-- exactly when no setting makes the goal true, and with 1 bev_evaluate of the settings answers yes
 pub record HostDecides (t : List ℕ) (goal : ℕ) (s w s′ w′ : List ℕ) (r : BevDecided) : Type 0 where
   pub answered : r ≡ decideAnswer (decide t goal s w >>= λ d. answer (wordOf (d .verdict)))
   pub settings : s′ ≡ settingsAfter s (decide t goal s w)
   pub work : (number place : ℕ) → decide t goal s w ≡ refused number place → w′ ≡ w
+  pub exact : r .number ≡ 0 → (r .possible ≡ 0) ⇔ Unsatisfiable t goal
+  pub satisfied : r .possible ≡ 1 → evaluate t goal s′ ≡ answer true
 
 abbrev pub deriveAnswer : Outcome ℕ → BevDerived
 deriveAnswer (answer n) = record { number = 0; place = 0; steps = n }
 deriveAnswer (refused n p) = record { number = n; place = p; steps = 0 }
 
--- derive for a host: its step count, the derivation bytes, and a work area that a refusal up to row 23 leaves as it was
+-- derive for a host: its step count, the derivation bytes, a work area that a refusal up to row 23 leaves as it was, and what the
+-- derivation means: no setting makes the goal true, bev_check accepts it, and it is one by the published rules
 pub record HostDerives (t : List ℕ) (goal : ℕ) (w d w′ d′ : List ℕ) (r : BevDerived) : Type 0 where
   pub answered : r ≡ deriveAnswer (derive t goal w d >>= λ x. answer (x .steps))
   pub bytes : d′ ≡ derivedAfter d (derive t goal w d)
   pub work : (number place : ℕ) → derive t goal w d ≡ refused number place → number ≤ 23 → w′ ≡ w
+  pub never : r .number ≡ 0 → Unsatisfiable t goal
+  pub accepted : r .number ≡ 0 → check t goal w (blocks (r .steps) d′) ≡ fine
+  pub published : r .number ≡ 0 → PublishedBytes t goal (blocks (r .steps) d′)
 
 -- 0 is 'accepted'
 abbrev pub checkAnswer : Outcome (Unit {0}) → BevChecked
 checkAnswer (answer u) = record { number = 0; place = 0 }
 checkAnswer (refused n p) = record { number = n; place = p }
 
--- check for a host: its answer, and a work area that a refusal before the first step leaves as it was
+-- check for a host: its answer, a work area that a refusal before the first step leaves as it was, and what number 0 means: no setting
+-- makes the goal true, and the steps are those of a derivation by the published rules; the solver's own derivation has it
 pub record HostChecks (t : List ℕ) (goal : ℕ) (w d w′ : List ℕ) (r : BevChecked) : Type 0 where
   pub answered : r ≡ checkAnswer (check t goal w d)
   pub work : (number place : ℕ) → check t goal w d ≡ refused number place → number < 45 → w′ ≡ w
+  pub never : r .number ≡ 0 → Unsatisfiable t goal
+  pub published : r .number ≡ 0 → PublishedBytes t goal d
+  pub ours : (rs : List Node) → asked t (goal ∷ []) 0 0 (length w) ≡ answer rs → answerOf (searchOf rs (goal ∷ [])) ≡ impossible
+      → length (encodeSteps (derivationOf rs (goal ∷ []))) ≤ 33554432 → d ≡ encodeSteps (derivationOf rs (goal ∷ [])) → r .number ≡ 0
 
 abbrev pub openAnswer : Outcome ℕ → BevOpened
 openAnswer (answer n) = record { number = 0; place = 0; steps = n }
@@ -94,9 +111,17 @@ stepAnswer (answer (one s)) = record { number = 0; place = 0; left = 1; rule = s
 stepAnswer (answer none) = record { number = 0; place = 0; left = 0; rule = 0; position = 0; value = 0 }
 stepAnswer (refused n p) = record { number = n; place = p; left = 0; rule = 0; position = 0; value = 0 }
 
+-- no setting makes the file true
+abbrev pub Unmet : File → Type 0
+Unmet f = (v : List ℕ) → settingsTest v ≡ fine → clausesTrue v (f .clauses) ≡ true → ⊥
+
 -- the DIMACS reader for a host: the goal literal and the used length; the table's bytes; 60 and 61 change no byte, and after 51 or 52
--- the buffer is free
+-- the buffer is free; with number 0 the table reads, 'The goal's truth equals the file's under every setting', and so decide calls the
+-- goal impossible exactly when no setting makes the file true
 pub record HostReads (text buf : List ℕ) (r : BevAdded) (after : List ℕ) : Type 0 where
   pub answered : r ≡ addAnswer (dimacs text buf)
   pub bytes : (x : Added) → dimacs text buf ≡ answer x → after ≡ x .bytes
   pub kept : (number place : ℕ) → fileOf text ≡ refused number place → after ≡ buf
+  pub means : r .number ≡ 0 → (f : File) × (fileOf text ≡ answer f) × Means f (r .literal) (r .used) after
+  pub exact : r .number ≡ 0 → (f : File) → fileOf text ≡ answer f → (s w : List ℕ) (d : Decided) → decide (take (r .used) after) (r .literal) s w ≡ answer d
+      → (d .verdict ≡ impossible) ⇔ Unmet f

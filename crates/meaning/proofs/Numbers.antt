@@ -1,91 +1,140 @@
 -- No refusal has the number 0, which tells a host that a call has answered. Assumes nothing.
-use mathlib.Core.Path.{_≡_, refl}
+use mathlib.Core.Path.{_≡_, refl, sym}
 use mathlib.Core.Bool.{Bool, true, false, not}
 use mathlib.Core.List.{List, [], _∷_}
-use Prim.Native.Nat.{ℕ, zero, suc, _<_}
+use Prim.Native.Nat.{ℕ, zero, suc, _+_, _*_, _/_, _<_}
 use native.Mathlib.Omega.{arith}
-use lib.ListN.{length}
-use Rattle.scope.specs.declared.Node.{Node}
-use Rattle.scope.specs.Outcome.{Outcome, answer, refused, require, first, _>>_, _>>=_}
-use Rattle.scope.specs.Block.{blockTest, recordsIn}
-use Rattle.scope.specs.Table.{readRecord, recordTest, blockRows, tableTest, decode}
+use lib.Dec.{eqb, leb, ltb}
+use lib.ListN.{length, getD}
+use Rattle.scope.specs.declared.Format.{Format}
+use Rattle.scope.specs.Outcome.{Outcome, answer, refused, fine, require, first, _>>_, _>>=_}
+use Rattle.scope.specs.Block.{wordAt, checkOk, headOk, paddingOk, blockTest, blockAt, recordAt, recordsIn}
+use Rattle.scope.specs.Table.{tables, nodeOf, nodeAt, formOk, rangeOk, orderOk, readRecord, repeats, recordTest, lengthOk, blockRows, tableTest, listFrom, decode}
+use Rattle.scope.proofs.Tests.{refused-no}
 use Rattle.calculus.specs.Expansion.{expand}
-use Rattle.calculus.specs.Order.{Answer, answerOf}
-use Rattle.calculus.specs.Decide.{nodesOf, goalRow, rowsTest, asked, decide}
+use Rattle.calculus.specs.Order.{answerOf}
+use Rattle.calculus.specs.Decide.{nodesOf, searchOf, goalRow, goalsTest, rowsTest, asked, decided, decide}
 use Rattle.rules.specs.declared.Step.{Step}
-use Rattle.rules.specs.Steps.{formTest, decodeSteps}
-use Rattle.rules.specs.Rules.{Progress, running, complete, advance, ended, run, apply}
-use Rattle.rules.specs.Derive.{checked, check}
+use Rattle.rules.specs.Steps.{derivations, stepAt, stepOk, sizeOk, formTest, decodeSteps, encodeSteps}
+use Rattle.rules.specs.Rules.{Progress, running, complete, root, apply, advance, ended, run, accepts}
+use Rattle.rules.specs.Derive.{derivationOf, isImpossible, derived, derive, checked, check}
 
--- a refusal's number is not 0
-abbrev pub Numbered : {A : Type 0} → Outcome A → Type 0
-Numbered (answer a) = Unit {0}
-Numbered (refused number place) = 0 < number
+pub record Numbered {A : Type 0} (x : Outcome A) : Type 0 where
+  pub positive : (number place : ℕ) → x ≡ refused number place → 0 < number
+
+module _ {A : Type 0} where
+  gives : (a : A) → Numbered (answer a)
+  gives a = record { positive = λ number place e. refused-no (sym e) }
+
+  refuses : (number place : ℕ) → 0 < number → Numbered {A = A} (refused number place)
+  refuses number place h = record { positive = λ m q e. let z : number ≡ m = cc in omega arith }
+
+  -- one row, and what comes after it
+  rowed : (t : Bool) (number place : ℕ) (next : Outcome A) → 0 < number → Numbered next → Numbered (require t number place >> next)
+  rowed true number place next h k = k
+  rowed false number place next h k = refuses number place h
+
+  also : (x : Outcome (Unit {0})) (y : Outcome A) → Numbered x → Numbered y → Numbered (x >> y)
+  also (answer tt) y h k = k
+  also (refused number place) y h k = refuses number place (h .positive number place refl)
+
+  then : {B : Type 0} (x : Outcome B) (f : B → Outcome A) → Numbered x → ((b : B) → Numbered (f b)) → Numbered (x >>= f)
+  then (answer b) f h k = k b
+  then (refused number place) f h k = refuses number place (h .positive number place refl)
 
 row : (t : Bool) (number place : ℕ) → 0 < number → Numbered (require t number place)
-row true number place h = tt
-row false number place h = h
-
-also : {A B : Type 0} (x : Outcome A) (y : Outcome B) → Numbered x → Numbered y → Numbered (x >> y)
-also (answer a) y h k = k
-also (refused number place) y h k = h
-
-then : {A B : Type 0} (x : Outcome A) (f : A → Outcome B) → Numbered x → ((a : A) → Numbered (f a)) → Numbered (x >>= f)
-then (answer a) f h k = k a
-then (refused number place) f h k = h
+row true number place h = gives tt
+row false number place h = refuses number place h
 
 each : (f : ℕ → Outcome (Unit {0})) → ((i : ℕ) → Numbered (f i)) → (n i : ℕ) → Numbered (first f i n)
 unfolding first
-each f h zero i = tt
+each f h zero i = gives tt
 each f h (suc n) i = also (f i) (first f (suc i) n) (h i) (each f h n (suc i))
+
+block-numbered : (F : Format) (b : List ℕ) (j : ℕ) (last : Bool) → 0 < F .number → Numbered (blockTest F b j last)
+unfolding blockTest
+block-numbered F b j last h =
+    rowed (checkOk b) (F .number) j _ h
+    (rowed (headOk F b j last) (F .number + 1) j _ (omega arith) (row (paddingOk F b) (F .number + 2) j (omega arith)))
 
 -- ---- tables
 
-record-numbered : (r : List ℕ) (n : ℕ) → Numbered (readRecord r n)
-unfolding readRecord
-record-numbered r n = also _ _ (row _ 14 n (omega arith)) (also _ _ (row _ 15 n (omega arith)) (also _ _ (row _ 16 n (omega arith)) tt))
+record-numbered : (t : List ℕ) (n : ℕ) → Numbered (recordTest t n)
+unfolding recordTest readRecord
+record-numbered t n =
+    let r : List ℕ = recordAt tables t n in
+    then₁ (readRecord r n) (rowed (formOk (nodeOf r) (getD r 1 0) (wordAt r 6)) 14 n _ (omega arith)
+    (rowed (rangeOk (nodeOf r) n) 15 n _ (omega arith) (rowed (orderOk (nodeOf r)) 16 n (answer (nodeOf r)) (omega arith) (gives (nodeOf r)))))
+    (row (not (repeats t n)) 17 n (omega arith))
+  where
+    then₁ : {A : Type 0} (x : Outcome A) → Numbered x → Numbered (require (not (repeats t n)) 17 n) → Numbered (x >> require (not (repeats t n)) 17 n)
+    then₁ (answer a) h k = k
+    then₁ (refused number place) h k = refuses number place (h .positive number place refl)
+
+blocks-numbered : (t : List ℕ) (j : ℕ) → Numbered (blockRows t j)
+unfolding blockRows
+blocks-numbered t j =
+    also (blockTest tables (blockAt t j) j (eqb (suc j) (length t / 512))) (first (recordTest t) (63 * j) (getD (blockAt t j) 1 0))
+    (block-numbered tables (blockAt t j) j (eqb (suc j) (length t / 512)) (omega arith))
+    (each (recordTest t) (record-numbered t) (getD (blockAt t j) 1 0) (63 * j))
 
 table-numbered : (t : List ℕ) → Numbered (decode t)
-unfolding decode tableTest blockRows blockTest recordTest
+unfolding decode tableTest
 table-numbered t =
-    also _ _
-    (also _ _ (row _ 10 0 (omega arith))
-    (each _ (λ j. also _ _ (also _ _ (row _ 11 j (omega arith)) (also _ _ (row _ 12 j (omega arith)) (row _ 13 j (omega arith))))
-    (each _ (λ n. also _ _ (record-numbered _ n) (row _ 17 n (omega arith))) _ _)) _ _))
-    tt
+    also (tableTest t) (answer (listFrom (nodeAt t) 0 (recordsIn tables t)))
+    (rowed (lengthOk (length t)) 10 0 (first (blockRows t) 0 (length t / 512)) (omega arith) (each (blockRows t) (blocks-numbered t) (length t / 512) 0))
+    (gives (listFrom (nodeAt t) 0 (recordsIn tables t)))
 
 asked-numbered : (t goals : List ℕ) (needed points area : ℕ) → Numbered (asked t goals needed points area)
 unfolding asked rowsTest
 asked-numbered t goals needed points area =
     then (decode t) _ (table-numbered t)
-    (λ rs. also _ _
-    (also _ _ (each (goalRow (length rs) goals) (λ i. row _ 20 i (omega arith)) (length goals) 0) (also _ _ (row _ 21 0 (omega arith)) (row _ 23 0 (omega arith))))
-    tt)
+    (λ rs. also (rowsTest (length rs) goals needed points area) (answer rs)
+    (also (goalsTest (length rs) goals) _ (each (goalRow (length rs) goals) (λ i. row (ltb (getD goals i 0) (2 * length rs)) 20 i (omega arith)) (length goals) 0)
+    (rowed (leb needed points) 21 0 _ (omega arith) (row (leb 32768 area) 23 0 (omega arith))))
+    (gives rs))
 
--- ---- check
+-- ---- the calls
+
+pub decide-numbered : (t : List ℕ) (goal : ℕ) (s w : List ℕ) → Numbered (decide t goal s w)
+unfolding decide
+decide-numbered t goal s w =
+    then (asked t (goal ∷ []) 1024 (length s) (length w)) _ (asked-numbered t (goal ∷ []) 1024 (length s) (length w))
+    (λ rs. gives (decided rs (goal ∷ []) s))
+
+pub derive-numbered : (t : List ℕ) (goal : ℕ) (w d : List ℕ) → Numbered (derive t goal w d)
+unfolding derive derived
+derive-numbered t goal w d =
+    then (asked t (goal ∷ []) 0 0 (length w)) _ (asked-numbered t (goal ∷ []) 0 0 (length w))
+    (λ rs.
+    let size : ℕ = length (encodeSteps (derivationOf rs (goal ∷ []))) in
+    rowed (isImpossible (answerOf (searchOf rs (goal ∷ [])))) 30 0 _ (omega arith)
+    (rowed (leb size (length d)) 31 0 _ (omega arith) (rowed (leb size 33554432) 31 0 _ (omega arith) (gives _))))
+
+form-numbered : (d : List ℕ) → Numbered (decodeSteps d)
+unfolding decodeSteps formTest
+form-numbered d =
+    also (formTest d) _
+    (rowed (sizeOk (length d)) 40 0 _ (omega arith)
+    (also (first (λ j. blockTest derivations (blockAt d j) j (eqb (suc j) (length d / 512))) 0 (length d / 512)) _
+    (each _ (λ j. block-numbered derivations (blockAt d j) j (eqb (suc j) (length d / 512)) (omega arith)) (length d / 512) 0)
+    (each (λ k. require (stepOk (stepAt d k)) 44 k) (λ k. row (stepOk (stepAt d k)) 44 k (omega arith)) (recordsIn derivations d) 0)))
+    (gives _)
 
 run-numbered : (e : ℕ → List (List ℕ)) (goals : List ℕ) (n i : ℕ) (ss : List Step) (p : Progress) → Numbered (run e goals n i ss p)
 unfolding run ended advance
-run-numbered e goals n i [] complete = tt
-run-numbered e goals n i [] (running b waiting) = omega arith
-run-numbered e goals n i (s ∷ ss) complete = omega arith
+run-numbered e goals n i [] complete = gives tt
+run-numbered e goals n i [] (running b waiting) = refuses 47 i (omega arith)
+run-numbered e goals n i (s ∷ ss) complete = refuses 46 i (omega arith)
 run-numbered e goals n i (s ∷ ss) (running b waiting) = go (apply e goals n s b waiting) refl (run-numbered e goals n (suc i) ss)
   where
     go : (o : Outcome Progress) → apply e goals n s b waiting ≡ o → ((p : Progress) → Numbered (run e goals n (suc i) ss p))
         → Numbered (run e goals n i (s ∷ ss) (running b waiting))
     go (answer p) q r = rw q (r p)
-    go (refused number place) q r = rw q (omega arith)
+    go (refused number place) q r = rw q (refuses 45 i (omega arith))
 
 pub check-numbered : (t : List ℕ) (goal : ℕ) (w d : List ℕ) → Numbered (check t goal w d)
-unfolding check checked decodeSteps formTest blockTest
+unfolding check checked
 check-numbered t goal w d =
     then (asked t (goal ∷ []) 0 0 (length w)) _ (asked-numbered t (goal ∷ []) 0 0 (length w))
-    (λ rs. then (decodeSteps d) _
-    (also _ _ (also _ _ (row _ 40 0 (omega arith))
-    (also _ _ (each _ (λ j. also _ _ (row _ 41 j (omega arith)) (also _ _ (row _ 42 j (omega arith)) (row _ 43 j (omega arith)))) _ _)
-    (each _ (λ k. row _ 44 k (omega arith)) _ _))) tt)
-    (λ ss. run-numbered (expand (nodesOf rs)) (goal ∷ []) (length rs) 0 ss _))
-
-pub decide-numbered : (t : List ℕ) (goal : ℕ) (s w : List ℕ) → Numbered (decide t goal s w)
-unfolding decide
-decide-numbered t goal s w = then (asked t (goal ∷ []) 1024 (length s) (length w)) _ (asked-numbered t (goal ∷ []) 1024 (length s) (length w)) (λ rs. tt)
+    (λ rs. then (decodeSteps d) _ (form-numbered d) (λ ss. run-numbered (expand (nodesOf rs)) (goal ∷ []) (length rs) 0 ss (running root [])))

@@ -17,13 +17,13 @@ same-length : tie.Need-same-length
 same-length c = search needs
 
 returns : tie.Need-returns
-returns c = told-read _ _ _ _ (c .before .before .before .before .before .read .ensures) (c .before .c .given .1)
+returns c = told-read _ _ _ (λ i. c .before .before .before .slice-known2 .given i .fits) _ (c .before .before .before .before .before .read .ensures) (c .before .c .given .1)
 
 same-length-2 : tie.Need-same-length-2
 same-length-2 c = search needs
 
 returns-2 : tie.Need-returns-2
-returns-2 c = told-read _ _ _ _ (c .before .before .before .before .before .read .ensures) (c .before .c2 .given .1)
+returns-2 c = told-read _ _ _ (λ i. c .before .before .before .slice-known2 .given i .fits) _ (c .before .before .before .before .before .read .ensures) (c .before .c2 .given .1)
 
 pub bev-dimacs-spec : {M : Type 1} → statement M
 bev-dimacs-spec = tie.close (tie.spec read-requires enum-known-c enum-known-c-2 same-length returns same-length-2 returns-2)
