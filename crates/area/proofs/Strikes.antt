@@ -10,8 +10,8 @@ use lib.Dec.{eqb}
 use lib.ListN.{length, getD, set, length-set}
 use lib.Seq.{getD-set-same, getD-set-other}
 use borrow.Author.Tests.{eq-eqb, ne-eqb}
-use Rattle.scope.specs.Count.{tally}
-use Rattle.scope.proofs.Tally.{tally-less}
+use Rattle.calculus.specs.Count.{tally}
+use Rattle.calculus.proofs.Tally.{tally-less}
 use Rattle.calculus.specs.Order.{mem}
 use Rattle.calculus.proofs.Literals.{mem-same, mem-other, mem-later}
 use Rattle.area.specs.Area.{areaSize, mostSlots, strikesFrom, countsFrom, whole, newest, strikeAt, linkAt, Struck}

@@ -68,9 +68,7 @@ pub fn find(t: &[u8], nodes: usize, x: Node) -> usize
 {
     let mut n = 0;
     while n < nodes {
-        let at = record::place(n);
-        let end = at + 8;
-        if same(record::fields(&t[at..end]), x) {
+        if same(record::node_at(t, n), x) {
             return n;
         }
         n += 1;

@@ -1,9 +1,9 @@
 // Records: where they stand in a table, and reading one.
 ghost use mathlib.Core.Path.{_≡_};
-ghost use Prim.Native.Nat.{_<_};
+ghost use Prim.Native.Nat.{_+_, _<_, _≤_};
 ghost use lib.ListN.{length};
 ghost use Rattle.scope.specs.Outcome.{verdictOf};
-ghost use Rattle.scope.specs.Table.{nodeOf, formOk, rangeOk, orderOk, readRecord};
+ghost use Rattle.scope.specs.Table.{nodeOf, nodeAt, formOk, rangeOk, orderOk, readRecord};
 ghost use Rattle.record.specs.Place.{placeOf};
 ghost use Rattle.record.specs.Read.{readOf, readVerdict};
 use scope::Node;
@@ -85,6 +85,16 @@ pub fn fields(r: &[u8]) -> Node
     let a = words::word(r, 2);
     let b = words::word(r, 4);
     Node { kind: r[0], a, b }
+}
+
+// Node n of a table: the fields of its record.
+pub fn node_at(t: &[u8], n: usize) -> Node
+    requires { ⌜ (n < 65536) × (placeOf n + 8 ≤ length (now t)) ⌝ }
+    ensures { λ x. ⌜ x ≡ nodeAt (now (t .entry)) n ⌝ }
+{
+    let at = place(n);
+    let end = at + 8;
+    fields(&t[at..end])
 }
 
 // The record of node n: its node or its refusal.

@@ -19,9 +19,7 @@ fn key_at(t: &[u8], n: usize) -> u64
     requires { ⌜ (n < 2016) × (placeOf n + 8 ≤ length (now t)) ⌝ }
     ensures { λ r. ⌜ r ≡ keyOf (nodeAt (now (t .entry)) n) ⌝ }
 {
-    let at = record::place(n);
-    let end = at + 8;
-    key(record::fields(&t[at..end]))
+    key(record::node_at(t, n))
 }
 
 // Whether a node before node n has the key of node n, k.

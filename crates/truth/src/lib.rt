@@ -87,9 +87,7 @@ fn node_truths(t: &[u8], s: &[u8], v: &mut [bool], nodes: usize)
 {
     let mut n = 0;
     while n < nodes {
-        let at = record::place(n);
-        let end = at + 8;
-        let x = record::fields(&t[at..end]);
+        let x = record::node_at(t, n);
         v[n] = node_truth(s, v, x);
         n += 1;
     }

@@ -3,9 +3,8 @@ use mathlib.Core.Path.{_≡_, _∙_, ap, sym}
 use Prim.Native.Nat.{_+_, _-_, _≤_}
 use native.Mathlib.Nat.{sub-zero, zero-add}
 use Rattle.scope.specs.declared.Node.{Node}
-use Rattle.scope.specs.Table.{tables, sameNode, nodeOf, nodeAt, listFrom}
+use Rattle.scope.specs.Table.{sameNode, nodeAt, listFrom}
 use Rattle.scope.specs.Calls.{indexOf}
-use Rattle.scope.proofs.Records.{part-record}
 use Rattle.lookup.proofs.Finds.{found, passed, none}
 use native.Mathlib.Omega.{arith}
 use borrow.Author.Needs.{needs}
@@ -18,44 +17,24 @@ Inv-loop t nodes x n₀ n = (n ≤ nodes) × (n + indexOf x (listFrom (nodeAt t)
 abbrev μ-loop : tie.MeasureT-loop
 μ-loop t nodes x n₀ n = nodes - n
 
--- what a turn compares: node n and x
-compared : (c : tie.After-same Inv-loop μ-loop) → let at-loop = c .before .before .before .before .before in let start = at-loop .before .before in
-    c .same .result ≡ sameNode (nodeAt (start .args .t .now) (at-loop .loop .n)) (start .args .x)
-compared c =
-    let at-place = c .before .before .before in
-    let at-loop = at-place .before .before in
-    let start = at-loop .before .before in
-    let a = start .args in
-    c .same .ensures ∙ ap (λ (y : Node). sameNode y (a .x)) (c .before .fields .ensures ∙ ap nodeOf (part-record tables (a .t .now) (at-loop .loop .n) _ (at-place .place .ensures)))
-
 loop-holds : tie.Need-loop-holds Inv-loop μ-loop
 loop-holds c = (search needs, simp (sub-zero, zero-add))
 
-place-requires : tie.Need-place-requires Inv-loop μ-loop
-place-requires c κs = search needs
-
-add-end : tie.Need-add-end Inv-loop μ-loop
-add-end c = omega (arith, c .place .ensures)
-
-sub-fields : tie.Need-sub-fields Inv-loop μ-loop
-sub-fields c = search needs
-
-part-fields-start : tie.Need-part-fields-start Inv-loop μ-loop
-part-fields-start c = search needs
-
-part-fields-end : tie.Need-part-fields-end Inv-loop μ-loop
-part-fields-end c = rw (c .place .ensures) (c .before .before .before .before .pre .1 _ (c .before .loop-test .taken))
-
-fields-requires : tie.Need-fields-requires Inv-loop μ-loop
-fields-requires c κs = search needs
+node-at-requires : tie.Need-node-at-requires Inv-loop μ-loop
+node-at-requires c κs = (omega (arith, c .before .before .before .pre .0, c .loop-test .taken), c .before .before .before .pre .1 _ (c .loop-test .taken))
 
 same-requires : tie.Need-same-requires Inv-loop μ-loop
 same-requires c κs = search needs
 
+-- what a turn compares: node n and x
+compared : (c : tie.After-same Inv-loop μ-loop) → let at-loop = c .before .before .before in let start = at-loop .before .before in
+    c .same .result ≡ sameNode (nodeAt (start .args .t .now) (at-loop .loop .n)) (start .args .x)
+compared c = c .same .ensures ∙ ap (λ (y : Node). sameNode y (c .before .before .before .before .before .args .x)) (c .before .node-at .ensures)
+
 returns : tie.Need-returns Inv-loop μ-loop
 returns c =
-    let at = c .before .before .before .before .before .before .loop in
-    sym (found _ _ _ _ (c .before .before .before .before .before .loop-test .taken) (sym (compared (c .before)) ∙ c .if1 .taken)) ∙ at .inv .1
+    let at = c .before .before .before .before .loop in
+    sym (found _ _ _ _ (c .before .before .before .loop-test .taken) (sym (compared (c .before)) ∙ c .if1 .taken)) ∙ at .inv .1
 
 add-n : tie.Need-add-n Inv-loop μ-loop
 add-n c = search needs
@@ -65,10 +44,8 @@ loop-less c = search needs
 
 loop-again : tie.Need-loop-again Inv-loop μ-loop
 loop-again c =
-    let at-loop-test = c .before .before .before .before .before in
-    let at-loop = at-loop-test .before in
-    let at = at-loop .loop in
-    (omega (arith, at-loop-test .loop-test .taken), sym (passed _ _ _ _ (at-loop-test .loop-test .taken) (sym (compared (c .before)) ∙ c .if1 .left)) ∙ at .inv .1)
+    let test = c .before .before .before .loop-test .taken in
+    (omega (arith, test), sym (passed _ _ _ _ test (sym (compared (c .before)) ∙ c .if1 .left)) ∙ c .before .before .before .before .loop .inv .1)
 
 returns-2 : tie.Need-returns-2 Inv-loop μ-loop
 returns-2 c = sym (none _ _ _ _ (c .before .loop .inv .0) (c .loop-test .left)) ∙ c .before .loop .inv .1
@@ -80,12 +57,7 @@ find-spec =
     Inv-loop
     μ-loop
     loop-holds
-    place-requires
-    add-end
-    sub-fields
-    part-fields-start
-    part-fields-end
-    fields-requires
+    node-at-requires
     same-requires
     returns
     add-n

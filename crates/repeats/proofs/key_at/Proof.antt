@@ -1,45 +1,18 @@
--- `repeats::key_at` meets its contract: it reads the record of node n in place. Assumes nothing.
+-- `repeats::key_at` meets its contract: the key of the node that was read. Assumes nothing.
 use mathlib.Core.Path.{_∙_, ap}
 use borrow.Author.Needs.{needs}
-use Rattle.scope.specs.Table.{tables, nodeOf}
-use Rattle.scope.proofs.Records.{part-record}
 use Rattle.repeats.specs.Chains.{keyOf}
 use Rattle.repeats.proofs.key_at.Statement.{statement}
 use Rattle.repeats.proofs.key_at.Tie as tie
 
-place-requires : tie.Need-place-requires
-place-requires c κs = search needs
-
-add-end : tie.Need-add-end
-add-end c = search needs
-
-sub-fields : tie.Need-sub-fields
-sub-fields c = search needs
-
-part-fields-start : tie.Need-part-fields-start
-part-fields-start c = search needs
-
-part-fields-end : tie.Need-part-fields-end
-part-fields-end c = search needs
-
-fields-requires : tie.Need-fields-requires
-fields-requires c κs = search needs
+node-at-requires : tie.Need-node-at-requires
+node-at-requires c κs = search needs
 
 key-requires : tie.Need-key-requires
 key-requires c κs = search needs
 
 returns : tie.Need-returns
-returns c = c .key .ensures ∙ ap keyOf (c .before .fields .ensures ∙ ap nodeOf (part-record tables _ _ _ (c .before .before .before .place .ensures)))
+returns c = c .key .ensures ∙ ap keyOf (c .before .node-at .ensures)
 
 pub key-at-spec : {M : Type 1} → statement M
-key-at-spec =
-    tie.close
-    (tie.spec
-    place-requires
-    add-end
-    sub-fields
-    part-fields-start
-    part-fields-end
-    fields-requires
-    key-requires
-    returns)
+key-at-spec = tie.close (tie.spec node-at-requires key-requires returns)

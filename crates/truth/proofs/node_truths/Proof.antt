@@ -1,13 +1,12 @@
 -- `truth::node_truths` meets its contract: before each turn the array has the truths of the nodes passed. Assumes nothing.
-use mathlib.Core.Path.{_≡_, _∙_, ap, refl}
+use mathlib.Core.Path.{_≡_, refl}
 use mathlib.Core.List.{[]}
 use Prim.Native.Nat.{_≤_, _-_}
 use native.Mathlib.Omega.{arith}
 use lib.ListN.{length, take, length-set}
 use borrow.Author.Needs.{needs}
-use Rattle.scope.specs.Table.{tables, nodeOf, nodeAt, listFrom}
+use Rattle.scope.specs.Table.{nodeAt, listFrom}
 use Rattle.scope.specs.Truth.{truthsFrom}
-use Rattle.scope.proofs.Records.{part-record}
 use Rattle.codec.specs.Valid.{Bytes}
 use Rattle.truth.specs.Evaluated.{Low}
 use Rattle.truth.proofs.Low.{low-up}
@@ -30,42 +29,22 @@ loop-holds c = (search needs, refl, refl)
 bytes : (c : tie.At-loop Inv-loop μ-loop) → Bytes (c .before .before .before .before .args .t .now)
 bytes c i = c .before .before .before .shared-slice-known .given i .fits
 
-place-requires : tie.Need-place-requires Inv-loop μ-loop
-place-requires c κs =
-    let start = c .before .before .before .before .before in
-    omega (arith, node-below (bytes (c .before)) (start .pre) (c .before .loop .n) (c .loop-test .taken))
+node-at-requires : tie.Need-node-at-requires Inv-loop μ-loop
+node-at-requires c κs =
+    let pre = c .before .before .before .before .before .pre in
+    let test = c .loop-test .taken in
+    (omega (arith, node-below (bytes (c .before)) pre (c .before .loop .n) test), node-within (bytes (c .before)) pre (c .before .loop .n) test)
 
-add-end : tie.Need-add-end Inv-loop μ-loop
-add-end c = search needs
-
-sub-fields : tie.Need-sub-fields Inv-loop μ-loop
-sub-fields c = search needs
-
-part-fields-start : tie.Need-part-fields-start Inv-loop μ-loop
-part-fields-start c = search needs
-
-part-fields-end : tie.Need-part-fields-end Inv-loop μ-loop
-part-fields-end c =
-    let start = c .before .before .before .before .before .before in
-    omega (arith, c .place .ensures, node-within (bytes (c .before .before)) (start .pre) (c .before .before .loop .n) (c .before .loop-test .taken))
-
-fields-requires : tie.Need-fields-requires Inv-loop μ-loop
-fields-requires c κs = search needs
-
--- the node that was read is node n, and its operands are of earlier nodes
-read : (c : tie.After-fields Inv-loop μ-loop) → let at-loop = c .before .before .before .before in let start = at-loop .before .before .before .before in
-    c .fields .result ≡ nodeAt (start .args .t .now) (at-loop .loop .n)
-read c = c .fields .ensures ∙ ap nodeOf (part-record tables _ _ _ (c .before .before .place .ensures))
-
-low : (c : tie.After-fields Inv-loop μ-loop) → Low (c .fields .result) (c .before .before .before .before .loop .n)
+-- the operands of the node that was read are of earlier nodes
+low : (c : tie.After-node-at Inv-loop μ-loop) → Low (c .node-at .result) (c .before .before .loop .n)
 low c =
-    let start = c .before .before .before .before .before .before .before .before in
-    rw (read c) (node-low (bytes (c .before .before .before .before)) (start .pre) _ (c .before .before .before .loop-test .taken))
+    let start = c .before .before .before .before .before .before in
+    rw (c .node-at .ensures) (node-low (bytes (c .before .before)) (start .pre) _ (c .before .loop-test .taken))
 
 node-truth-requires : tie.Need-node-truth-requires Inv-loop μ-loop
 node-truth-requires c κs =
-    let pre = c .before .before .before .before .before .before .before .before .before .pre in
-    (pre .points, low-up (omega (arith, pre .room, c .before .before .before .before .before .loop .inv, c .before .before .before .before .loop-test .taken)) (low (c .before)))
+    let pre = c .before .before .before .before .before .before .before .pre in
+    (pre .points, low-up (omega (arith, pre .room, c .before .before .before .loop .inv, c .before .before .loop-test .taken)) (low (c .before)))
 
 slice-write-v : tie.Need-slice-write-v Inv-loop μ-loop
 slice-write-v c = search needs
@@ -78,12 +57,12 @@ loop-less c = search needs
 
 loop-again : tie.Need-loop-again Inv-loop μ-loop
 loop-again c =
-    let inv = c .before .before .before .before .before .before .loop .inv in
-    let pre = c .before .before .before .before .before .before .before .before .before .before .pre in
-    let h = c .before .before .before .before .before .loop-test .taken in (
+    let inv = c .before .before .before .before .loop .inv in
+    let pre = c .before .before .before .before .before .before .before .before .pre in
+    let h = c .before .before .before .loop-test .taken in (
       omega (arith, h),
       simp length-set (inv .1),
-      filled-more _ _ _ _ _ _ (omega (arith, inv .1, pre .room, h)) (low (c .before .before)) (read (c .before .before)) (inv .2) (c .node-truth .ensures),
+      filled-more _ _ _ _ _ _ (omega (arith, inv .1, pre .room, h)) (low (c .before .before)) (c .before .before .node-at .ensures) (inv .2) (c .node-truth .ensures),
     )
 
 same-length : tie.Need-same-length Inv-loop μ-loop
@@ -101,12 +80,7 @@ node-truths-spec =
     Inv-loop
     μ-loop
     loop-holds
-    place-requires
-    add-end
-    sub-fields
-    part-fields-start
-    part-fields-end
-    fields-requires
+    node-at-requires
     node-truth-requires
     slice-write-v
     add-n
