@@ -20,7 +20,7 @@ use Rattle.rules.specs.Derive.{checked, check}
 use Rattle.published.proofs.Calls.{check-derives}
 use Rattle.steps.specs.Opened.{placeOf, stepCount}
 use Rattle.steps.proofs.Form.{read-fine, read-steps, read-length, step-within}
-use Rattle.replay.specs.Work.{Indexed}
+use Rattle.branch.specs.Holds.{Indexed}
 use Rattle.asking.specs.Asks.{Prepared}
 use Rattle.asking.proofs.Answers.{literal-small, asked-same}
 use Rattle.meaning.proofs.Derivations.{check-never, own-accepted}

@@ -7,7 +7,8 @@ use table::Counted;
 ghost use Prim.Native.Nat.{_≤_};
 ghost use lib.ListN.{length};
 ghost use Rattle.index.specs.Index.{indexNode};
-ghost use Rattle.replay.specs.Work.{areaSize, Indexed, Goals};
+ghost use Rattle.area.specs.Area.{areaSize};
+ghost use Rattle.branch.specs.Holds.{Indexed, Goals};
 ghost use Rattle.checking.specs.Checks.{Replayed, Checks};
 
 // What check answers.

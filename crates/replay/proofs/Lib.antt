@@ -1,11 +1,5 @@
--- Laws of the work area, for the functions' proofs. Assumes nothing.
-pub mod Trails
-pub mod Marks
-pub mod Appends
-pub mod Branches
-pub mod Turns
-pub mod Rules
-pub mod Stores
+-- Laws of the derivation checker's rules, for the functions' proofs. Assumes nothing.
+pub mod Told
 pub mod Ruled
-pub mod Starts
+pub mod Rules
 pub mod Runs

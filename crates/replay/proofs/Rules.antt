@@ -1,359 +1,223 @@
--- What each rule answers, by what the code reads of the work area. Assumes nothing.
+-- U, R, E, C and S: each test of the code is a condition of the rule, in turn, and past them the rule runs. Assumes nothing.
 use mathlib.Core.Path.{_≡_, refl, sym, ap, _∙_, subst}
-use mathlib.Core.Bool.{Bool, true, false, cond, not, _&&_, _||_}
-use mathlib.Core.List.{List, [], _∷_}
-use Prim.Native.Nat.{ℕ, zero, suc, _+_, _-_, _*_, _<_, _≤_}
+use mathlib.Core.Bool.{Bool, true, false, not}
+use mathlib.Core.List.{List, [], _∷_, map}
+use Prim.Native.Nat.{ℕ, _+_, _-_, _*_, _<_, _≤_}
 use native.Mathlib.Omega.{arith}
-use native.Mathlib.Decide.{decLt}
 use lib.Dec.{eqb, ltb}
 use lib.ListN.{length, getD}
-use borrow.Author.Tests.{eq-eqb, ne-eqb, lt-ltb, le-ltb, ltb-true}
+use borrow.Author.Tests.{eq-eqb, ne-eqb, lt-ltb, le-ltb}
 use Rattle.scope.specs.declared.Node.{Node}
-use Rattle.scope.specs.Outcome.{answer, refused}
-use Rattle.scope.proofs.Tests.{and-left, and-right}
+use Rattle.scope.specs.Outcome.{answer, _>>_, _>>=_}
 use Rattle.calculus.specs.Expansion.{neg, expand}
-use Rattle.calculus.specs.Order.{Value, holds, fails, undecided, valueOf, mem, clauses}
-use Rattle.calculus.specs.Model.{Table, Below}
-use Rattle.calculus.proofs.Lists.{all-at}
-use Rattle.calculus.proofs.Fresh.{clauses-below}
-use Rattle.rules.specs.Rules.{among, Branch, join, strikeClause, strikeLiteral, isHolds, isFails, isUndecided, unstruck, anyHolds, running, turn, only, clauseAt, stands, left, ruleU, ruleR, ruleE, ruleC, ruleS}
-use Rattle.replay.specs.Shapes.{pair}
-use Rattle.replay.specs.Work.{clauseCount, firstAt, secondAt, markAt, gOf, valueCode, Clause, standsIn, firstLeft, secondLeft, oneOf, pickOf, trueIn}
-use Rattle.replay.specs.Holds.{History, branchOf, waitingOf, Holds}
-use Rattle.replay.proofs.Marks.{mem-clause, among-literal}
-use Rattle.replay.proofs.Branches.{literals-most, clauses-most}
+use Rattle.calculus.specs.Order.{valueOf}
+use Rattle.calculus.specs.Model.{Table, Fresh}
+use Rattle.rules.specs.Rules.{among, isFails, isUndecided, Branch, join, strikeClause, strikeLiteral, anyHolds, running, turn, only, given, clauseAt, stands, left, ruleU, ruleR, ruleE, ruleC, ruleS}
+use Rattle.area.specs.declared.Left.{Left}
+use Rattle.area.specs.Area.{areaSize, mostNodes, mostClauses, mostSlots, whole, clauseCount, newest, baseAt, slotAt, strikeAt, lengthAt, trailAt, gOf, Trail, Vals, valueCode, Struck, Saved, standsIn, freeIn, leftOf, trueFrom}
+use Rattle.branch.specs.Holds.{Held, Joined}
+use Rattle.branch.proofs.Scans.{Open, true-open}
+use Rattle.replay.specs.declared.Status.{Status}
+use Rattle.replay.specs.declared.Status.the-variants.{Running, Complete, Failed}
+use Rattle.replay.specs.Ruled.{Rule, Ruled}
+use Rattle.replay.proofs.Told.{free-is, size-of, trail-of, ranged-of, newest-of, push-ready, slot-literal, undecided-told, stands-told, number-of, left-told, true-told, past-told, there-told, unstruck-told, fails-told}
+use Rattle.replay.proofs.Ruled.{fails, passes, lacks, takes, Moves, moves-run, moves-held, moves-list, moves-then, joined-moves, whole-moves, part-moves, left-count, left-literal, left-open, open-below, split-runs}
 
--- ---- values as numbers
+module _ (t : ℕ → Node) (n : ℕ) (w : List ℕ) (few : n ≤ mostNodes) (k : ℕ) where
+  abbrev up : List ℕ → Branch → Bool
+  up goals b = stands (expand t) goals n b k
 
-pub is-undecided : (v : Value) → isUndecided v ≡ eqb (valueCode v) 0
-is-undecided holds = refl
-is-undecided fails = refl
-is-undecided undecided = refl
+  abbrev rest : List ℕ → Branch → List ℕ
+  rest goals b = left (expand t) goals n b k
 
-pub is-holds : (v : Value) → isHolds v ≡ eqb (valueCode v) 1
-is-holds holds = refl
-is-holds fails = refl
-is-holds undecided = refl
+  -- what each rule asks once the clause stands
+  abbrev joins : ℕ → Rule
+  joins l goals b ws = given (isUndecided (valueOf (b .G) l)) >> answer (running (strikeClause k (join l b)) ws)
 
-pub is-fails : (v : Value) → isFails v ≡ eqb (valueCode v) 2
-is-fails holds = refl
-is-fails fails = refl
-is-fails undecided = refl
+  abbrev unit : Rule
+  unit goals b ws = only (rest goals b) >>= λ l. joins l goals b ws
 
-pub code-undecided : (v : Value) → valueCode v ≡ 0 → v ≡ undecided
-code-undecided holds e = absurd (omega (arith, e))
-code-undecided fails e = absurd (omega (arith, e))
-code-undecided undecided e = refl
+  abbrev removed : ℕ → Rule
+  removed p goals b ws = answer (running (strikeLiteral (record { clause = k; position = p }) b) ws)
 
--- ---- clauses of two numbers
+  abbrev failing : ℕ → Rule
+  failing p goals b ws = given (isFails (valueOf (b .G) (getD (clauseAt (expand t) goals n b k) p 0))) >> removed p goals b ws
 
-double-not : (b : Bool) → not (not b) ≡ b
-double-not true = refl
-double-not false = refl
+  abbrev unstruckThen : ℕ → Rule
+  unstruckThen p goals b ws = given (not (among (record { clause = k; position = p }) (b .struckLiterals))) >> failing p goals b ws
 
--- the literals that are not struck
-unstruck-pair : (b : Branch) (k : ℕ) (u v : ℕ) (x y : Bool) → (u ≡ 0 → v ≡ 0)
-    → among (record { clause = k; position = 0 }) (b .struckLiterals) ≡ not x
-    → among (record { clause = k; position = 1 }) (b .struckLiterals) ≡ not y
-    → pair (cond x u 0) (cond y v 0) ≡ unstruck b k 0 (pair u v)
-unfolding unstruck
-unstruck-pair b k zero zero true true h p q = refl
-unstruck-pair b k zero zero true false h p q = refl
-unstruck-pair b k zero zero false true h p q = refl
-unstruck-pair b k zero zero false false h p q = refl
-unstruck-pair b k zero (suc v) x y h p q = absurd (omega (arith, h refl))
-unstruck-pair b k (suc u) zero true true h p q = simp p
-unstruck-pair b k (suc u) zero true false h p q = simp p
-unstruck-pair b k (suc u) zero false true h p q = simp p
-unstruck-pair b k (suc u) zero false false h p q = simp p
-unstruck-pair b k (suc u) (suc v) true true h p q = simp (p, q)
-unstruck-pair b k (suc u) (suc v) true false h p q = simp (p, q)
-unstruck-pair b k (suc u) (suc v) false true h p q = simp (p, q)
-unstruck-pair b k (suc u) (suc v) false false h p q = simp (p, q)
+  abbrev removes : ℕ → Rule
+  removes p goals b ws = given (ltb p (length (clauseAt (expand t) goals n b k))) >> unstruckThen p goals b ws
 
--- the one literal of two numbers
-pub one-zero : (u v : ℕ) → u ≡ 0 → v ≡ oneOf u v
-one-zero zero v e = refl
-one-zero (suc u) v e = absurd (omega (arith, e))
+  abbrev met : Rule
+  met goals b ws = given (anyHolds (b .G) (rest goals b)) >> answer (running (strikeClause k b) ws)
 
-pub one-first : (u v : ℕ) → (u ≡ 0 → ⊥) → v ≡ 0 → u ≡ oneOf u v
-one-first zero v e f = absurd (e refl)
-one-first (suc u) zero e f = refl
-one-first (suc u) (suc v) e f = absurd (omega (arith, f))
+  abbrev closes : Rule
+  closes goals b ws = given (eqb (length (rest goals b)) 0) >> answer (turn ws)
 
-pub one-both : (u v : ℕ) → (u ≡ 0 → ⊥) → (v ≡ 0 → ⊥) → 0 ≡ oneOf u v
-one-both zero v e f = absurd (e refl)
-one-both (suc u) zero e f = absurd (f refl)
-one-both (suc u) (suc v) e f = refl
-
--- it is no more than either
-pub one-most : (u v m : ℕ) → u ≤ m → v ≤ m → oneOf u v ≤ m
-one-most zero v m a b = b
-one-most (suc u) zero m a b = a
-one-most (suc u) (suc v) m a b = omega arith
-
-none-only : (u v : ℕ) → oneOf u v ≡ 0 → only (pair u v) ≡ refused 45 0
-none-only zero zero e = refl
-none-only zero (suc v) e = absurd (omega (arith, e))
-none-only (suc u) zero e = absurd (omega (arith, e))
-none-only (suc u) (suc v) e = refl
-
-one-only : (u v l : ℕ) → oneOf u v ≡ suc l → only (pair u v) ≡ answer l
-one-only zero zero l e = absurd (omega (arith, e))
-one-only zero (suc v) l e = ap answer (omega (arith, e))
-one-only (suc u) zero l e = ap answer (omega (arith, e))
-one-only (suc u) (suc v) l e = absurd (omega (arith, e))
-
--- literal p of two numbers
-pub pick-first : (p u v : ℕ) → p ≡ 0 → u ≡ pickOf p u v
-pick-first zero u v e = refl
-pick-first (suc p) u v e = absurd (omega (arith, e))
-
-pub pick-second : (p u v : ℕ) → p ≡ 1 → v ≡ pickOf p u v
-pick-second zero u v e = absurd (omega (arith, e))
-pick-second (suc zero) u v e = refl
-pick-second (suc (suc p)) u v e = absurd (omega (arith, e))
-
-pub pick-past : (p u v : ℕ) → (p ≡ 0 → ⊥) → (p ≡ 1 → ⊥) → 0 ≡ pickOf p u v
-pick-past zero u v e f = absurd (e refl)
-pick-past (suc zero) u v e f = absurd (f refl)
-pick-past (suc (suc p)) u v e f = refl
-
-pub pick-most : (p u v m : ℕ) → u ≤ m → v ≤ m → pickOf p u v ≤ m
-pick-most zero u v m a b = a
-pick-most (suc zero) u v m a b = b
-pick-most (suc (suc p)) u v m a b = omega arith
-
-pick-none : (p u v : ℕ) → (u ≡ 0 → v ≡ 0) → pickOf p u v ≡ 0 → ltb p (length (pair u v)) ≡ false
-pick-none zero zero zero h e = refl
-pick-none zero zero (suc v) h e = absurd (omega (arith, h refl))
-pick-none zero (suc u) v h e = absurd (omega (arith, e))
-pick-none (suc zero) zero zero h e = refl
-pick-none (suc zero) zero (suc v) h e = absurd (omega (arith, h refl))
-pick-none (suc zero) (suc u) zero h e = refl
-pick-none (suc zero) (suc u) (suc v) h e = absurd (omega (arith, e))
-pick-none (suc (suc p)) zero zero h e = le-ltb (suc (suc p)) 0 (omega arith)
-pick-none (suc (suc p)) zero (suc v) h e = absurd (omega (arith, h refl))
-pick-none (suc (suc p)) (suc u) zero h e = le-ltb (suc (suc p)) 1 (omega arith)
-pick-none (suc (suc p)) (suc u) (suc v) h e = le-ltb (suc (suc p)) 2 (omega arith)
-
-pick-one : (p u v l : ℕ) → (u ≡ 0 → v ≡ 0) → pickOf p u v ≡ suc l → (ltb p (length (pair u v)) ≡ true) × (getD (pair u v) p 0 ≡ l) × (p < 2)
-pick-one zero zero v l h e = absurd (omega (arith, e))
-pick-one zero (suc u) zero l h e = (refl, omega (arith, e), omega arith)
-pick-one zero (suc u) (suc v) l h e = (refl, omega (arith, e), omega arith)
-pick-one (suc zero) u zero l h e = absurd (omega (arith, e))
-pick-one (suc zero) zero (suc v) l h e = absurd (omega (arith, h refl))
-pick-one (suc zero) (suc u) (suc v) l h e = (refl, omega (arith, e), omega arith)
-pick-one (suc (suc p)) u v l h e = absurd (omega (arith, e))
-
-or-false : (b : Bool) → (b || false) ≡ b
-or-false true = refl
-or-false false = refl
-
--- a literal of two numbers is true
-any-pair : (G : List ℕ) (u v : ℕ) → anyHolds G (pair u v) ≡ (trueIn G u || trueIn G v)
-unfolding anyHolds
-any-pair G zero zero = refl
-any-pair G zero (suc v) = or-false (isHolds (valueOf G v))
-any-pair G (suc u) zero = refl
-any-pair G (suc u) (suc v) = ap (isHolds (valueOf G u) ||_) (or-false (isHolds (valueOf G v)))
-
--- ---- a clause of the work area
-
-module _ (t : ℕ → Node) (n : ℕ) (goals w : List ℕ) (few : n ≤ 2016) (s : History) (h : Holds t n goals w s) (k : ℕ) where
-  abbrev b : Branch
-  b = branchOf w s
-
-  pub number-small : k < clauseCount w → k < 4096
-  number-small i = omega (arith, i, clauses-most t n goals w few (h .base), literals-most t n goals w few (h .base), few)
-
-  pub stands-is : standsIn w k ≡ stands (expand t) goals n b k
-  stands-is = go (decLt k (clauseCount w))
-    where
-      go : Dec (k < clauseCount w) → standsIn w k ≡ stands (expand t) goals n b k
-      go (yes i) =
-          ap (_&& eqb (markAt w (3 * k)) 0) (ap (ltb k) (h .base .count))
-          ∙ ap (ltb k (length (clauses (expand t) goals (gOf w))) &&_)
-          (h .marked .flags (3 * k) (omega (arith, number-small i)) ∙ ap not (sym (mem-clause k (s .marks))))
-      go (no i) =
-          let e : ltb k (length (clauses (expand t) goals (gOf w))) ≡ false = le-ltb k (length (clauses (expand t) goals (gOf w))) (omega (arith, i, h .base .count)) in
-          let d : ltb k (clauseCount w) ≡ false = le-ltb k (clauseCount w) (omega (arith, i)) in
-          simp (d, e)
-
-  -- a clause that stands
-  module _ (st : standsIn w k ≡ true) where
-    pub in-list : k < clauseCount w
-    in-list = ltb-true k (clauseCount w) (and-left (ltb k (clauseCount w)) (eqb (markAt w (3 * k)) 0) st)
-
-    pub not-struck : mem (3 * k) (s .marks) ≡ false
-    not-struck =
-        go (mem (3 * k) (s .marks))
-        (sym (h .marked .flags (3 * k) (omega (arith, number-small in-list))) ∙ and-right (ltb k (clauseCount w)) (eqb (markAt w (3 * k)) 0) st)
-      where
-        go : (m : Bool) → not m ≡ true → m ≡ false
-        go true e = sym e
-        go false e = refl
-
-    clause-is : Clause w k (clauseAt (expand t) goals n b k)
-    clause-is = h .base .clause k in-list
-
-    among-is : (p : ℕ) → p < 2 → among (record { clause = k; position = p }) (b .struckLiterals) ≡ not (eqb (markAt w (3 * k + 1 + p)) 0)
-    among-is p i =
-        among-literal k p (s .marks) i
-        ∙ sym (ap not (h .marked .flags (3 * k + 1 + p) (omega (arith, number-small in-list, i))) ∙ double-not (mem (3 * k + 1 + p) (s .marks)))
-
-    pub left-is : pair (firstLeft w k) (secondLeft w k) ≡ left (expand t) goals n b k
-    left-is =
-        unstruck-pair b k (firstAt w k) (secondAt w k) (eqb (markAt w (3 * k + 1)) 0) (eqb (markAt w (3 * k + 2)) 0) (clause-is .packed)
-        (among-is 0 (omega arith) ∙ ap (λ (m : ℕ). not (eqb (markAt w m) 0)) (omega arith))
-        (among-is 1 (omega arith) ∙ ap (λ (m : ℕ). not (eqb (markAt w m) 0)) (omega arith))
-        ∙ ap (unstruck b k 0) (clause-is .literals)
-
-    -- the literals of a clause are those of the nodes
-    pair-below : (u v : ℕ) → Below n (pair u v) → (u ≤ 2 * n) × (v ≤ 2 * n)
-    pair-below zero zero a = (omega arith, omega arith)
-    pair-below zero (suc v) a = (omega arith, omega (arith, a .0))
-    pair-below (suc u) zero a = (omega (arith, a .0), omega arith)
-    pair-below (suc u) (suc v) a = (omega (arith, a .0), omega (arith, a .1 .0))
-
-    pub words-below : Table n t → (firstAt w k ≤ 2 * n) × (secondAt w k ≤ 2 * n)
-    words-below T =
-        pair-below (firstAt w k) (secondAt w k)
-        (subst (Below n) (sym (clause-is .literals))
-        (all-at (Below n) (clauses (expand t) goals (gOf w)) k [] (clauses-below n t T goals (h .base .aims .below) (gOf w) (h .base .trail .good))
-        (omega (arith, in-list, h .base .count))))
-
-  -- ---- the rules
-
-  -- no clause stands
-  fallen : standsIn w k ≡ false → stands (expand t) goals n b k ≡ false
-  fallen e = sym stands-is ∙ e
-
-  upright : standsIn w k ≡ true → stands (expand t) goals n b k ≡ true
-  upright e = sym stands-is ∙ e
-
-  pub u-fallen : standsIn w k ≡ false → ruleU (expand t) goals n k b (waitingOf w s) ≡ refused 45 0
-  unfolding ruleU
-  u-fallen e = rw (fallen e)
-
-  pub r-fallen : (p : ℕ) → standsIn w k ≡ false → ruleR (expand t) goals n p k b (waitingOf w s) ≡ refused 45 0
-  unfolding ruleR
-  r-fallen p e = rw (fallen e)
-
-  pub e-fallen : standsIn w k ≡ false → ruleE (expand t) goals n k b (waitingOf w s) ≡ refused 45 0
-  unfolding ruleE
-  e-fallen e = rw (fallen e)
-
-  pub c-fallen : standsIn w k ≡ false → ruleC (expand t) goals n k b (waitingOf w s) ≡ refused 45 0
-  unfolding ruleC
-  c-fallen e = rw (fallen e)
-
-  module _ (st : standsIn w k ≡ true) where
-    only-none : oneOf (firstLeft w k) (secondLeft w k) ≡ 0 → only (left (expand t) goals n b k) ≡ refused 45 0
-    only-none e = ap only (sym (left-is st)) ∙ none-only (firstLeft w k) (secondLeft w k) e
-
-    only-one : (l : ℕ) → oneOf (firstLeft w k) (secondLeft w k) ≡ suc l → only (left (expand t) goals n b k) ≡ answer l
-    only-one l e = ap only (sym (left-is st)) ∙ one-only (firstLeft w k) (secondLeft w k) l e
-
-    pub u-none : oneOf (firstLeft w k) (secondLeft w k) ≡ 0 → ruleU (expand t) goals n k b (waitingOf w s) ≡ refused 45 0
+  -- the clause does not stand
+  module _ (z : standsIn w k ≡ false) where
+    pub u-falls : Ruled t n (λ goals. ruleU (expand t) goals n k) w w Failed
     unfolding ruleU
-    u-none e = rw (upright st, only-none e)
+    u-falls = fails t n w up unit (stands-told t n w few k (sym z))
 
-    pub u-decided : (l : ℕ) → oneOf (firstLeft w k) (secondLeft w k) ≡ suc l → (valueCode (valueOf (gOf w) l) ≡ 0 → ⊥)
-        → ruleU (expand t) goals n k b (waitingOf w s) ≡ refused 45 0
-    unfolding ruleU
-    u-decided l e z = rw (upright st, only-one l e, is-undecided (valueOf (gOf w) l), ne-eqb (valueCode (valueOf (gOf w) l)) 0 z)
-
-    pub u-done : (l : ℕ) → oneOf (firstLeft w k) (secondLeft w k) ≡ suc l → valueCode (valueOf (gOf w) l) ≡ 0
-        → ruleU (expand t) goals n k b (waitingOf w s) ≡ answer (running (strikeClause k (join l b)) (waitingOf w s))
-    unfolding ruleU
-    u-done l e z = rw (upright st, only-one l e, is-undecided (valueOf (gOf w) l), eq-eqb (valueCode (valueOf (gOf w) l)) 0 z)
-
-    any-is : anyHolds (gOf w) (left (expand t) goals n b k) ≡ (trueIn (gOf w) (firstLeft w k) || trueIn (gOf w) (secondLeft w k))
-    any-is = ap (anyHolds (gOf w)) (sym (left-is st)) ∙ any-pair (gOf w) (firstLeft w k) (secondLeft w k)
-
-    pub e-none : (trueIn (gOf w) (firstLeft w k) || trueIn (gOf w) (secondLeft w k)) ≡ false
-        → ruleE (expand t) goals n k b (waitingOf w s) ≡ refused 45 0
-    unfolding ruleE
-    e-none p =
-        let z : anyHolds (gOf w) (left (expand t) goals n b k) ≡ false = any-is ∙ p in
-        rw (upright st, z)
-
-    pub e-done : (trueIn (gOf w) (firstLeft w k) || trueIn (gOf w) (secondLeft w k)) ≡ true
-        → ruleE (expand t) goals n k b (waitingOf w s) ≡ answer (running (strikeClause k b) (waitingOf w s))
-    unfolding ruleE
-    e-done p =
-        let z : anyHolds (gOf w) (left (expand t) goals n b k) ≡ true = any-is ∙ p in
-        rw (upright st, z)
-
-    some-left : (u v : ℕ) → (u ≡ 0 → v ≡ 0 → ⊥) → eqb (length (pair u v)) 0 ≡ false
-    some-left zero zero f = absurd (f refl refl)
-    some-left zero (suc v) f = refl
-    some-left (suc u) zero f = refl
-    some-left (suc u) (suc v) f = refl
-
-    pub c-left : (firstLeft w k ≡ 0 → secondLeft w k ≡ 0 → ⊥) → ruleC (expand t) goals n k b (waitingOf w s) ≡ refused 45 0
-    unfolding ruleC
-    c-left f =
-        let z : eqb (length (left (expand t) goals n b k)) 0 ≡ false = ap (λ (c : List ℕ). eqb (length c) 0) (sym (left-is st)) ∙ some-left (firstLeft w k) (secondLeft w k) f in
-        rw (upright st, z)
-
-    pub c-done : firstLeft w k ≡ 0 → secondLeft w k ≡ 0 → ruleC (expand t) goals n k b (waitingOf w s) ≡ answer (turn (waitingOf w s))
-    unfolding ruleC
-    c-done p q =
-        let y : pair (firstLeft w k) (secondLeft w k) ≡ [] = ap (λ (u : ℕ). pair u (secondLeft w k)) p ∙ ap (pair 0) q in
-        let z : eqb (length (left (expand t) goals n b k)) 0 ≡ true = ap (λ (c : List ℕ). eqb (length c) 0) (sym (left-is st) ∙ y) in
-        rw (upright st, z)
-
-    pub r-out : (p : ℕ) → pickOf p (firstAt w k) (secondAt w k) ≡ 0 → ruleR (expand t) goals n p k b (waitingOf w s) ≡ refused 45 0
+    pub r-falls : (p : ℕ) → Ruled t n (λ goals. ruleR (expand t) goals n p k) w w Failed
     unfolding ruleR
-    r-out p e =
-        let z : ltb p (length (clauseAt (expand t) goals n b k)) ≡ false = ap (λ (c : List ℕ). ltb p (length c)) (sym (clause-is st .literals)) ∙ pick-none p (firstAt w k) (secondAt w k) (clause-is st .packed) e in
-        rw (upright st, z)
+    r-falls p = fails t n w up (removes p) (stands-told t n w few k (sym z))
 
-    module _ (p l : ℕ) (e : pickOf p (firstAt w k) (secondAt w k) ≡ suc l) where
-      in-clause : ltb p (length (clauseAt (expand t) goals n b k)) ≡ true
-      in-clause = ap (λ (c : List ℕ). ltb p (length c)) (sym (clause-is st .literals)) ∙ pick-one p (firstAt w k) (secondAt w k) l (clause-is st .packed) e .0
+    pub e-falls : Ruled t n (λ goals. ruleE (expand t) goals n k) w w Failed
+    unfolding ruleE
+    e-falls = fails t n w up met (stands-told t n w few k (sym z))
 
-      literal-is : getD (clauseAt (expand t) goals n b k) p 0 ≡ l
-      literal-is = ap (λ (c : List ℕ). getD c p 0) (sym (clause-is st .literals)) ∙ pick-one p (firstAt w k) (secondAt w k) l (clause-is st .packed) e .1
+    pub c-falls : Ruled t n (λ goals. ruleC (expand t) goals n k) w w Failed
+    unfolding ruleC
+    c-falls = fails t n w up closes (stands-told t n w few k (sym z))
 
-      pub position-low : p < 2
-      position-low = pick-one p (firstAt w k) (secondAt w k) l (clause-is st .packed) e .2
+  -- it stands
+  module _ (st : standsIn w k ≡ true) where
+    -- ---- U
 
-      pub r-struck : (markAt w (3 * k + 1 + p) ≡ 0 → ⊥) → ruleR (expand t) goals n p k b (waitingOf w s) ≡ refused 45 0
+    module _ {x : Left} (e : x ≡ leftOf (freeIn w k)) where
+      pub u-lacks : (x .count ≡ 1 → ⊥) → Ruled t n (λ goals. ruleU (expand t) goals n k) w w Failed
+      unfolding ruleU
+      u-lacks z =
+          passes t n w up unit w Failed (stands-told t n w few k (sym st))
+          (lacks t n w rest joins (map (slotAt w) (freeIn w k)) (left-told t n w few k st) (λ q. z (sym (left-count w k e) ∙ q)))
+
+      module _ (o : x .count ≡ 1) {l v : ℕ} (q : l ≡ slotAt w (x .first)) (f : v ≡ valueCode (valueOf (gOf w) l)) where
+        pub u-refuses : (v ≡ 0 → ⊥) → Ruled t n (λ goals. ruleU (expand t) goals n k) w w Failed
+        unfolding ruleU
+        u-refuses z =
+            passes t n w up unit w Failed (stands-told t n w few k (sym st))
+            (takes t n w rest joins l w Failed (λ goals s h. left-told t n w few k st goals s h ∙ left-literal w k e o q)
+            (fails t n w (λ goals b. isUndecided (valueOf (b .G) l)) (λ goals b ws. answer (running (strikeClause k (join l b)) ws)) (undecided-told t n w l f (ne-eqb v 0 z))))
+
+        module _ (z : v ≡ 0) {w₁ : List ℕ} (p : Struck whole (x .first) w w₁) where
+          pub u-ready : (H : Held t n w) → Table n t
+              → (areaSize ≤ length w₁) × (((clauseCount w₁ + 3 ≤ mostClauses) × (baseAt w₁ (clauseCount w₁) + 4 ≤ mostSlots)) × (Trail n (trailAt w₁) × Fresh n (gOf w₁) l))
+          u-ready H T =
+              let m = whole-moves t n few w w₁ k (x .first) st (left-open w k e o) p in
+              let b : slotAt w (x .first) < 2 * n = slot-literal few H T k (number-of t n w few k st) (x .first) (open-below few H k (number-of t n w few k st) (left-open w k e o) .1) in
+              push-ready few (moves-held t n (strikeClause k) w w₁ m H)
+              (subst (λ (G : List ℕ). Fresh n G l) (sym (moves-list t n (strikeClause k) w w₁ m (λ b. refl) H)) (free-is n l (gOf w) (omega (arith, b, q)) f z))
+
+          pub u-runs : {w₂ : List ℕ} → Joined t n l w₁ w₂ → Ruled t n (λ goals. ruleU (expand t) goals n k) w w₂ Running
+          unfolding ruleU
+          u-runs {w₂} j =
+              passes t n w up unit w₂ Running (stands-told t n w few k (sym st))
+              (takes t n w rest joins l w₂ Running (λ goals s h. left-told t n w few k st goals s h ∙ left-literal w k e o q)
+              (passes t n w (λ goals b. isUndecided (valueOf (b .G) l)) (λ goals b ws. answer (running (strikeClause k (join l b)) ws)) w₂ Running
+              (undecided-told t n w l f (eq-eqb v 0 z))
+              (moves-run t n (λ b. strikeClause k (join l b)) w w₂
+              (moves-then t n (strikeClause k) w w₁ (whole-moves t n few w w₁ k (x .first) st (left-open w k e o) p) (join l) w₂ (joined-moves t n few l w₁ w₂ j)))))
+
+      -- the slot that is left, and its literal
+      pub left-below : (H : Held t n w) → Table n t → x .count ≡ 1 → (x .first < mostSlots) × (slotAt w (x .first) < 2 * n)
+      left-below H T o =
+          let b = open-below few H k (number-of t n w few k st) (left-open w k e o) in
+          (b .0, slot-literal few H T k (number-of t n w few k st) (x .first) (b .1))
+
+      -- ---- C
+
+      pub c-lacks : (x .count ≡ 0 → ⊥) → Ruled t n (λ goals. ruleC (expand t) goals n k) w w Failed
+      unfolding ruleC
+      c-lacks z =
+          passes t n w up closes w Failed (stands-told t n w few k (sym st))
+          (fails t n w (λ goals b. eqb (length (rest goals b)) 0) (λ goals b ws. answer (turn ws))
+          (λ goals s h. ap (λ (ls : List ℕ). eqb (length ls) 0) (left-told t n w few k st goals s h) ∙ ap (λ (m : ℕ). eqb m 0) (left-count w k e) ∙ ne-eqb (x .count) 0 z))
+
+      pub c-turns : (w′ : List ℕ) (r : Status) → x .count ≡ 0 → Ruled t n (λ goals b ws. answer (turn ws)) w w′ r → Ruled t n (λ goals. ruleC (expand t) goals n k) w w′ r
+      unfolding ruleC
+      c-turns w′ r z R =
+          passes t n w up closes w′ r (stands-told t n w few k (sym st))
+          (passes t n w (λ goals b. eqb (length (rest goals b)) 0) (λ goals b ws. answer (turn ws)) w′ r
+          (λ goals s h. ap (λ (ls : List ℕ). eqb (length ls) 0) (left-told t n w few k st goals s h) ∙ ap (λ (m : ℕ). eqb m 0) (left-count w k e) ∙ eq-eqb (x .count) 0 z) R)
+
+    -- ---- E
+
+    module _ {v : ℕ} (e : v ≡ trueFrom w (baseAt w k) (lengthAt w k)) where
+      pub e-lacks : v ≡ 0 → Ruled t n (λ goals. ruleE (expand t) goals n k) w w Failed
+      unfolding ruleE
+      e-lacks z =
+          passes t n w up met w Failed (stands-told t n w few k (sym st))
+          (fails t n w (λ goals b. anyHolds (b .G) (rest goals b)) (λ goals b ws. answer (running (strikeClause k b) ws)) (true-told t n w few k st e (ap not (eq-eqb v 0 z))))
+
+      module _ (z : v ≡ 0 → ⊥) where
+        pub true-below : (H : Held t n w) → v - 1 < mostSlots
+        true-below H = open-below few H k (number-of t n w few k st) (true-open w (baseAt w k) (lengthAt w k) e z) .0
+
+        pub e-runs : {w₁ : List ℕ} → Struck whole (v - 1) w w₁ → Ruled t n (λ goals. ruleE (expand t) goals n k) w w₁ Running
+        unfolding ruleE
+        e-runs {w₁} p =
+            passes t n w up met w₁ Running (stands-told t n w few k (sym st))
+            (passes t n w (λ goals b. anyHolds (b .G) (rest goals b)) (λ goals b ws. answer (running (strikeClause k b) ws)) w₁ Running
+            (true-told t n w few k st e (ap not (ne-eqb v 0 z)))
+            (moves-run t n (strikeClause k) w w₁ (whole-moves t n few w w₁ k (v - 1) st (true-open w (baseAt w k) (lengthAt w k) e z) p)))
+
+    -- ---- R
+
+    module _ (p : ℕ) where
+      pub r-past : lengthAt w k ≤ p → Ruled t n (λ goals. ruleR (expand t) goals n p k) w w Failed
       unfolding ruleR
-      r-struck z =
-          let y : among (record { clause = k; position = p }) (b .struckLiterals) ≡ true = among-is st p position-low ∙ ap not (ne-eqb (markAt w (3 * k + 1 + p)) 0 z) in
-          rw (upright st, in-clause, y)
+      r-past b =
+          passes t n w up (removes p) w Failed (stands-told t n w few k (sym st))
+          (fails t n w (λ goals b. ltb p (length (clauseAt (expand t) goals n b k))) (unstruckThen p) (past-told t n w few k st p b))
 
-      module _ (z : markAt w (3 * k + 1 + p) ≡ 0) where
-        free : among (record { clause = k; position = p }) (b .struckLiterals) ≡ false
-        free = among-is st p position-low ∙ ap not (eq-eqb (markAt w (3 * k + 1 + p)) 0 z)
-
-        pub literal-free : mem (3 * k + 1 + p) (s .marks) ≡ false
-        literal-free = sym (among-literal k p (s .marks) position-low) ∙ free
-
-        pub r-other : (valueCode (valueOf (gOf w) l) ≡ 2 → ⊥) → ruleR (expand t) goals n p k b (waitingOf w s) ≡ refused 45 0
+      module _ (b : p < lengthAt w k) where
+        there : (w′ : List ℕ) (r : Status) → Ruled t n (unstruckThen p) w w′ r → Ruled t n (λ goals. ruleR (expand t) goals n p k) w w′ r
         unfolding ruleR
-        r-other q = rw (upright st, in-clause, free, literal-is, is-fails (valueOf (gOf w) l), ne-eqb (valueCode (valueOf (gOf w) l)) 2 q)
+        there w′ r R =
+            passes t n w up (removes p) w′ r (stands-told t n w few k (sym st))
+            (passes t n w (λ goals b. ltb p (length (clauseAt (expand t) goals n b k))) (unstruckThen p) w′ r (there-told t n w few k st p b) R)
 
-        pub r-done : valueCode (valueOf (gOf w) l) ≡ 2
-            → ruleR (expand t) goals n p k b (waitingOf w s) ≡ answer (running (strikeLiteral (record { clause = k; position = p }) b) (waitingOf w s))
-        unfolding ruleR
-        r-done q = rw (upright st, in-clause, free, literal-is, is-fails (valueOf (gOf w) l), eq-eqb (valueCode (valueOf (gOf w) l)) 2 q)
+        module _ {v : ℕ} (e : v ≡ strikeAt w (baseAt w k + p)) where
+          pub r-struck : (v ≡ 0 → ⊥) → Ruled t n (λ goals. ruleR (expand t) goals n p k) w w Failed
+          r-struck z =
+              there w Failed
+              (fails t n w (λ goals b. not (among (record { clause = k; position = p }) (b .struckLiterals))) (failing p) (unstruck-told t n w few k st p b e (ne-eqb v 0 z)))
 
--- ---- S, of a literal
+          module _ (z : v ≡ 0) {l u : ℕ} (g : l ≡ slotAt w (baseAt w k + p)) (f : u ≡ valueCode (valueOf (gOf w) l)) where
+            free : (w′ : List ℕ) (r : Status) → Ruled t n (failing p) w w′ r → Ruled t n (λ goals. ruleR (expand t) goals n p k) w w′ r
+            free w′ r R =
+                there w′ r
+                (passes t n w (λ goals b. not (among (record { clause = k; position = p }) (b .struckLiterals))) (failing p) w′ r (unstruck-told t n w few k st p b e (eq-eqb v 0 z)) R)
 
-module _ (t : ℕ → Node) (n : ℕ) (goals : List ℕ) (b : Branch) (ws : List Branch) (l : ℕ) where
-  pub s-past : 2 * n ≤ l → ruleS (expand t) goals n l b ws ≡ refused 45 0
+            pub r-refuses : (u ≡ 2 → ⊥) → Ruled t n (λ goals. ruleR (expand t) goals n p k) w w Failed
+            r-refuses y =
+                free w Failed
+                (fails t n w (λ goals b. isFails (valueOf (b .G) (getD (clauseAt (expand t) goals n b k) p 0))) (removed p) (fails-told t n w few k st p b g f (ne-eqb u 2 y)))
+
+            pub r-runs : {w₁ : List ℕ} → u ≡ 2 → Struck 0 (baseAt w k + p) w w₁ → Ruled t n (λ goals. ruleR (expand t) goals n p k) w w₁ Running
+            r-runs {w₁} y q =
+                free w₁ Running
+                (passes t n w (λ goals b. isFails (valueOf (b .G) (getD (clauseAt (expand t) goals n b k) p 0))) (removed p) w₁ Running (fails-told t n w few k st p b g f (eq-eqb u 2 y))
+                (moves-run t n (strikeLiteral (record { clause = k; position = p })) w w₁
+                (subst (λ (i : ℕ). Moves t n (strikeLiteral (record { clause = k; position = i })) w w₁) at
+                (part-moves t n few w w₁ k (baseAt w k + p) st (omega arith, omega (arith, b), sym e ∙ z) q))))
+              where
+                at : baseAt w k + p - baseAt w k ≡ p
+                at = omega arith
+
+-- ---- S
+
+module _ (t : ℕ → Node) (n : ℕ) (w : List ℕ) (few : n ≤ mostNodes) (l : ℕ) where
+  abbrev splits : Rule
+  splits goals b ws = given (isUndecided (valueOf (b .G) l)) >> answer (running (join l b) (join (neg l) b ∷ ws))
+
+  pub s-past : 2 * n ≤ l → Ruled t n (λ goals. ruleS (expand t) goals n l) w w Failed
   unfolding ruleS
-  s-past h = rw (le-ltb l (2 * n) h)
+  s-past b = fails t n w (λ goals b. ltb l (2 * n)) splits (λ goals s h. le-ltb l (2 * n) b)
 
-  pub s-decided : l < 2 * n → (valueCode (valueOf (b .G) l) ≡ 0 → ⊥) → ruleS (expand t) goals n l b ws ≡ refused 45 0
-  unfolding ruleS
-  s-decided h z = rw (lt-ltb l (2 * n) h, is-undecided (valueOf (b .G) l), ne-eqb (valueCode (valueOf (b .G) l)) 0 z)
+  module _ {v : ℕ} (b : l < 2 * n) (e : v ≡ valueCode (valueOf (gOf w) l)) where
+    pub s-refuses : (v ≡ 0 → ⊥) → Ruled t n (λ goals. ruleS (expand t) goals n l) w w Failed
+    unfolding ruleS
+    s-refuses z =
+        passes t n w (λ goals b. ltb l (2 * n)) splits w Failed (λ goals s h. lt-ltb l (2 * n) b)
+        (fails t n w (λ goals b. isUndecided (valueOf (b .G) l)) (λ goals b ws. answer (running (join l b) (join (neg l) b ∷ ws))) (undecided-told t n w l e (ne-eqb v 0 z)))
 
-  pub s-done : l < 2 * n → valueCode (valueOf (b .G) l) ≡ 0 → ruleS (expand t) goals n l b ws ≡ answer (running (join l b) (join (neg l) b ∷ ws))
-  unfolding ruleS
-  s-done h z = rw (lt-ltb l (2 * n) h, is-undecided (valueOf (b .G) l), eq-eqb (valueCode (valueOf (b .G) l)) 0 z)
+    pub s-runs : {w₁ w₂ : List ℕ} → Held t n w → v ≡ 0 → Saved w w₁ → Joined t n l w₁ w₂ → Ruled t n (λ goals. ruleS (expand t) goals n l) w w₂ Running
+    unfolding ruleS
+    s-runs {w₁} {w₂} H z p j =
+        passes t n w (λ goals b. ltb l (2 * n)) splits w₂ Running (λ goals s h. lt-ltb l (2 * n) b)
+        (passes t n w (λ goals b. isUndecided (valueOf (b .G) l)) (λ goals b ws. answer (running (join l b) (join (neg l) b ∷ ws))) w₂ Running
+        (undecided-told t n w l e (eq-eqb v 0 z)) (split-runs t n w few l H (free-is n l (gOf w) b e z) p j))

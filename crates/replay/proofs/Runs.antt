@@ -17,8 +17,9 @@ use Rattle.rules.specs.declared.Step.{Step}
 use Rattle.rules.specs.Rules.{Branch, root, Progress, running, complete, apply, advance, ended, run}
 use Rattle.replay.specs.declared.Status.{Status}
 use Rattle.replay.specs.declared.Status.the-variants.{Running}
-use Rattle.replay.specs.Work.{gOf}
-use Rattle.replay.specs.Holds.{clausesIn, literalsIn, History, branchOf, waits, waitingOf, Holds, Says, Ruled, fresh}
+use Rattle.area.specs.Area.{gOf}
+use Rattle.branch.specs.Holds.{clausesIn, literalsIn, History, branchOf, waits, waitingOf, Holds, fresh}
+use Rattle.replay.specs.Ruled.{Says, Ruled}
 
 module _ (e : ℕ → List (List ℕ)) (goals : List ℕ) (n : ℕ) (i : ℕ) (s : Step) (ss : List Step) (b : Branch) (ws : List Branch) where
   run-fails : apply e goals n s b ws ≡ refused 45 0 → run e goals n i (s ∷ ss) (running b ws) ≡ refused 45 i

@@ -1,4 +1,2 @@
--- What the checker's work area holds, and what each of its functions leaves. Assumes nothing.
-pub mod Shapes
-pub mod Work
-pub mod Holds
+-- What the rules' functions of the derivation checker answer. Assumes nothing.
+pub mod Ruled

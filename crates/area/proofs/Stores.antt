@@ -1,0 +1,145 @@
+-- What the stores of each function leave in the work area. Assumes nothing.
+use mathlib.Core.Path.{_≡_, refl, ap, _∙_, subst}
+use mathlib.Core.List.{List}
+use Prim.Native.Nat.{ℕ, suc, _+_, _-_, _<_, _≤_}
+use native.Mathlib.Omega.{arith}
+use native.Mathlib.Numerals.{add-one}
+use lib.ListN.{length, getD, set, length-set}
+use lib.Seq.{getD-set-same, getD-set-other}
+use Rattle.area.specs.Area.{areaSize, mostNodes, mostSlots, strikesFrom, countsFrom, sizesFrom, headsFrom, clauseCount, depth, newest, strikeAt, splitCount, splitSize, splitHead, trailAt, Trail, Shrunk, Struck, Saved}
+
+-- ---- literals leave
+
+pub shrink-starts : {n c : ℕ} {w : List ℕ} → Trail n (trailAt w) → c ≤ trailAt w 0 → (c ≤ trailAt w 0) × Shrunk n (trailAt w 0) w w
+shrink-starts r b = (b, record { size = refl; trail = r; count = refl; lits = λ q i. refl; under = λ i x y. refl })
+
+pub shrink-goes : {n c : ℕ} {w₀ w w′ : List ℕ} → c < trailAt w 0 → Shrunk n (trailAt w 0) w₀ w → Shrunk n (trailAt w 0 - 1) w w′
+    → (c ≤ trailAt w′ 0) × Shrunk n (trailAt w′ 0) w₀ w′
+shrink-goes b p q = (
+  omega (arith, b, q .count),
+  record {
+    size = q .size ∙ p .size;
+    trail = q .trail;
+    count = refl;
+    lits = λ k i. q .lits k (omega (arith, i, q .count)) ∙ p .lits k (omega (arith, i, q .count));
+    under = λ i x y. q .under i x y ∙ p .under i x y;
+  },
+)
+
+pub shrink-ends : {n c : ℕ} {w₀ w : List ℕ} → trailAt w 0 ≤ c → c ≤ trailAt w 0 → Shrunk n (trailAt w 0) w₀ w → Shrunk n c w₀ w
+shrink-ends {n} {c} {w₀} {w} f b p =
+    let z : trailAt w 0 ≡ c = omega (arith, f, b) in
+    subst (λ (x : ℕ). Shrunk n x w₀ w) z p
+
+-- ---- a strike, a split
+
+module _ (w : List ℕ) (m kind : ℕ) (size : areaSize ≤ length w) (b : m < mostSlots) where
+  w₁ : List ℕ
+  w₁ = set w (strikesFrom + m) (newest w + 1 + kind)
+
+  w₂ : List ℕ
+  w₂ = set w₁ 2 (m + 1)
+
+  z₁ : length w₁ ≡ length w
+  unfolding w₁
+  z₁ = length-set w (strikesFrom + m) (newest w + 1 + kind)
+
+  struck₂ : Struck kind m w w₂
+  unfolding w₂ w₁
+  struck₂ = record {
+    size = length-set w₁ 2 (m + 1) ∙ z₁;
+    head = getD-set-same w₁ 2 (m + 1) 0 (omega (arith, z₁, size)) ∙ add-one m;
+    here = getD-set-other w₁ 2 (strikesFrom + m) (m + 1) 0 (λ e. omega (arith, e)) ∙ getD-set-same w (strikesFrom + m) (newest w + 1 + kind) 0 (omega (arith, size, b))
+        ∙ ap (_+ kind) (add-one (newest w));
+    else = λ i p q. getD-set-other w₁ 2 i (m + 1) 0 p ∙ getD-set-other w (strikesFrom + m) i (newest w + 1 + kind) 0 q;
+  }
+
+  pub is-struck : Struck kind m w (set (set w (strikesFrom + m) (newest w + 1 + kind)) 2 (m + 1))
+  unfolding w₂ w₁
+  is-struck = struck₂
+
+module _ (w : List ℕ) (size : areaSize ≤ length w) (low : depth w < mostNodes) where
+  D : ℕ
+  D = depth w
+
+  low′ : D < mostNodes
+  unfolding D
+  low′ = low
+
+  v₁ : List ℕ
+  v₁ = set w (countsFrom + D) (trailAt w 0)
+
+  v₂ : List ℕ
+  v₂ = set v₁ (sizesFrom + D) (clauseCount v₁)
+
+  v₃ : List ℕ
+  v₃ = set v₂ (headsFrom + D) (newest v₂)
+
+  v₄ : List ℕ
+  v₄ = set v₃ 1 (D + 1)
+
+  l₁ : length v₁ ≡ length w
+  unfolding v₁
+  l₁ = length-set w (countsFrom + D) (trailAt w 0)
+
+  l₂ : length v₂ ≡ length w
+  unfolding v₂
+  l₂ = length-set v₁ (sizesFrom + D) (clauseCount v₁) ∙ l₁
+
+  l₃ : length v₃ ≡ length w
+  unfolding v₃
+  l₃ = length-set v₂ (headsFrom + D) (newest v₂) ∙ l₂
+
+  t₁ : (i : ℕ) → (i ≡ countsFrom + D → ⊥) → getD v₁ i 0 ≡ getD w i 0
+  unfolding v₁
+  t₁ i e = getD-set-other w (countsFrom + D) i (trailAt w 0) 0 e
+
+  t₂ : (i : ℕ) → (i ≡ sizesFrom + D → ⊥) → getD v₂ i 0 ≡ getD v₁ i 0
+  unfolding v₂
+  t₂ i e = getD-set-other v₁ (sizesFrom + D) i (clauseCount v₁) 0 e
+
+  t₃ : (i : ℕ) → (i ≡ headsFrom + D → ⊥) → getD v₃ i 0 ≡ getD v₂ i 0
+  unfolding v₃
+  t₃ i e = getD-set-other v₂ (headsFrom + D) i (newest v₂) 0 e
+
+  t₄ : (i : ℕ) → (i ≡ 1 → ⊥) → getD v₄ i 0 ≡ getD v₃ i 0
+  unfolding v₄
+  t₄ i e = getD-set-other v₃ 1 i (D + 1) 0 e
+
+  depth₄ : depth v₄ ≡ D + 1
+  unfolding v₄
+  depth₄ = getD-set-same v₃ 1 (D + 1) 0 (omega (arith, l₃, size))
+
+  count₄ : splitCount v₄ D ≡ trailAt w 0
+  unfolding v₁
+  count₄ =
+      t₄ (countsFrom + D) (λ e. omega (arith, e)) ∙ t₃ (countsFrom + D) (λ e. omega (arith, e, low′)) ∙ t₂ (countsFrom + D) (λ e. omega (arith, e, low′))
+      ∙ getD-set-same w (countsFrom + D) (trailAt w 0) 0 (omega (arith, size, low′))
+
+  clauses₄ : splitSize v₄ D ≡ clauseCount w
+  unfolding v₂
+  clauses₄ =
+      t₄ (sizesFrom + D) (λ e. omega (arith, e)) ∙ t₃ (sizesFrom + D) (λ e. omega (arith, e, low′))
+      ∙ getD-set-same v₁ (sizesFrom + D) (clauseCount v₁) 0 (omega (arith, l₁, size, low′)) ∙ t₁ 0 (λ e. omega (arith, e))
+
+  head₄ : splitHead v₄ D ≡ newest w
+  unfolding v₃
+  head₄ =
+      t₄ (headsFrom + D) (λ e. omega (arith, e)) ∙ getD-set-same v₂ (headsFrom + D) (newest v₂) 0 (omega (arith, l₂, size, low′))
+      ∙ t₂ 2 (λ e. omega (arith, e)) ∙ t₁ 2 (λ e. omega (arith, e))
+
+  saved₄ : Saved w v₄
+  unfolding D
+  saved₄ = record {
+    size = unfold v₄ in length-set v₃ 1 (depth w + 1) ∙ l₃;
+    depths = depth₄ ∙ add-one (depth w);
+    count = count₄;
+    clauses = clauses₄;
+    head = head₄;
+    else = λ i a b c d. t₄ i a ∙ t₃ i d ∙ t₂ i c ∙ t₁ i b;
+  }
+
+  pub is-saved : Saved w (set (set (set (set w (countsFrom + depth w) (trailAt w 0)) (sizesFrom + depth w) (clauseCount (set w (countsFrom + depth w) (trailAt w 0)))) (headsFrom + depth w)
+      (newest (set (set w (countsFrom + depth w) (trailAt w 0)) (sizesFrom + depth w) (clauseCount (set w (countsFrom + depth w) (trailAt w 0)))))) 1 (depth w + 1))
+  unfolding v₄ v₃ v₂ v₁ D
+  is-saved = saved₄

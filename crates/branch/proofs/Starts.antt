@@ -1,0 +1,115 @@
+-- The start: zeros, then the goals. Assumes nothing.
+use mathlib.Core.Path.{_≡_, refl, sym, ap, _∙_, subst}
+use mathlib.Core.Bool.{false, not}
+use mathlib.Core.Logic.{_⊎_, inl, inr}
+use mathlib.Core.List.{List, [], _∷_, map}
+use Prim.Native.Nat.{ℕ, zero, suc, _+_, _-_, _*_, _<_, _≤_}
+use native.Mathlib.Omega.{arith}
+use lib.ListN.{length, getD, set, replicate, length-set, length-map, length-replicate}
+use lib.Seq.{getD-set-same, getD-set-other}
+use borrow.Author.Tests.{eq-eqb}
+use Rattle.scope.specs.declared.Node.{Node}
+use Rattle.scope.proofs.Lists.{zeros-at}
+use Rattle.calculus.specs.Expansion.{expand}
+use Rattle.calculus.specs.Order.{mem, clauses}
+use Rattle.trail.proofs.Trails.{empty-held, empty-trail}
+use Rattle.area.specs.Area.{areaSize, mostClauses, goalRoom, basesFrom, slotsFrom, strikesFrom, trailFrom, clauseCount, strikeAt, trailAt, gOf}
+use Rattle.branch.specs.Clauses.{flat, offset, Listed, Filled}
+use Rattle.branch.specs.Holds.{Goals, clausesOf, Marked, Holds, fresh}
+use Rattle.branch.proofs.Appends.{flat-singles, offset-singles}
+
+clauses-none : (e : ℕ → List (List ℕ)) (goals : List ℕ) → clauses e goals [] ≡ map (_∷ []) goals
+unfolding clauses
+clauses-none e goals = refl
+
+mem-none : (m : ℕ) → mem m [] ≡ false
+unfolding mem
+mem-none m = refl
+
+module _ (t : ℕ → Node) (n : ℕ) (goals w₀ w₁ w₂ : List ℕ) (size : areaSize ≤ length w₀) (gs : Goals n goals) (z : (i : ℕ) → getD w₀ i 0 ≡ 0)
+    (b : Filled (basesFrom + 1) (length goals) suc w₀ w₁) (a : Filled slotsFrom (length goals) (λ k. getD goals k 0) w₁ w₂) where
+  w₃ : List ℕ
+  w₃ = set w₂ 0 (length goals)
+
+  size₃ : length w₃ ≡ length w₀
+  unfolding w₃
+  size₃ = length-set w₂ 0 (length goals) ∙ a .size ∙ b .size
+
+  away : (i : ℕ) → (i ≡ 0 → ⊥) → getD w₃ i 0 ≡ getD w₂ i 0
+  unfolding w₃
+  away i n = getD-set-other w₂ 0 i (length goals) 0 n
+
+  zero-low : (i : ℕ) → (i ≡ 0 → ⊥) → i < basesFrom + 1 → getD w₃ i 0 ≡ 0
+  zero-low i n h = away i n ∙ a .else i (inl (omega (arith, h))) ∙ b .else i (inl h) ∙ z i
+
+  zero-high : (i : ℕ) → strikesFrom ≤ i → getD w₃ i 0 ≡ 0
+  zero-high i h = away i (λ q. omega (arith, q, h)) ∙ a .else i (inr (omega (arith, h, gs .most))) ∙ b .else i (inr (omega (arith, h, gs .most))) ∙ z i
+
+  count₃ : clauseCount w₃ ≡ length goals
+  unfolding w₃
+  count₃ = getD-set-same w₂ 0 (length goals) 0 (omega (arith, size, a .size, b .size))
+
+  trail₃ : (i : ℕ) → trailAt w₃ i ≡ 0
+  trail₃ i = zero-high (trailFrom + i) (omega arith)
+
+  list₃ : gOf w₃ ≡ []
+  list₃ = empty-held n (trailAt w₃) (trail₃ 0)
+
+  clauses₃ : clausesOf t goals w₃ ≡ map (_∷ []) goals
+  clauses₃ = ap (clauses (expand t) goals) list₃ ∙ clauses-none (expand t) goals
+
+  base₃ : (k : ℕ) → k ≤ length goals → getD w₃ (basesFrom + k) 0 ≡ k
+  base₃ zero h = zero-low (basesFrom + 0) (λ q. omega (arith, q)) (omega arith)
+  base₃ (suc k) h =
+      let e : basesFrom + suc k ≡ basesFrom + 1 + k = omega arith in
+      ap (λ (i : ℕ). getD w₃ i 0) e ∙ away (basesFrom + 1 + k) (λ q. omega (arith, q)) ∙ a .else (basesFrom + 1 + k) (inl (omega (arith, h, gs .most))) ∙ b .here k (omega (arith, h))
+
+  listed₃ : Listed (map (_∷ []) goals) w₃
+  listed₃ = record {
+    count = count₃ ∙ sym (length-map goals (_∷ []));
+    bases = λ k h.
+        let i : k ≤ length goals = omega (arith, h, length-map goals (_∷ [])) in
+        base₃ k i ∙ sym (offset-singles goals k i);
+    slots = λ i h.
+        away (slotsFrom + i) (λ q. omega (arith, q)) ∙ a .here i (omega (arith, h, ap length (flat-singles goals))) ∙ ap (λ (c : List ℕ). getD c i 0) (sym (flat-singles goals));
+  }
+
+  holds₃ : Holds t n goals w₃ fresh
+  holds₃ = record {
+    base = record {
+      size = omega (arith, size, size₃);
+      aims = gs;
+      trail = empty-trail n (trailAt w₃) (trail₃ 0) (λ m i. trail₃ (2017 + m));
+      listed = subst (λ (c : List (List ℕ)). Listed c w₃) (sym clauses₃) listed₃;
+    };
+    marked = record {
+      chained = record {
+        head = zero-low 2 (λ q. omega (arith, q)) (omega arith);
+        chain = tt;
+        flags = λ m i. eq-eqb (strikeAt w₃ m) 0 (zero-high (strikesFrom + m) (omega arith)) ∙ sym (ap not (mem-none m));
+      };
+      valid = tt;
+    };
+    depths = zero-low 1 (λ q. omega (arith, q)) (omega arith);
+    splits = tt;
+  }
+
+  pub started : Holds t n goals (set w₂ 0 (length goals)) fresh
+  unfolding w₃
+  started = holds₃
+
+  pub started-empty : gOf (set w₂ 0 (length goals)) ≡ []
+  unfolding w₃
+  started-empty = list₃
+
+-- after zeros
+pub zeros-length : {w₀ : List ℕ} (w : List ℕ) → w₀ ≡ replicate (length w) 0 → length w₀ ≡ length w
+zeros-length w e = ap length e ∙ length-replicate (length w) 0
+
+pub begun : (t : ℕ → Node) (n : ℕ) (w : List ℕ) {goals w₀ w₁ w₂ : List ℕ} → areaSize ≤ length w → Goals n goals → w₀ ≡ replicate (length w) 0
+    → Filled (basesFrom + 1) (length goals) suc w₀ w₁ → Filled slotsFrom (length goals) (λ k. getD goals k 0) w₁ w₂
+    → Holds t n goals (set w₂ 0 (length goals)) fresh × (gOf (set w₂ 0 (length goals)) ≡ [])
+begun t n w {goals} {w₀} {w₁} {w₂} size gs e b a =
+    let y : areaSize ≤ length w₀ = omega (arith, size, zeros-length w e) in
+    let z : (i : ℕ) → getD w₀ i 0 ≡ 0 = λ i. ap (λ (l : List ℕ). getD l i 0) e ∙ zeros-at (length w) i in
+    (started t n goals w₀ w₁ w₂ y gs z b a, started-empty t n goals w₀ w₁ w₂ y gs z b a)

@@ -1,0 +1,57 @@
+-- `branch::choose` meets its contract. The number that is read is a literal of the table or `always`, and a choice's parity its sign. Assumes nothing.
+use native.Mathlib.Omega.{arith}
+use borrow.Author.Needs.{needs}
+use Rattle.branch.proofs.Appends.{operand-low, operand-choice}
+use Rattle.branch.proofs.choose.Statement.{statement}
+use Rattle.branch.proofs.choose.Tie as tie
+
+mul-l : tie.Need-mul-l
+mul-l c = search needs
+
+cast-l : tie.Need-cast-l
+cast-l c = search needs
+
+add-l : tie.Need-add-l
+add-l c = search needs
+
+add-l-2 : tie.Need-add-l-2
+add-l-2 c = search needs
+
+mul-l-2 : tie.Need-mul-l-2
+mul-l-2 c = search needs
+
+shared-slice-read-l : tie.Need-shared-slice-read-l
+shared-slice-read-l c = search needs
+
+sub-result : tie.Need-sub-result
+sub-result c = search needs
+
+add-result : tie.Need-add-result
+add-result c =
+    let s = c .before in
+    omega (arith, operand-low (s .pre .0) (s .args .node) (s .pre .1 .0) (s .args .c) (s .pre .1 .1) (s .pre .1 .2))
+
+add-result-2 : tie.Need-add-result-2
+add-result-2 c =
+    let s = c .before in
+    omega (arith, operand-low (s .pre .0) (s .args .node) (s .pre .1 .0) (s .args .c) (s .pre .1 .1) (s .pre .1 .2))
+
+returns : tie.Need-returns
+returns c =
+    let s = c .before in
+    operand-choice (s .pre .0) (s .args .node) (s .pre .1 .0) (s .args .c) (s .pre .1 .1)
+
+pub choose-spec : {M : Type 1} → statement M
+choose-spec =
+    tie.close
+    (tie.spec
+    mul-l
+    cast-l
+    add-l
+    add-l-2
+    mul-l-2
+    shared-slice-read-l
+    sub-result
+    add-result
+    add-result-2
+    returns)
