@@ -1,7 +1,7 @@
 -- The code of a literal, by the values of its node's operands, says what its clauses are under G. Assumes nothing.
 use mathlib.Core.Path.{_≡_, refl, sym, ap, _∙_}
 use mathlib.Core.Bool.{Bool, true, false, cond}
-use mathlib.Core.List.{List, [], _∷_, map}
+use mathlib.Core.List.{List, [], map}
 use Prim.Native.Nat.{ℕ, zero, suc, _+_, _-_, _*_, _/_, _%_, _<_, _≤_}
 use native.Mathlib.Omega.{arith}
 use native.Mathlib.Nat.{zero-add}
@@ -12,17 +12,18 @@ use Rattle.scope.specs.declared.Node.{Node}
 use Rattle.scope.specs.Table.{listFrom}
 use Rattle.scope.proofs.Lists.{getD-listFrom}
 use Rattle.calculus.specs.Expansion.{neg, chosen, templates, expand}
-use Rattle.calculus.specs.Order.{Value, holds, fails, undecided, valueOf, State, stateOf, literalOf, literalAt, isEmpty, isOne, some, firstOf, bit}
+use Rattle.calculus.specs.Order.{Value, holds, fails, undecided, valueOf, State, literalOf, literalAt, isEmpty, isOne, some, firstOf, bit}
 use Rattle.calculus.specs.Model.{All, Good}
 use Rattle.calculus.proofs.Lists.{all-imply, all-map, getD-map}
 use Rattle.calculus.proofs.Literals.{fails-neg, undecided-neg, holds-neg}
+use Rattle.calculus.proofs.Rows.{rowOf}
 use Rattle.calculus.proofs.Sizes.{expand-few}
 use Rattle.trail.specs.Trail.{valueCode}
 use Rattle.index.specs.Codes.{numbered, opposite, choiceValue, stateBy, rowStates, isOpen, firstIf, codeOf, codeRows, codeAt}
 use Rattle.index.specs.Index.{always, codesAt, indexNode}
 use Rattle.index.specs.Indexed.{Indexed}
 use Rattle.clause.specs.Coded.{wideValue, statesOf, Choice, Coded}
-use Rattle.clause.proofs.Rows.{Chooses, rowOf, row-chooses, of-operand}
+use Rattle.clause.proofs.Rows.{Chooses, row-chooses, of-operand}
 use Rattle.clause.proofs.States.{renamed, Right, states-renamed, one-kept, empty-kept, open-kept, one-open, first-most, first-has, some-renamed, first-renamed, literal-renamed, state-has}
 
 -- ---- values
@@ -72,7 +73,7 @@ module _ (n : ℕ) (G : List ℕ) (good : Good n G) where
 -- ---- the digits of a code
 
 module _ (p : State → Bool) (f : List State → ℕ → ℕ) (ss : List State) where
-  pub if-true : some p ss ≡ true → firstIf p f ss ≡ f ss (firstOf p ss)
+  if-true : some p ss ≡ true → firstIf p f ss ≡ f ss (firstOf p ss)
   if-true e = rw e
 
   if-low : (b : ℕ) → 0 < b → (some p ss ≡ true → f ss (firstOf p ss) < b) → firstIf p f ss < b
@@ -113,7 +114,7 @@ digits b c d u v e w n hb hc hd hu hv he hw = record {
 -- ---- the code of a row
 
 -- where it stands among the codes
-pub code-is : (row a b : ℕ) → row < 14 → a < 3 → b < 3 → codeAt (9 * row + (3 * a + b)) ≡ codeOf (rowStates (getD templates row []) a b)
+code-is : (row a b : ℕ) → row < 14 → a < 3 → b < 3 → codeAt (9 * row + (3 * a + b)) ≡ codeOf (rowStates (getD templates row []) a b)
 unfolding codeRows templates
 code-is row a b h ha hb =
     let i : (9 * row + (3 * a + b)) / 9 ≡ row = omega arith in
@@ -139,19 +140,19 @@ module _ (t : ℕ → Node) (l a b : ℕ) where
   node = t (l / 2)
 
   abbrev states : List State
-  states = rowStates (rowOf node (l % 2)) a b
+  states = rowStates (rowOf (node .kind) (l % 2)) a b
 
   few : length states ≤ 2
   unfolding expand
   few =
-      omega (arith, expand-few t l, length-map (rowOf node (l % 2)) (map (chosen node)), length-map (rowOf node (l % 2)) (stateBy (choiceValue a b)))
+      omega (arith, expand-few t l, length-map (rowOf (node .kind) (l % 2)) (map (chosen node)), length-map (rowOf (node .kind) (l % 2)) (stateBy (choiceValue a b)))
 
   -- the literal of an open state is a choice of an operand
   chooses : All (λ s. isOpen s ≡ true → Chooses node (literalOf s)) states
   chooses =
-      all-map (λ s. isOpen s ≡ true → Chooses node (literalOf s)) (stateBy (choiceValue a b)) (rowOf node (l % 2))
+      all-map (λ s. isOpen s ≡ true → Chooses node (literalOf s)) (stateBy (choiceValue a b)) (rowOf (node .kind) (l % 2))
       (all-imply (All (Chooses node)) (λ c. isOpen (stateBy (choiceValue a b) c) ≡ true → Chooses node (literalOf (stateBy (choiceValue a b) c)))
-      (state-has (Chooses node) (choiceValue a b)) (rowOf node (l % 2)) (row-chooses node (l % 2) (omega arith)))
+      (state-has (Chooses node) (choiceValue a b)) (rowOf (node .kind) (l % 2)) (row-chooses node (l % 2) (omega arith)))
 
   one-chooses : some isOne states ≡ true → Chooses node (literalAt states (firstOf isOne states))
   one-chooses = first-has isOne one-open (Chooses node) states chooses
@@ -172,15 +173,15 @@ module _ (t : ℕ → Node) (l a b : ℕ) where
   -- the same of the clauses of literals
   module _ (n : ℕ) (G : List ℕ) (good : Good n G)
       (va : 2 < node .kind → valueOf G (node .a) ≡ numbered a) (vb : 2 < node .kind → valueOf G (node .b) ≡ numbered b) where
-    right : All (All (Right G (choiceValue a b) (chosen node))) (rowOf node (l % 2))
+    right : All (All (Right G (choiceValue a b) (chosen node))) (rowOf (node .kind) (l % 2))
     right =
         all-imply (All (Chooses node)) (All (Right G (choiceValue a b) (chosen node)))
         (all-imply (Chooses node) (Right G (choiceValue a b) (chosen node)) (λ k h. choice-right n G good node a b (va (h .0)) (vb (h .0)) k (h .1)))
-        (rowOf node (l % 2)) (row-chooses node (l % 2) (omega arith))
+        (rowOf (node .kind) (l % 2)) (row-chooses node (l % 2) (omega arith))
 
     states-are : statesOf t G l ≡ map (renamed (chosen node)) states
     unfolding expand
-    states-are = states-renamed G (choiceValue a b) (chosen node) (rowOf node (l % 2)) right
+    states-are = states-renamed G (choiceValue a b) (chosen node) (rowOf (node .kind) (l % 2)) right
 
     module _ (p : State → Bool) (kept : (s : State) → p (renamed (chosen node) s) ≡ p s) where
       some-is : some p (map (renamed (chosen node)) states) ≡ some p states
@@ -199,7 +200,7 @@ module _ (t : ℕ → Node) (l a b : ℕ) where
           rw (c, first-renamed (chosen node) p kept states)
           (of-operand node _ (first-has p opens (Chooses node) states chooses s), sym (literal-renamed (chosen node) p kept opens states s))
 
-    pub coded : Coded node (statesOf t G l) (codeOf states)
+    coded : Coded node (statesOf t G l) (codeOf states)
     coded = rw states-are record {
       unit = parts .unit ∙ ap bit (sym (some-is isOne (one-kept (chosen node))));
       unit-clause = first-is isOne (one-kept (chosen node)) (parts .unit-clause);

@@ -15,8 +15,8 @@ use Rattle.scope.proofs.Lists.{getD-listFrom}
 use Rattle.calculus.specs.Expansion.{chosen, templates, expand}
 use Rattle.calculus.specs.Order.{clauses}
 use Rattle.calculus.specs.Model.{All}
-use Rattle.calculus.proofs.Lists.{every, every-all, all-getD, all-imply, all-each, getD-map}
-use Rattle.calculus.proofs.Rows.{bare, row-bare}
+use Rattle.calculus.proofs.Lists.{every, every-all, all-getD, all-imply, getD-map}
+use Rattle.calculus.proofs.Rows.{rowOf, bare, row-bare}
 use Rattle.calculus.proofs.Sizes.{Short, expand-few, clauses-short}
 use Rattle.index.specs.Index.{indexNode, operands, always}
 use Rattle.index.specs.Indexed.{Indexed}
@@ -45,17 +45,13 @@ bare-all : (P : ℕ → Type 0) (c : List ℕ) → bare c ≡ true → All P c
 bare-all P [] e = tt
 bare-all P (m ∷ c) e = absurd (false≢true e)
 
--- the clauses of a node's literal of a sign, as choices
-abbrev pub rowOf : Node → ℕ → List (List ℕ)
-rowOf y sign = getD templates (2 * y .kind + sign) []
-
-pub row-chooses : (y : Node) (sign : ℕ) → sign < 2 → All (All (Chooses y)) (rowOf y sign)
+pub row-chooses : (y : Node) (sign : ℕ) → sign < 2 → All (All (Chooses y)) (rowOf (y .kind) sign)
 row-chooses y sign s = go (decLt (y .kind) 3)
   where
-    go : Dec (y .kind < 3) → All (All (Chooses y)) (rowOf y sign)
-    go (yes h) = all-imply (λ c. bare c ≡ true) (All (Chooses y)) (bare-all (Chooses y)) (rowOf y sign) (row-bare (y .kind) sign h s)
+    go : Dec (y .kind < 3) → All (All (Chooses y)) (rowOf (y .kind) sign)
+    go (yes h) = all-imply (λ c. bare c ≡ true) (All (Chooses y)) (bare-all (Chooses y)) (rowOf (y .kind) sign) (row-bare (y .kind) sign h s)
     go (no h) =
-        all-imply (All (λ c. c < 4)) (All (Chooses y)) (all-imply (λ c. c < 4) (Chooses y) (λ c l. (omega (arith, h), l))) (rowOf y sign)
+        all-imply (All (λ c. c < 4)) (All (Chooses y)) (all-imply (λ c. c < 4) (Chooses y) (λ c l. (omega (arith, h), l))) (rowOf (y .kind) sign)
         (row-low (2 * y .kind + sign))
 
 -- such a choice is of an operand
@@ -147,11 +143,11 @@ module _ (t : ℕ → Node) (l j : ℕ) (k : j < length (expand t l)) where
 
   -- the clause, as choices
   abbrev choices : List ℕ
-  choices = getD (rowOf node (l % 2)) j []
+  choices = getD (rowOf (node .kind) (l % 2)) j []
 
-  j-low : j < length (rowOf node (l % 2))
+  j-low : j < length (rowOf (node .kind) (l % 2))
   unfolding expand
-  j-low = omega (arith, k, length-map (rowOf node (l % 2)) (map (chosen node)))
+  j-low = omega (arith, k, length-map (rowOf (node .kind) (l % 2)) (map (chosen node)))
 
   pub j-most : j < 3
   j-most = omega (arith, k, expand-few t l)
@@ -159,10 +155,10 @@ module _ (t : ℕ → Node) (l j : ℕ) (k : j < length (expand t l)) where
   -- its literals
   chosen-clause : getD (expand t l) j [] ≡ map (chosen node) choices
   unfolding expand
-  chosen-clause = List·getD-map (map (chosen node)) (rowOf node (l % 2)) j []
+  chosen-clause = List·getD-map (map (chosen node)) (rowOf (node .kind) (l % 2)) j []
 
   chooses : All (Chooses node) choices
-  chooses = all-getD (All (Chooses node)) (rowOf node (l % 2)) j [] tt (row-chooses node (l % 2) (omega arith))
+  chooses = all-getD (All (Chooses node)) (rowOf (node .kind) (l % 2)) j [] tt (row-chooses node (l % 2) (omega arith))
 
   short : Short choices
   unfolding clauses
@@ -195,8 +191,8 @@ module _ (t : ℕ → Node) (l j : ℕ) (k : j < length (expand t l)) where
         inside (c ∷ cs) zero h = refl
         inside (c ∷ cs) (suc j) h = inside cs j (omega arith)
 
-        same : choiceAt (rowOf node (l % 2)) column ≡ at choices i
-        same = rw (d, m, inside (rowOf node (l % 2)) j j-low)
+        same : choiceAt (rowOf (node .kind) (l % 2)) column ≡ at choices i
+        same = rw (d, m, inside (rowOf (node .kind) (l % 2)) j j-low)
 
     module _ {a : ℕ} (pa : a ≡ cell row (3 * j)) where
       ea : a ≡ at choices 0

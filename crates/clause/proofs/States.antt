@@ -1,10 +1,10 @@
 -- What clauses of choices are, and what the clauses of literals are that the choices stand for: clauses of any length. Assumes nothing.
-use mathlib.Core.Path.{_≡_, refl, sym, ap, _∙_}
+use mathlib.Core.Path.{_≡_, refl}
 use mathlib.Core.Bool.{Bool, true, false, cond, _||_, false≢true}
 use mathlib.Core.List.{List, [], _∷_, map}
 use Prim.Native.Nat.{ℕ, suc, _≤_}
 use native.Mathlib.Omega.{arith}
-use lib.ListN.{length, getD}
+use lib.ListN.{length}
 use Rattle.calculus.specs.Order.{Value, holds, fails, undecided, valueOf, State, met, empty, one, many, joined, stateOf, literalOf, literalAt, isEmpty, isOne, some, firstOf}
 use Rattle.calculus.specs.Model.{All}
 use Rattle.index.specs.Codes.{stateBy, isOpen}

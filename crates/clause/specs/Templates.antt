@@ -1,4 +1,4 @@
--- The clause templates as the code has them: nine numbers a row, by kind and sign. Assumes nothing.
+-- 01, 'Expansion': 'held in a table by kind and sign'. The templates as the code has them, nine numbers a row. Assumes nothing.
 use mathlib.Core.List.{List, [], _∷_, map}
 use Prim.Native.Nat.{ℕ, _/_, _%_}
 use lib.ListN.{getD}

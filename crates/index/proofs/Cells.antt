@@ -5,6 +5,7 @@ use Prim.Native.Nat.{ℕ, _+_, _*_, _/_, _%_, _<_, _≤_}
 use native.Mathlib.Omega.{arith}
 use native.Mathlib.Decide.{ℕ-discrete}
 use lib.ListN.{length, getD, set, length-set}
+use borrow.Author.Count.{below-more}
 use lib.Seq.{getD-set-same, getD-set-other}
 use borrow.Author.Tests.{lt-ltb, le-ltb}
 use Rattle.scope.specs.declared.Node.{Node}
@@ -223,12 +224,11 @@ pub copied-more : (k v : ℕ) (x x′ : List ℕ) → k < codesSize → v ≡ co
 copied-more k v x x′ h e c = record {
   size = length-set x′ (codesAt + k) v ∙ c .size;
   before = λ i l. getD-set-other x′ (codesAt + k) i v 0 (λ q. omega (arith, q)) ∙ c .before i l;
-  codes = λ i l. go i l (ℕ-discrete i k);
+  codes =
+      below-more _ k
+      (λ i l. getD-set-other x′ (codesAt + k) (codesAt + i) v 0 (λ r. omega (arith, r)) ∙ c .codes i l)
+      (getD-set-same x′ (codesAt + k) v 0 (omega (arith, c .size)) ∙ e);
 }
-  where
-    go : (i : ℕ) → i < k + 1 → Dec (i ≡ k) → getD (set x′ (codesAt + k) v) (codesAt + i) 0 ≡ codeAt i
-    go i l (yes q) = rw q (getD-set-same x′ (codesAt + k) v 0 (omega (arith, c .size)) ∙ e)
-    go i l (no q) = getD-set-other x′ (codesAt + k) (codesAt + i) v 0 (λ r. q (omega (arith, r))) ∙ c .codes i (omega (arith, q))
 
 -- ---- the whole index
 

@@ -4,7 +4,7 @@ ghost use mathlib.Core.Path.{_≡_};
 ghost use Prim.Native.Nat.{ℕ, _+_, _*_, _<_, _≤_};
 ghost use lib.ListN.{length};
 ghost use Rattle.repeats.specs.Chains.{placeOf};
-ghost use Rattle.index.specs.Codes.{codesSize, codeRows, codeAt};
+ghost use Rattle.index.specs.Codes.{codesSize};
 ghost use Rattle.index.specs.Index.{indexSize, mostNodes, indexNode, opNode, Linked, Entered, Loaded, Copied, Built};
 
 // The layout: node m has its kind at 4 m, then its operands; from HEADS on each node's link to the last operand cell that names it; from
@@ -116,13 +116,14 @@ fn enter_node(x: &mut [u16], n: usize, p: usize)
     requires { ⌜ Linked (indexNode (now x)) n (4 * p) (now x) ⌝ }
     ensures { λ _. ⌜ Entered n (4 * (p + 1)) (now (x .entry)) (now (x .exit)) ⌝ }
 {
-    if x[4 * p] < 3 {
+    let s = 4 * p;
+    if x[s] < 3 {
         return;
     }
-    let a = x[4 * p + 1] / 2;
-    let b = x[4 * p + 2] / 2;
-    enter(x, n, 4 * p + 1, a as usize);
-    enter(x, n, 4 * p + 2, b as usize);
+    let a = x[s + 1] / 2;
+    let b = x[s + 2] / 2;
+    enter(x, n, s + 1, a as usize);
+    enter(x, n, s + 2, b as usize);
 }
 
 // All cells are linked, node by node.
@@ -147,10 +148,11 @@ fn load_node(t: &[u8], x: &mut [u16], m: usize)
     let at = repeats::place(m);
     let end = at + 8;
     let node = record::fields(&t[at..end]);
-    x[4 * m] = node.kind as u16;
-    x[4 * m + 1] = node.a;
-    x[4 * m + 2] = node.b;
-    x[4 * m + 3] = ALWAYS;
+    let s = 4 * m;
+    x[s] = node.kind as u16;
+    x[s + 1] = node.a;
+    x[s + 2] = node.b;
+    x[s + 3] = ALWAYS;
     x[HEADS + m] = 0;
 }
 
@@ -167,14 +169,6 @@ fn load(t: &[u8], nodes: usize, x: &mut [u16])
     }
 }
 
-// Code i of CODES, which is lent: an index into a constant copies the constant.
-fn code_at(codes: &[[u16; 9]; 14], i: usize) -> u16
-    requires { ⌜ (now codes ≡ codeRows) × (i < codesSize) ⌝ }
-    ensures { λ r. ⌜ r ≡ codeAt i ⌝ }
-{
-    codes[i / 9][i % 9]
-}
-
 // The codes are copied behind the links.
 fn copy_codes(x: &mut [u16])
     requires { ⌜ length (now x) ≡ indexSize ⌝ }
@@ -183,7 +177,7 @@ fn copy_codes(x: &mut [u16])
     let codes = &CODES;
     let mut i = 0;
     while i < CODES_SIZE {
-        x[CODES_AT + i] = code_at(codes, i);
+        x[CODES_AT + i] = codes[i / 9][i % 9];
         i += 1;
     }
 }

@@ -10,7 +10,7 @@ use lib.Dec.{eqb}
 use lib.Count.{trailingZeros}
 use lib.ListN.{getD}
 use borrow.Author.Tests.{eq-eqb, ne-eqb}
-use Rattle.units.specs.Units.{positions, blocks, bit, member, someIn, Units, Some, Empty, First}
+use Rattle.units.specs.Units.{blocks, member, someIn, Units, Some, Empty, First}
 use Rattle.units.proofs.Bits.{Lowest, lowest, bit-none}
 use Rattle.units.proofs.Sets.{some-block, some-past}
 
@@ -40,7 +40,7 @@ module _ (m : List ℕ) (U : Units m) where
   unfolding member
   none-in j e = rw e (bit-none (j % 64))
 
-  pub none-found : getD m blocks 0 ≡ 0 → Empty m
+  none-found : getD m blocks 0 ≡ 0 → Empty m
   none-found e q h =
       none-in q (word-none (q / 64) (omega arith) (sym (U .sums (q / 64) (omega arith)) ∙ rw e (bit-none (q / 64))))
 

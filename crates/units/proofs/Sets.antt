@@ -11,6 +11,7 @@ use lib.ListN.{length, getD, set, length-set}
 use lib.Seq.{getD-set-same, getD-set-other}
 use lib.Pow.{shl-exact}
 use mir.Val.{boolByte}
+use borrow.Author.Count.{below-more}
 use borrow.Author.Tests.{ne-eqb, lt-ltb, le-ltb}
 use Rattle.units.specs.Units.{positions, blocks, words, bit, member, someIn, Units, Empty, Putted}
 use Rattle.units.proofs.Bits.{Turned, turned-none, set-bit, clear-bit, set-fits, bit-none}
@@ -76,7 +77,7 @@ module _ (m : List ℕ) (q : ℕ) (U : Units m) (hq : q < positions) where
   sum-kept x = getD-set-other m (q / 64) blocks x 0 (λ e. omega (arith, e))
 
   -- the sum's place, where a word was stored
-  pub sum-in : (x : ℕ) → blocks < length (put-word m q x)
+  sum-in : (x : ℕ) → blocks < length (put-word m q x)
   sum-in x = omega (arith, length-set m (q / 64) x, U .size)
 
   sum-bit : bit (getD m blocks 0) (q / 64) ≡ cond (eqb (word m q) 0) 0 1
@@ -171,11 +172,7 @@ put-same m q v U e = record { units = U; here = e; other = λ j h n. refl }
 
 -- a loop that stores 0 at each index
 pub more : (m : List ℕ) (i : ℕ) → i < length m → ((j : ℕ) → j < i → getD m j 0 ≡ 0) → (j : ℕ) → j < i + 1 → getD (set m i 0) j 0 ≡ 0
-more m i h e j k = go (ℕ-discrete j i)
-  where
-    go : Dec (j ≡ i) → getD (set m i 0) j 0 ≡ 0
-    go (yes q) = rw q (getD-set-same m i 0 0 h)
-    go (no q) = getD-set-other m i j 0 0 q ∙ e j (omega arith)
+more m i h e = below-more _ i (λ j k. getD-set-other m i j 0 0 (λ q. omega (arith, q)) ∙ e j k) (getD-set-same m i 0 0 h)
 
 pub cleared : (m : List ℕ) → length m ≡ words → ((i : ℕ) → i < words → getD m i 0 ≡ 0) → Units m × Empty m
 unfolding member

@@ -38,8 +38,15 @@ cast-choose c = search needs
 
 choose-requires : tie.Need-choose-requires
 choose-requires c κs =
-    let s = c .before .before .before .before in
-    (s .pre .1 .0, (omega (arith, s .pre .1 .1 .0), first-of (indexNode (s .args .x .now)) (s .args .l) (s .args .j) (s .pre .1 .1 .1) (c .before .before .row-of .ensures) (c .before .template .ensures) (λ q. omega (arith, q, c .if1 .left))))
+    let a = c in
+    let s = a .before .before .before .before in (
+      s .pre .1 .0,
+      (
+        omega (arith, s .pre .1 .1 .0),
+        first-of (indexNode (s .args .x .now)) (s .args .l) (s .args .j) (s .pre .1 .1 .1)
+            (a .before .before .row-of .ensures) (a .before .template .ensures) (λ q. omega (arith, q, a .if1 .left)),
+      ),
+    )
 
 mul-template-2 : tie.Need-mul-template-2
 mul-template-2 c =
@@ -58,16 +65,28 @@ template-requires-2 c κs =
 
 returns-2 : tie.Need-returns-2
 returns-2 c =
-    let s = c .before .before .before .before .before .before .before in
-    clause-one (indexNode (s .args .x .now)) (s .args .l) (s .args .j) (s .pre .1 .1 .1) (c .before .before .before .before .before .row-of .ensures) (c .before .before .before .before .template .ensures) (λ q. omega (arith, q, c .before .before .before .if1 .left)) (c .before .before .choose .ensures) (c .before .template2 .ensures) (c .if2 .taken)
+    let a = c .before .before .before in
+    let s = a .before .before .before .before in
+    clause-one (indexNode (s .args .x .now)) (s .args .l) (s .args .j) (s .pre .1 .1 .1)
+    (a .before .before .row-of .ensures) (a .before .template .ensures) (λ q. omega (arith, q, a .if1 .left))
+    (c .before .before .choose .ensures) (c .before .template2 .ensures) (c .if2 .taken)
 
 cast-choose-2 : tie.Need-cast-choose-2
 cast-choose-2 c = search needs
 
 choose-requires-2 : tie.Need-choose-requires-2
 choose-requires-2 c κs =
-    let s = c .before .before .before .before .before .before .before in
-    (s .pre .1 .0, (omega (arith, s .pre .1 .1 .0), second-of (indexNode (s .args .x .now)) (s .args .l) (s .args .j) (s .pre .1 .1 .1) (c .before .before .before .before .before .row-of .ensures) (c .before .before .before .before .template .ensures) (λ q. omega (arith, q, c .before .before .before .if1 .left)) (c .before .before .choose .ensures) (c .before .template2 .ensures) (λ q. omega (arith, q, c .if2 .left))))
+    let b = c in
+    let a = b .before .before .before in
+    let s = a .before .before .before .before in (
+      s .pre .1 .0,
+      (
+        omega (arith, s .pre .1 .1 .0),
+        second-of (indexNode (s .args .x .now)) (s .args .l) (s .args .j) (s .pre .1 .1 .1)
+            (a .before .before .row-of .ensures) (a .before .template .ensures) (λ q. omega (arith, q, a .if1 .left))
+            (b .before .before .choose .ensures) (b .before .template2 .ensures) (λ q. omega (arith, q, b .if2 .left)),
+      ),
+    )
 
 mul-template-3 : tie.Need-mul-template-3
 mul-template-3 c =
@@ -86,21 +105,43 @@ template-requires-3 c κs =
 
 returns-3 : tie.Need-returns-3
 returns-3 c =
-    let s = c .before .before .before .before .before .before .before .before .before .before in
-    clause-two (indexNode (s .args .x .now)) (s .args .l) (s .args .j) (s .pre .1 .1 .1) (c .before .before .before .before .before .before .before .before .row-of .ensures) (c .before .before .before .before .before .before .before .template .ensures) (λ q. omega (arith, q, c .before .before .before .before .before .before .if1 .left)) (c .before .before .before .before .before .choose .ensures) (c .before .before .before .before .template2 .ensures) (λ q. omega (arith, q, c .before .before .before .if2 .left)) (c .before .before .choose2 .ensures) (c .before .template3 .ensures) (c .if3 .taken)
+    let b = c .before .before .before in
+    let a = b .before .before .before in
+    let s = a .before .before .before .before in
+    clause-two (indexNode (s .args .x .now)) (s .args .l) (s .args .j) (s .pre .1 .1 .1)
+    (a .before .before .row-of .ensures) (a .before .template .ensures) (λ q. omega (arith, q, a .if1 .left))
+    (b .before .before .choose .ensures) (b .before .template2 .ensures) (λ q. omega (arith, q, b .if2 .left))
+    (c .before .before .choose2 .ensures) (c .before .template3 .ensures) (c .if3 .taken)
 
 cast-choose-3 : tie.Need-cast-choose-3
 cast-choose-3 c = search needs
 
 choose-requires-3 : tie.Need-choose-requires-3
 choose-requires-3 c κs =
-    let s = c .before .before .before .before .before .before .before .before .before .before in
-    (s .pre .1 .0, (omega (arith, s .pre .1 .1 .0), third-of (indexNode (s .args .x .now)) (s .args .l) (s .args .j) (s .pre .1 .1 .1) (c .before .before .before .before .before .before .before .before .row-of .ensures) (c .before .before .before .before .before .before .before .template .ensures) (λ q. omega (arith, q, c .before .before .before .before .before .before .if1 .left)) (c .before .before .before .before .before .choose .ensures) (c .before .before .before .before .template2 .ensures) (λ q. omega (arith, q, c .before .before .before .if2 .left)) (c .before .before .choose2 .ensures) (c .before .template3 .ensures) (λ q. omega (arith, q, c .if3 .left))))
+    let d = c in
+    let b = d .before .before .before in
+    let a = b .before .before .before in
+    let s = a .before .before .before .before in (
+      s .pre .1 .0,
+      (
+        omega (arith, s .pre .1 .1 .0),
+        third-of (indexNode (s .args .x .now)) (s .args .l) (s .args .j) (s .pre .1 .1 .1)
+            (a .before .before .row-of .ensures) (a .before .template .ensures) (λ q. omega (arith, q, a .if1 .left))
+            (b .before .before .choose .ensures) (b .before .template2 .ensures) (λ q. omega (arith, q, b .if2 .left))
+            (d .before .before .choose2 .ensures) (d .before .template3 .ensures) (λ q. omega (arith, q, d .if3 .left)),
+      ),
+    )
 
 returns-4 : tie.Need-returns-4
 returns-4 c =
-    let s = c .before .before .before .before .before .before .before .before .before .before .before in
-    clause-three (indexNode (s .args .x .now)) (s .args .l) (s .args .j) (s .pre .1 .1 .1) (c .before .before .before .before .before .before .before .before .before .row-of .ensures) (c .before .before .before .before .before .before .before .before .template .ensures) (λ q. omega (arith, q, c .before .before .before .before .before .before .before .if1 .left)) (c .before .before .before .before .before .before .choose .ensures) (c .before .before .before .before .before .template2 .ensures) (λ q. omega (arith, q, c .before .before .before .before .if2 .left)) (c .before .before .before .choose2 .ensures) (c .before .before .template3 .ensures) (λ q. omega (arith, q, c .before .if3 .left)) (c .choose3 .ensures)
+    let d = c .before in
+    let b = d .before .before .before in
+    let a = b .before .before .before in
+    let s = a .before .before .before .before in
+    clause-three (indexNode (s .args .x .now)) (s .args .l) (s .args .j) (s .pre .1 .1 .1)
+    (a .before .before .row-of .ensures) (a .before .template .ensures) (λ q. omega (arith, q, a .if1 .left))
+    (b .before .before .choose .ensures) (b .before .template2 .ensures) (λ q. omega (arith, q, b .if2 .left))
+    (d .before .before .choose2 .ensures) (d .before .template3 .ensures) (λ q. omega (arith, q, d .if3 .left)) (c .choose3 .ensures)
 
 pub clause-of-spec : {M : Type 1} → statement M
 clause-of-spec =

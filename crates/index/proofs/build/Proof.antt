@@ -23,8 +23,9 @@ same-length c = search needs
 
 returns : tie.Need-returns
 returns c =
-    let s = c .before .before .before .before .before .before .before .before .before .before .before .before .before .before in
-    built (s .args .t .now) (s .args .nodes) _ _ _ (s .pre .0 .0) (c .before .before .before .before .before .before .before .before .before .before .load .ensures) (c .before .before .before .before .before .before .link .ensures) (c .before .before .copy-codes .ensures)
+    let a = c .before .before .before .before .before .before .before .before .before .before in
+    let s = a .before .before .before .before in
+    built (s .args .t .now) (s .args .nodes) _ _ _ (s .pre .0 .0) (a .load .ensures) (c .before .before .before .before .before .before .link .ensures) (c .before .before .copy-codes .ensures)
 
 pub build-spec : {M : Type 1} → statement M
 build-spec =

@@ -11,7 +11,6 @@ use native.Mathlib.Omega.{arith}
 use borrow.Author.Needs.{needs}
 use Rattle.index.proofs.copy_codes.Statement.{statement}
 use Rattle.index.proofs.copy_codes.Tie as tie
-use Rattle.index.proofs.code_at.Reads as code-at-reads
 
 abbrev Inv-loop : tie.InvT-loop
 Inv-loop x₀ codes i₀ x i = (i ≤ codesSize) × Copied i x₀ x
@@ -20,17 +19,25 @@ abbrev μ-loop : tie.MeasureT-loop
 μ-loop x₀ codes i₀ x i = codesSize - i
 
 loop-holds : tie.Need-loop-holds Inv-loop μ-loop
-loop-holds c = (omega arith, copied-none (c .before .before .args .x .now) (c .before .before .pre))
+loop-holds c = (omega arith, copied-none (c .before .args .x .now) (c .before .pre))
 
-code-at-requires : tie.Need-code-at-requires Inv-loop μ-loop
-unfolding listFrom templates some firstOf choiceValue stateBy codeOf codeRows
-code-at-requires c κs = (refl, search needs)
+mul-x : tie.Need-mul-x Inv-loop μ-loop
+mul-x c = search needs
+
+mul-x-2 : tie.Need-mul-x-2 Inv-loop μ-loop
+mul-x-2 c = search needs
+
+index-1-x : tie.Need-index-1-x Inv-loop μ-loop
+index-1-x c = search needs
+
+index-2-x : tie.Need-index-2-x Inv-loop μ-loop
+index-2-x c = search needs
 
 add-x : tie.Need-add-x Inv-loop μ-loop
 add-x c = search needs
 
-mul-x : tie.Need-mul-x Inv-loop μ-loop
-mul-x c = search needs
+mul-x-3 : tie.Need-mul-x-3 Inv-loop μ-loop
+mul-x-3 c = search needs
 
 slice-write-x : tie.Need-slice-write-x Inv-loop μ-loop
 slice-write-x c = omega (arith, c .before .before .loop .inv .1 .size, c .before .loop-test .taken)
@@ -42,13 +49,14 @@ loop-less : tie.Need-loop-less Inv-loop μ-loop
 loop-less c = search needs
 
 loop-again : tie.Need-loop-again Inv-loop μ-loop
+unfolding listFrom templates some firstOf choiceValue stateBy codeOf codeRows
 loop-again c =
     let l = c .before .before .loop in
     let h = c .before .loop-test .taken in
-    (omega (arith, h), copied-more (l .i) _ _ (l .x) h (c .code-at .ensures) (l .inv .1))
+    (omega (arith, h), copied-more (l .i) _ _ (l .x) h refl (l .inv .1))
 
 same-length : tie.Need-same-length Inv-loop μ-loop
-same-length c = c .before .loop .inv .1 .size ∙ sym (c .before .before .before .before .pre)
+same-length c = c .before .loop .inv .1 .size ∙ sym (c .before .before .before .pre)
 
 returns : tie.Need-returns Inv-loop μ-loop
 returns c =
@@ -62,9 +70,12 @@ copy-codes-spec =
     Inv-loop
     μ-loop
     loop-holds
-    code-at-requires
-    add-x
     mul-x
+    mul-x-2
+    index-1-x
+    index-2-x
+    add-x
+    mul-x-3
     slice-write-x
     add-i
     loop-less

@@ -8,11 +8,11 @@ use Rattle.index.proofs.enter_node.Statement.{statement}
 use Rattle.index.proofs.enter_node.Tie as tie
 use Rattle.index.proofs.enter.Reads as enter-reads
 
+mul-s : tie.Need-mul-s
+mul-s c = search needs
+
 mul-if1 : tie.Need-mul-if1
 mul-if1 c = search needs
-
-mul-if1-2 : tie.Need-mul-if1-2
-mul-if1-2 c = search needs
 
 slice-read-if1 : tie.Need-slice-read-if1
 slice-read-if1 c = search needs
@@ -22,32 +22,23 @@ returns c =
     let s = c .before .before .before in
     entered-leaf (s .args .n) (s .args .p) (s .args .x .now) (s .pre .0 .1) (s .pre .0 .2) (s .pre .0 .0) (s .pre .1) (c .if1 .taken)
 
-mul-a : tie.Need-mul-a
-mul-a c = search needs
-
 add-a : tie.Need-add-a
 add-a c = search needs
 
-mul-a-2 : tie.Need-mul-a-2
-mul-a-2 c = search needs
+mul-a : tie.Need-mul-a
+mul-a c = search needs
 
 slice-read-a : tie.Need-slice-read-a
 slice-read-a c = search needs
 
-mul-b : tie.Need-mul-b
-mul-b c = search needs
-
 add-b : tie.Need-add-b
 add-b c = search needs
 
-mul-b-2 : tie.Need-mul-b-2
-mul-b-2 c = search needs
+mul-b : tie.Need-mul-b
+mul-b c = search needs
 
 slice-read-b : tie.Need-slice-read-b
 slice-read-b c = search needs
-
-mul-enter : tie.Need-mul-enter
-mul-enter c = search needs
 
 add-enter : tie.Need-add-enter
 add-enter c = search needs
@@ -61,9 +52,6 @@ enter-requires c κs =
     let k = names-first (s .args .n) (s .args .p) (s .args .x .now) (s .pre .0 .1) (s .pre .0 .2) (c .before .before .before .if1 .left) in
     let e = entered-kind (s .args .n) (s .args .p) (s .args .x .now) (s .pre .0 .1) (s .pre .0 .2) (s .pre .0 .0) (s .pre .1) in
     ((s .pre .0 .0, s .pre .0 .1, omega (arith, s .pre .0 .2), k), e .linked)
-
-mul-enter-2 : tie.Need-mul-enter-2
-mul-enter-2 c = search needs
 
 add-enter-2 : tie.Need-add-enter-2
 add-enter-2 c = search needs
@@ -92,23 +80,19 @@ pub enter-node-spec : {M : Type 1} → statement M
 enter-node-spec =
     tie.close
     (tie.spec
+    mul-s
     mul-if1
-    mul-if1-2
     slice-read-if1
     returns
-    mul-a
     add-a
-    mul-a-2
+    mul-a
     slice-read-a
-    mul-b
     add-b
-    mul-b-2
+    mul-b
     slice-read-b
-    mul-enter
     add-enter
     cast-enter
     enter-requires
-    mul-enter-2
     add-enter-2
     cast-enter-2
     enter-requires-2

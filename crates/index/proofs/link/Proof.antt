@@ -33,7 +33,8 @@ loop-again : tie.Need-loop-again Inv-loop μ-loop
 loop-again c =
     let l = c .before .before .before .before .before .loop in
     let start = c .before .before .before .before .before .before .before in
-    (omega (arith, c .before .before .before .before .loop-test .taken), entered-more (start .args .n) (4 * l .p) (4 * (l .p + 1)) (start .args .x .now) (l .x) _ (l .inv .1) (c .before .before .enter-node .ensures))
+    let e = entered-more (start .args .n) (4 * l .p) (4 * (l .p + 1)) (start .args .x .now) (l .x) _ (l .inv .1) (c .before .before .enter-node .ensures) in
+    (omega (arith, c .before .before .before .before .loop-test .taken), e)
 
 same-length : tie.Need-same-length Inv-loop μ-loop
 same-length c = c .before .loop .inv .1 .size ∙ sym (c .before .before .before .pre .0 .0)

@@ -18,7 +18,9 @@ loop-holds : tie.Need-loop-holds Inv-loop μ-loop
 loop-holds c = (omega arith, loaded-none (c .before .before .args .t .now) (c .before .before .args .x .now) (c .before .before .pre .1))
 
 load-node-requires : tie.Need-load-node-requires Inv-loop μ-loop
-load-node-requires c κs = ((omega (arith, c .before .before .before .before .before .pre .0 .0, c .before .loop-test .taken), c .before .before .before .before .before .pre .0 .1 _ (c .before .loop-test .taken)), c .before .before .loop .inv .1)
+load-node-requires c κs =
+    let p = c .before .before .before .before .before .pre .0 in
+    ((omega (arith, p .0, c .before .loop-test .taken), p .1 _ (c .before .loop-test .taken)), c .before .before .loop .inv .1)
 
 add-m : tie.Need-add-m Inv-loop μ-loop
 add-m c = search needs

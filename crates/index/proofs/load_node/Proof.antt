@@ -8,6 +8,8 @@ use native.Mathlib.Omega.{arith}
 use borrow.Author.Needs.{needs}
 use Rattle.index.proofs.load_node.Statement.{statement}
 use Rattle.index.proofs.load_node.Tie as tie
+use Rattle.record.proofs.fields.Reads as fields-reads
+use Rattle.repeats.proofs.place.Reads as place-reads
 
 place-requires : tie.Need-place-requires
 place-requires c κs = search needs
@@ -27,50 +29,41 @@ part-fields-end c = search needs
 fields-requires : tie.Need-fields-requires
 fields-requires c κs = search needs
 
+mul-s : tie.Need-mul-s
+mul-s c = search needs
+
 cast-x : tie.Need-cast-x
 cast-x c = search needs
 
 mul-x : tie.Need-mul-x
 mul-x c = search needs
 
-mul-x-2 : tie.Need-mul-x-2
-mul-x-2 c = search needs
-
 slice-write-x : tie.Need-slice-write-x
 slice-write-x c = search needs
-
-mul-x-3 : tie.Need-mul-x-3
-mul-x-3 c = search needs
 
 add-x : tie.Need-add-x
 add-x c = search needs
 
-mul-x-4 : tie.Need-mul-x-4
-mul-x-4 c = search needs
+mul-x-2 : tie.Need-mul-x-2
+mul-x-2 c = search needs
 
 slice-write-x-2 : tie.Need-slice-write-x-2
 slice-write-x-2 c = simp length-set (omega (arith, c .before .before .before .before .before .before .pre .0 .0, c .before .before .before .before .before .before .pre .1 .size))
 
-mul-x-5 : tie.Need-mul-x-5
-mul-x-5 c = search needs
-
 add-x-2 : tie.Need-add-x-2
 add-x-2 c = search needs
 
-mul-x-6 : tie.Need-mul-x-6
-mul-x-6 c = search needs
+mul-x-3 : tie.Need-mul-x-3
+mul-x-3 c = search needs
 
 slice-write-x-3 : tie.Need-slice-write-x-3
 slice-write-x-3 c = simp length-set (omega (arith, c .before .before .before .before .before .before .pre .0 .0, c .before .before .before .before .before .before .pre .1 .size))
 
-mul-x-7 : tie.Need-mul-x-7
-mul-x-7 c = search needs
-
 add-x-3 : tie.Need-add-x-3
 add-x-3 c = search needs
 
-mul-x-8 : tie.Need-mul-x-8
-mul-x-8 c = search needs
+mul-x-4 : tie.Need-mul-x-4
+mul-x-4 c = search needs
 
 slice-write-x-4 : tie.Need-slice-write-x-4
 slice-write-x-4 c = simp length-set (omega (arith, c .before .before .before .before .before .before .pre .0 .0, c .before .before .before .before .before .before .pre .1 .size))
@@ -78,8 +71,8 @@ slice-write-x-4 c = simp length-set (omega (arith, c .before .before .before .be
 add-x-4 : tie.Need-add-x-4
 add-x-4 c = search needs
 
-mul-x-9 : tie.Need-mul-x-9
-mul-x-9 c = search needs
+mul-x-5 : tie.Need-mul-x-5
+mul-x-5 c = search needs
 
 slice-write-x-5 : tie.Need-slice-write-x-5
 slice-write-x-5 c = simp length-set (omega (arith, c .before .before .before .before .before .before .pre .0 .0, c .before .before .before .before .before .before .pre .1 .size))
@@ -89,8 +82,9 @@ same-length c = search needs
 
 returns : tie.Need-returns
 returns c =
-    let start = c .before .before .before .before .before .before in
-    loaded-more (start .args .t .now) (start .args .x .now) (start .args .m) (c .before .fields .result) (start .pre .0 .0) (c .before .fields .ensures ∙ ap nodeOf (part-record tables _ _ _ (c .before .before .before .place .ensures))) (start .pre .1)
+    let s = c .before .before .before .before .before .before in
+    let e = c .before .fields .ensures ∙ ap nodeOf (part-record tables _ _ _ (c .before .before .before .place .ensures)) in
+    loaded-more (s .args .t .now) (s .args .x .now) (s .args .m) (c .before .fields .result) (s .pre .0 .0) e (s .pre .1)
 
 pub load-node-spec : {M : Type 1} → statement M
 load-node-spec =
@@ -102,24 +96,21 @@ load-node-spec =
     part-fields-start
     part-fields-end
     fields-requires
+    mul-s
     cast-x
     mul-x
-    mul-x-2
     slice-write-x
-    mul-x-3
     add-x
-    mul-x-4
+    mul-x-2
     slice-write-x-2
-    mul-x-5
     add-x-2
-    mul-x-6
+    mul-x-3
     slice-write-x-3
-    mul-x-7
     add-x-3
-    mul-x-8
+    mul-x-4
     slice-write-x-4
     add-x-4
-    mul-x-9
+    mul-x-5
     slice-write-x-5
     same-length
     returns)

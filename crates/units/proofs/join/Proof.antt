@@ -1,7 +1,7 @@
 -- `units::join` meets its contract: the word and the sum gain a bit at most. Assumes nothing.
 use Prim.Native.Nat.{_/_}
 use Rattle.units.specs.Units.{blocks}
-use Rattle.units.proofs.Sets.{sum-in, word-joins, sum-joins, joined}
+use Rattle.units.proofs.Sets.{word-joins, sum-joins, joined}
 use borrow.Author.Needs.{needs}
 use Rattle.units.proofs.join.Statement.{statement}
 use Rattle.units.proofs.join.Tie as tie

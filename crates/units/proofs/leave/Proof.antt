@@ -1,5 +1,5 @@
 -- `units::leave` meets its contract: the word loses a bit, and the sum does where the word becomes 0. Assumes nothing.
-use Rattle.units.proofs.Sets.{sum-in, word-leaves, sum-leaves, left}
+use Rattle.units.proofs.Sets.{word-leaves, sum-leaves, left}
 use borrow.Author.Needs.{needs}
 use Rattle.units.proofs.leave.Statement.{statement}
 use Rattle.units.proofs.leave.Tie as tie
