@@ -1,12 +1,12 @@
 -- What the stores of each function leave in the work area. Assumes nothing.
 use mathlib.Core.Path.{_≡_, refl, ap, _∙_, subst}
 use mathlib.Core.List.{List}
-use Prim.Native.Nat.{ℕ, suc, _+_, _-_, _<_, _≤_}
+use Prim.Native.Nat.{ℕ, _+_, _-_, _<_, _≤_}
 use native.Mathlib.Omega.{arith}
 use native.Mathlib.Numerals.{add-one}
 use lib.ListN.{length, getD, set, length-set}
 use lib.Seq.{getD-set-same, getD-set-other}
-use Rattle.area.specs.Area.{areaSize, mostNodes, mostSlots, strikesFrom, countsFrom, sizesFrom, headsFrom, clauseCount, depth, newest, strikeAt, splitCount, splitSize, splitHead, trailAt, Trail, Shrunk, Struck, Saved}
+use Rattle.area.specs.Area.{areaSize, mostNodes, mostSlots, strikesFrom, countsFrom, sizesFrom, headsFrom, clauseCount, depth, newest, splitCount, splitSize, splitHead, trailAt, Trail, Shrunk, Struck, Saved}
 
 -- ---- literals leave
 

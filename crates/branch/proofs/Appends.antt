@@ -10,7 +10,7 @@ use native.Mathlib.Decide.{ℕ-discrete, decLt}
 use lib.Dec.{eqb, leb, ltb}
 use lib.ListN.{length, getD, set, length-set, length-map, length-append, List·getD-append}
 use lib.Seq.{getD-set-same, getD-set-other, getD-append-add}
-use borrow.Author.Tests.{eqb-true, leb-true, ltb-true, lt-ltb}
+use borrow.Author.Tests.{eqb-true, leb-true, ltb-true}
 use Rattle.scope.specs.declared.Node.{Node}
 use Rattle.scope.specs.Table.{listFrom}
 use Rattle.scope.proofs.Lists.{length-listFrom, getD-listFrom}

@@ -1,6 +1,6 @@
 -- What the work area holds after a literal has joined, and after a strike. Assumes nothing.
 use mathlib.Core.Path.{_≡_, refl, sym, ap, _∙_, subst, fun-ext}
-use mathlib.Core.Bool.{Bool, true, false}
+use mathlib.Core.Bool.{true, false}
 use mathlib.Core.List.{List, [], _∷_, _++_, map, append-assoc, append-nil}
 use Prim.Native.Nat.{ℕ, zero, suc, _+_, _-_, _*_, _<_, _≤_}
 use native.Mathlib.Omega.{arith}
@@ -13,10 +13,10 @@ use Rattle.calculus.specs.Model.{All, Fresh}
 use Rattle.calculus.proofs.Sizes.{clauses-few}
 use Rattle.rules.specs.Rules.{Branch, join, strikeClause, strikeLiteral}
 use Rattle.trail.proofs.Trails.{trail-length, trail-same, trail-suc, count-most, room-left}
-use Rattle.area.specs.Area.{areaSize, mostNodes, mostClauses, mostSlots, clauseRoom, literalRoom, basesFrom, strikesFrom, countsFrom, sizesFrom, headsFrom, trailFrom, clauseCount, depth, newest, baseAt, slotAt, strikeAt, lengthAt, splitCount, splitSize, splitHead, trailAt, trail, held, gOf, Trail, Same, Struck, Ranged}
+use Rattle.area.specs.Area.{areaSize, mostNodes, mostClauses, mostSlots, clauseRoom, literalRoom, basesFrom, strikesFrom, countsFrom, sizesFrom, headsFrom, trailFrom, clauseCount, baseAt, strikeAt, lengthAt, splitCount, splitSize, splitHead, trailAt, trail, held, gOf, Trail, Same, Struck, Ranged}
 use Rattle.area.specs.Strikes.{headOf}
 use Rattle.branch.specs.Clauses.{flat, offset, Listed}
-use Rattle.branch.specs.Holds.{Strike, strike, clausesIn, literalsIn, slotOf, Marked, Frame, History, history, branch, branchOf, waits, waitingOf, End, clausesTo, clausesOf, Splits, Base, Holds, Held, Joined}
+use Rattle.branch.specs.Holds.{Strike, strike, clausesIn, literalsIn, slotOf, Marked, Frame, History, history, branch, branchOf, waits, waitingOf, End, clausesTo, clausesOf, Splits, Base, Holds, Joined}
 use Rattle.branch.proofs.Offsets.{offset-next, offset-most, offset-all}
 use Rattle.branch.proofs.Appends.{listed-first, literals-few}
 use Rattle.branch.proofs.Marks.{kindOf, slot-below, marked-more, marked-strike}

@@ -4,23 +4,23 @@ use mathlib.Core.Path.{_≡_, refl, sym, ap, _∙_, subst}
 use mathlib.Core.Bool.{Bool, true, false, cond, not, _&&_, _||_, false≢true}
 use mathlib.Core.Logic.{_⊎_, inl, inr}
 use mathlib.Core.List.{List, [], _∷_, _++_, map}
-use Prim.Native.Nat.{ℕ, zero, suc, _+_, _-_, _*_, _%_, _<_, _≤_}
+use Prim.Native.Nat.{ℕ, suc, _+_, _-_, _%_, _<_, _≤_}
 use native.Mathlib.Omega.{arith}
 use native.Mathlib.Decide.{ℕ-discrete}
-use lib.Dec.{eqb, leb, ltb}
+use lib.Dec.{eqb, leb}
 use lib.ListN.{length, getD, List·getD-append, length-append}
-use borrow.Author.Tests.{eq-eqb, ne-eqb, eqb-true, le-leb, lt-leb}
-use Rattle.scope.proofs.Tests.{by-test, and-left, and-right, or-left, or-right}
-use Rattle.calculus.specs.Order.{mem, clauses}
+use borrow.Author.Tests.{eq-eqb, ne-eqb, le-leb, lt-leb}
+use Rattle.scope.proofs.Tests.{by-test}
+use Rattle.calculus.specs.Order.{mem}
 use Rattle.calculus.specs.Model.{All}
-use Rattle.calculus.proofs.Literals.{mem-same, mem-other, mem-later}
+use Rattle.calculus.proofs.Literals.{mem-same, mem-later}
 use Rattle.calculus.proofs.Lists.{all-imply}
-use Rattle.rules.specs.Rules.{Place, samePlace, among, Branch, unstruck}
-use Rattle.area.specs.Area.{mostSlots, strikesFrom, whole, newest, slotAt, strikeAt, linkAt, isWhole, wholeIn, freeFrom, Struck}
+use Rattle.rules.specs.Rules.{Place, samePlace, among}
+use Rattle.area.specs.Area.{mostSlots, strikesFrom, whole, newest, strikeAt, linkAt, isWhole, Struck}
 use Rattle.area.specs.Strikes.{headOf, Chain, Strikes, Unwound}
 use Rattle.area.proofs.Strikes.{head-most, struck-more}
 use Rattle.branch.specs.Clauses.{flat, offset}
-use Rattle.branch.specs.Holds.{Strike, strike, clausesIn, literalsIn, slotOf, Valid, Marked}
+use Rattle.branch.specs.Holds.{Strike, clausesIn, literalsIn, slotOf, Valid, Marked}
 use Rattle.branch.proofs.Offsets.{map-append, offset-low, offset-next, offset-most, slot-same}
 
 -- ---- slots

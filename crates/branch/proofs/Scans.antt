@@ -5,13 +5,13 @@ use mathlib.Core.Logic.{_⊎_, inl, inr}
 use mathlib.Core.List.{List, [], _∷_, map}
 use Prim.Native.Nat.{ℕ, zero, suc, _+_, _-_, _<_, _≤_}
 use native.Mathlib.Omega.{arith}
-use lib.Dec.{eqb, leb}
+use lib.Dec.{eqb}
 use lib.ListN.{length, getD}
-use borrow.Author.Tests.{eq-eqb, ne-eqb, eqb-true, le-leb, leb-true}
-use Rattle.scope.proofs.Tests.{by-test, and-left, and-right}
+use borrow.Author.Tests.{ne-eqb, eqb-true, leb-true}
+use Rattle.scope.proofs.Tests.{by-test}
 use Rattle.calculus.specs.Order.{mem, valueOf}
 use Rattle.calculus.specs.Model.{All}
-use Rattle.rules.specs.Rules.{Place, among, isHolds, Branch, unstruck, anyHolds}
+use Rattle.rules.specs.Rules.{among, isHolds, Branch, unstruck, anyHolds}
 use Rattle.area.specs.Area.{mostSlots, whole, slotAt, strikeAt, isWhole, gOf, wholeIn, freeFrom, trueFrom}
 use Rattle.branch.specs.Clauses.{flat, offset}
 use Rattle.branch.specs.Holds.{Strike, clausesIn, literalsIn, slotOf, Valid, Marked}

@@ -1,9 +1,9 @@
 -- The start: zeros, then the goals. Assumes nothing.
 use mathlib.Core.Path.{_≡_, refl, sym, ap, _∙_, subst}
 use mathlib.Core.Bool.{false, not}
-use mathlib.Core.Logic.{_⊎_, inl, inr}
+use mathlib.Core.Logic.{inl, inr}
 use mathlib.Core.List.{List, [], _∷_, map}
-use Prim.Native.Nat.{ℕ, zero, suc, _+_, _-_, _*_, _<_, _≤_}
+use Prim.Native.Nat.{ℕ, zero, suc, _+_, _-_, _<_, _≤_}
 use native.Mathlib.Omega.{arith}
 use lib.ListN.{length, getD, set, replicate, length-set, length-map, length-replicate}
 use lib.Seq.{getD-set-same, getD-set-other}
@@ -13,9 +13,9 @@ use Rattle.scope.proofs.Lists.{zeros-at}
 use Rattle.calculus.specs.Expansion.{expand}
 use Rattle.calculus.specs.Order.{mem, clauses}
 use Rattle.trail.proofs.Trails.{empty-held, empty-trail}
-use Rattle.area.specs.Area.{areaSize, mostClauses, goalRoom, basesFrom, slotsFrom, strikesFrom, trailFrom, clauseCount, strikeAt, trailAt, gOf}
-use Rattle.branch.specs.Clauses.{flat, offset, Listed, Filled}
-use Rattle.branch.specs.Holds.{Goals, clausesOf, Marked, Holds, fresh}
+use Rattle.area.specs.Area.{areaSize, basesFrom, slotsFrom, strikesFrom, trailFrom, clauseCount, strikeAt, trailAt, gOf}
+use Rattle.branch.specs.Clauses.{Listed, Filled}
+use Rattle.branch.specs.Holds.{Goals, clausesOf, Holds, fresh}
 use Rattle.branch.proofs.Appends.{flat-singles, offset-singles}
 
 clauses-none : (e : ℕ → List (List ℕ)) (goals : List ℕ) → clauses e goals [] ≡ map (_∷ []) goals

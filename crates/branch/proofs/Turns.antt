@@ -2,7 +2,7 @@
 use mathlib.Core.Path.{_≡_, refl, sym, ap, _∙_, subst, fun-ext}
 use mathlib.Core.Logic.{_⊎_, inl, inr}
 use mathlib.Core.List.{List, [], _∷_, _++_, map}
-use Prim.Native.Nat.{ℕ, suc, _+_, _-_, _*_, _<_, _≤_}
+use Prim.Native.Nat.{ℕ, suc, _+_, _-_, _<_, _≤_}
 use native.Mathlib.Omega.{arith}
 use lib.ListN.{length, getD, set, length-set}
 use lib.Seq.{getD-set-same, getD-set-other}
@@ -13,14 +13,14 @@ use Rattle.calculus.specs.Model.{All, Fresh, Good}
 use Rattle.calculus.proofs.Lists.{all-imply}
 use Rattle.rules.specs.Rules.{Branch, join}
 use Rattle.trail.proofs.Trails.{good-first, trail-same, trail-suc}
-use Rattle.area.specs.Area.{areaSize, mostNodes, mostClauses, mostSlots, basesFrom, slotsFrom, strikesFrom, countsFrom, sizesFrom, headsFrom, trailFrom, clauseCount, depth, baseAt, splitCount, splitSize, splitHead, trailAt, trail, held, gOf, Trail, Entered, Shrunk, Saved}
+use Rattle.area.specs.Area.{areaSize, mostNodes, mostClauses, mostSlots, basesFrom, slotsFrom, strikesFrom, countsFrom, sizesFrom, headsFrom, trailFrom, clauseCount, depth, splitCount, splitSize, splitHead, trailAt, trail, held, gOf, Trail, Entered, Shrunk, Saved}
 use Rattle.area.specs.Strikes.{headOf, Strikes, Reaches, Unwound}
 use Rattle.branch.specs.Clauses.{flat, Listed, Appended}
 use Rattle.branch.specs.Holds.{Strike, slotOf, Valid, Marked, Frame, History, history, branch, branchOf, waits, waitingOf, clausesTo, clausesOf, Split, Base, Holds, Held, Joined, Restored, Restores}
 use Rattle.branch.proofs.Offsets.{map-append}
 use Rattle.branch.proofs.Appends.{listed-more}
 use Rattle.branch.proofs.Marks.{slots-low, marked-more, marked-less, marked-back}
-use Rattle.branch.proofs.Branches.{branchBy, clauses-first, clauses-same, literals-most, slots-fit, joined-base, joined-clauses, shorter-base, Kept, kept-same, depth-most, depth-low, splits-same, waits-same}
+use Rattle.branch.proofs.Branches.{branchBy, clauses-first, clauses-same, literals-most, slots-fit, joined-base, joined-clauses, shorter-base, Kept, kept-same, depth-most, splits-same, waits-same}
 
 -- ---- a literal joins
 

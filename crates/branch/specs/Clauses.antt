@@ -4,8 +4,6 @@ use mathlib.Core.Logic.{_⊎_}
 use mathlib.Core.List.{List, [], _∷_, _++_}
 use Prim.Native.Nat.{ℕ, zero, suc, _+_, _<_, _≤_}
 use lib.ListN.{getD, length}
-use Rattle.scope.specs.declared.Node.{Node}
-use Rattle.calculus.specs.Expansion.{expand}
 use Rattle.area.specs.Area.{strikesFrom, clauseCount, depth, newest, baseAt, slotAt}
 
 -- the literals of clauses, one after the other

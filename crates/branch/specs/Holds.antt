@@ -11,7 +11,7 @@ use Rattle.calculus.specs.Model.{All, Table, Fresh}
 pub use Rattle.calculus.specs.Model.{Goals}
 use Rattle.rules.specs.Rules.{Place, Branch, join}
 use Rattle.index.specs.Index.{indexSize, mostNodes, indexNode}
-use Rattle.area.specs.Area.{areaSize, mostClauses, mostSlots, strikesFrom, trailFrom, clauseCount, depth, newest, isWhole, splitCount, splitSize, splitHead, trailAt, trail, gOf, Trail, Same}
+use Rattle.area.specs.Area.{areaSize, mostClauses, mostSlots, strikesFrom, trailFrom, depth, newest, isWhole, splitCount, splitSize, splitHead, trailAt, trail, gOf, Trail, Same}
 use Rattle.area.specs.Strikes.{headOf, Strikes}
 use Rattle.branch.specs.Clauses.{flat, offset, Listed}
 

@@ -2,31 +2,29 @@
 use mathlib.Core.Path.{_≡_, refl, sym, ap, _∙_, subst}
 use mathlib.Core.Bool.{Bool, true, false}
 use mathlib.Core.List.{List, [], _∷_, map}
-use Prim.Native.Nat.{ℕ, suc, _+_, _-_, _*_, _<_, _≤_}
+use Prim.Native.Nat.{ℕ, _+_, _-_, _*_, _<_, _≤_}
 use native.Mathlib.Omega.{arith}
-use lib.Dec.{eqb, ltb}
 use lib.ListN.{length, getD, length-map}
-use borrow.Author.Tests.{eq-eqb, ne-eqb, lt-ltb, le-ltb}
+use borrow.Author.Tests.{eq-eqb, ne-eqb}
 use Rattle.scope.specs.declared.Node.{Node}
 use Rattle.scope.specs.Outcome.{Outcome, answer, refused, _>>_, _>>=_}
-use Rattle.calculus.specs.Expansion.{neg, expand}
-use Rattle.calculus.specs.Order.{valueOf}
+use Rattle.calculus.specs.Expansion.{neg}
 use Rattle.calculus.specs.Model.{All, Fresh}
 use Rattle.calculus.proofs.Literals.{neg-fresh}
 use Rattle.rules.specs.declared.Step.{Step}
-use Rattle.rules.specs.Rules.{Branch, join, strikeClause, strikeLiteral, isUndecided, Progress, running, complete, turn, only, given, stands, left, ruleU, ruleR, ruleE, ruleC, ruleS, apply}
+use Rattle.rules.specs.Rules.{Branch, join, strikeClause, strikeLiteral, Progress, running, complete, turn, only, given, ruleU, ruleR, ruleE, ruleC, ruleS, apply}
 use Rattle.trail.proofs.Trails.{room-left}
 use Rattle.area.specs.declared.Left.{Left}
-use Rattle.area.specs.Area.{areaSize, mostNodes, mostClauses, mostSlots, whole, clauseCount, depth, baseAt, slotAt, strikeAt, lengthAt, trailAt, held, gOf, Trail, valueCode, Struck, Saved, standsIn, freeIn, leftOf, trueFrom}
+use Rattle.area.specs.Area.{areaSize, mostNodes, mostClauses, mostSlots, whole, clauseCount, depth, baseAt, slotAt, strikeAt, lengthAt, trailAt, held, gOf, Trail, Struck, Saved, standsIn, freeIn, leftOf}
 use Rattle.branch.specs.Clauses.{offset}
-use Rattle.branch.specs.Holds.{Strike, strike, slotOf, Frame, History, history, branch, branchOf, waits, waitingOf, clausesOf, Holds, Held, Joined, Restores}
-use Rattle.branch.proofs.Scans.{Open, free-open, true-open}
+use Rattle.branch.specs.Holds.{Strike, strike, Frame, History, history, branch, branchOf, waits, waitingOf, clausesOf, Holds, Held, Joined, Restores}
+use Rattle.branch.proofs.Scans.{Open, free-open}
 use Rattle.branch.proofs.Branches.{branchBy, push-room, base-is, length-is, joined-holds, joined-branch, joined-waiting, struck-holds, struck-branch, struck-waiting, whole-strike, part-strike}
 use Rattle.branch.proofs.Turns.{frame, saved-trail, saved-base, split-holds, split-branch, split-waiting, Opened}
 use Rattle.replay.specs.declared.Status.{Status}
 use Rattle.replay.specs.declared.Status.the-variants.{Running, Complete, Failed}
 use Rattle.replay.specs.Ruled.{Says, Rule, Ruled}
-use Rattle.replay.proofs.Told.{Told, inside, number-of, undecided-told, size-of, trail-of, depth-of, push-ready, ranged-of}
+use Rattle.replay.proofs.Told.{Told, inside, size-of, trail-of, depth-of, ranged-of}
 
 -- ---- a rule's conditions
 

@@ -1,7 +1,7 @@
 -- U, R, E, C and S: each test of the code is a condition of the rule, in turn, and past them the rule runs. Assumes nothing.
 use mathlib.Core.Path.{_≡_, refl, sym, ap, _∙_, subst}
 use mathlib.Core.Bool.{Bool, true, false, not}
-use mathlib.Core.List.{List, [], _∷_, map}
+use mathlib.Core.List.{List, _∷_, map}
 use Prim.Native.Nat.{ℕ, _+_, _-_, _*_, _<_, _≤_}
 use native.Mathlib.Omega.{arith}
 use lib.Dec.{eqb, ltb}
@@ -14,13 +14,13 @@ use Rattle.calculus.specs.Order.{valueOf}
 use Rattle.calculus.specs.Model.{Table, Fresh}
 use Rattle.rules.specs.Rules.{among, isFails, isUndecided, Branch, join, strikeClause, strikeLiteral, anyHolds, running, turn, only, given, clauseAt, stands, left, ruleU, ruleR, ruleE, ruleC, ruleS}
 use Rattle.area.specs.declared.Left.{Left}
-use Rattle.area.specs.Area.{areaSize, mostNodes, mostClauses, mostSlots, whole, clauseCount, newest, baseAt, slotAt, strikeAt, lengthAt, trailAt, gOf, Trail, Vals, valueCode, Struck, Saved, standsIn, freeIn, leftOf, trueFrom}
+use Rattle.area.specs.Area.{areaSize, mostNodes, mostClauses, mostSlots, whole, clauseCount, baseAt, slotAt, strikeAt, lengthAt, trailAt, gOf, Trail, valueCode, Struck, Saved, standsIn, freeIn, leftOf, trueFrom}
 use Rattle.branch.specs.Holds.{Held, Joined}
-use Rattle.branch.proofs.Scans.{Open, true-open}
+use Rattle.branch.proofs.Scans.{true-open}
 use Rattle.replay.specs.declared.Status.{Status}
-use Rattle.replay.specs.declared.Status.the-variants.{Running, Complete, Failed}
+use Rattle.replay.specs.declared.Status.the-variants.{Running, Failed}
 use Rattle.replay.specs.Ruled.{Rule, Ruled}
-use Rattle.replay.proofs.Told.{free-is, size-of, trail-of, ranged-of, newest-of, push-ready, slot-literal, undecided-told, stands-told, number-of, left-told, true-told, past-told, there-told, unstruck-told, fails-told}
+use Rattle.replay.proofs.Told.{free-is, push-ready, slot-literal, undecided-told, stands-told, number-of, left-told, true-told, past-told, there-told, unstruck-told, fails-told}
 use Rattle.replay.proofs.Ruled.{fails, passes, lacks, takes, Moves, moves-run, moves-held, moves-list, moves-then, joined-moves, whole-moves, part-moves, left-count, left-literal, left-open, open-below, split-runs}
 
 module _ (t : ℕ → Node) (n : ℕ) (w : List ℕ) (few : n ≤ mostNodes) (k : ℕ) where

@@ -1,30 +1,30 @@
 -- What is read of a clause is what the rules ask, whatever history the work area holds; and what may be read. Assumes nothing.
 use mathlib.Core.Path.{_≡_, refl, sym, ap, _∙_, subst}
-use mathlib.Core.Bool.{Bool, true, false, cond, not, _&&_}
-use mathlib.Core.List.{List, [], _∷_, _++_, map}
-use Prim.Native.Nat.{ℕ, zero, suc, _+_, _-_, _*_, _<_, _≤_}
+use mathlib.Core.Bool.{Bool, true, false, not, _&&_}
+use mathlib.Core.List.{List, [], _∷_, map}
+use Prim.Native.Nat.{ℕ, suc, _+_, _-_, _*_, _<_, _≤_}
 use native.Mathlib.Omega.{arith}
 use native.Mathlib.Nat.{zero-add}
 use native.Mathlib.Decide.{decLt}
 use lib.Dec.{eqb, ltb}
 use lib.ListN.{length, getD}
-use borrow.Author.Tests.{eq-eqb, ne-eqb, lt-ltb, le-ltb, ltb-true}
+use borrow.Author.Tests.{lt-ltb, le-ltb, ltb-true}
 use Rattle.scope.specs.declared.Node.{Node}
 use Rattle.scope.proofs.Tests.{and-left, and-right}
 use Rattle.calculus.specs.Expansion.{expand}
 use Rattle.calculus.specs.Order.{Value, holds, fails, undecided, valueOf, mem}
-use Rattle.calculus.specs.Model.{All, Table, Below, Fresh}
+use Rattle.calculus.specs.Model.{All, Table, Fresh}
 use Rattle.calculus.proofs.Lists.{all-append, all-at}
 use Rattle.calculus.proofs.Fresh.{clauses-below}
 use Rattle.rules.specs.Rules.{among, isFails, isUndecided, Branch, anyHolds, clauseAt, stands, left}
 use Rattle.area.specs.Area.{areaSize, mostNodes, mostClauses, mostSlots, clauseCount, depth, newest, baseAt, slotAt, strikeAt, lengthAt, trailAt, gOf, valueCode, Trail, Ranged, wholeIn, standsIn, freeFrom, freeIn, trueFrom}
 use Rattle.area.proofs.Strikes.{head-most}
 use Rattle.branch.specs.Clauses.{flat, offset}
-use Rattle.branch.specs.Holds.{Strike, clausesIn, slotOf, History, branchOf, clausesOf, Holds, Held}
+use Rattle.branch.specs.Holds.{clausesIn, slotOf, History, branchOf, clausesOf, Holds, Held}
 use Rattle.branch.proofs.Offsets.{offset-most, flat-at}
-use Rattle.branch.proofs.Scans.{Open, whole-is, struck-is, left-from, true-is}
+use Rattle.branch.proofs.Scans.{whole-is, struck-is, left-from, true-is}
 use Rattle.branch.proofs.Marks.{slot-below}
-use Rattle.branch.proofs.Branches.{literals-most, slots-fit, clauses-fit, base-is, end-is, length-is, ranged, depth-low, push-room}
+use Rattle.branch.proofs.Branches.{slots-fit, base-is, length-is, ranged, depth-low, push-room}
 
 -- ---- values as numbers
 

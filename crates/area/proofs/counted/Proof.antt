@@ -1,5 +1,4 @@
 -- `area::counted` meets its contract. A slot with a strike is not counted. Assumes nothing.
-use native.Mathlib.Omega.{arith}
 use borrow.Author.Needs.{needs}
 use Rattle.area.proofs.Remains.{more-struck, more-free}
 use Rattle.area.proofs.counted.Statement.{statement}

@@ -15,10 +15,20 @@ literal-in-requires : tie.Need-literal-in-requires
 literal-in-requires c κs = search needs
 
 value-requires : tie.Need-value-requires
-value-requires c κs = ((c .before .before .before .before .pre .0 .0, c .before .before .before .before .pre .0 .1, omega (arith, c .literal-in .ensures, c .before .before .before .before .pre .0 .3)), c .before .before .before .before .pre .1)
+value-requires c κs =
+    let s = c .before .before .before .before in
+    let literal-in = c .literal-in in
+    ((s .pre .0 .0, s .pre .0 .1, omega (arith, literal-in .ensures, s .pre .0 .3)), s .pre .1)
 
 returns-2 : tie.Need-returns-2
-returns-2 c = true-by (c .before .before .before .before .before .args .work .now) (c .before .before .before .before .before .args .s) (c .before .before .before .strike-in .ensures) (c .before .before .if1 .left) (c .before .literal-in .ensures) (c .value .ensures)
+returns-2 c =
+    let s = c .before .before .before .before .before in
+    let w = s .args .work .now in
+    let strike-in = c .before .before .before .strike-in in
+    let if1 = c .before .before .if1 in
+    let literal-in = c .before .literal-in in
+    let value = c .value in
+    true-by w (s .args .s) (strike-in .ensures) (if1 .left) (literal-in .ensures) (value .ensures)
 
 pub is-true-spec : {M : Type 1} → statement M
 is-true-spec =

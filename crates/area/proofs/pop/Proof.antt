@@ -52,7 +52,12 @@ same-length : tie.Need-same-length
 same-length c = search needs
 
 returns : tie.Need-returns
-returns c = popped (c .before .before .args .n) (c .before .before .args .work .now) (c .before .before .pre .0 .0) (c .before .before .pre .0 .1) (c .before .before .pre .1) (c .before .before .pre .0 .2)
+returns c =
+    let s = c .before .before in
+    let n = s .args .n in
+    let w = s .args .work .now in
+    let H = s .pre .1 in
+    popped n w (s .pre .0 .0) (s .pre .0 .1) H (s .pre .0 .2)
 
 pub pop-spec : {M : Type 1} → statement M
 pop-spec =

@@ -1,6 +1,5 @@
 -- `area::remaining` meets its contract. The loop's invariant: the slots from s on are counted. Assumes nothing.
 use native.Mathlib.Omega.{arith}
-use borrow.Author.Needs.{needs}
 use mathlib.Core.Path.{_≡_, sym, ap, _∙_}
 use Prim.Native.Nat.{ℕ, _+_, _-_, _≤_}
 use Rattle.area.specs.declared.Left.{Left}
@@ -25,7 +24,19 @@ base-requires-2 : tie.Need-base-requires-2 Inv-loop μ-loop
 base-requires-2 c κs = (c .before .before .pre .0 .size, omega (arith, c .before .before .pre .0 .count, c .before .before .pre .1))
 
 loop-holds : tie.Need-loop-holds Inv-loop μ-loop
-loop-holds c = (omega (arith, c .before .base .ensures, c .base2 .ensures, c .before .before .before .pre .0 .ends (c .before .before .before .args .k) (c .before .before .before .pre .1)), omega (arith, c .base2 .ensures), c .before .before .before .pre .0 .ends (c .before .before .before .args .k) (c .before .before .before .pre .1) .1, sym (ap leftOf (free-none (c .before .before .before .args .work .now) (c .base2 .result) (baseAt (c .before .before .before .args .work .now) (c .before .before .before .args .k + 1)) (omega (arith, c .base2 .ensures)))))
+loop-holds c =
+    let s = c .before .before .before in
+    let w = s .args .work .now in
+    let k = s .args .k in
+    let base = c .before .base in
+    let base2 = c .base2 in
+    let H = s .pre .1 in (
+      omega (arith, base .ensures, base2 .ensures, s .pre .0 .ends k H),
+      omega (arith, base2 .ensures),
+      s .pre .0 .ends k H .1,
+      sym
+          (ap leftOf (free-none w (base2 .result) (baseAt w (s .args .k + 1)) (omega (arith, base2 .ensures)))),
+    )
 
 sub-s : tie.Need-sub-s Inv-loop μ-loop
 sub-s c = omega (arith, c .loop-test .taken)
@@ -34,16 +45,43 @@ strike-in-requires : tie.Need-strike-in-requires Inv-loop μ-loop
 strike-in-requires c κs = (c .before .before .before .before .before .pre .0 .size, omega (arith, c .before .loop .inv, c .loop-test .taken))
 
 counted-requires : tie.Need-counted-requires Inv-loop μ-loop
-counted-requires c κs = (omega (arith, c .before .before .loop .inv, c .before .loop-test .taken, ap (λ (x : Left). x .count) (c .before .before .loop .inv .3), free-most (c .before .before .before .before .before .before .args .work .now) (c .before .before .loop .s) ((baseAt (c .before .before .before .before .before .before .args .work .now) (c .before .before .before .before .before .before .args .k + 1)) - c .before .before .loop .s)), omega (arith, c .before .before .loop .inv, c .before .loop-test .taken))
+counted-requires c κs =
+    let s = c .before .before .before .before .before .before in
+    let w = s .args .work .now in
+    let loop = c .before .before .loop in
+    let loop-test = c .before .loop-test in (
+      omega
+          (arith, loop .inv, loop-test .taken, ap (λ (x : Left). x .count) (loop .inv .3), free-most w (loop .s) ((baseAt w (s .args .k + 1)) - loop .s)),
+      omega (arith, loop .inv, loop-test .taken),
+    )
 
 loop-less : tie.Need-loop-less Inv-loop μ-loop
 loop-less c = omega (arith, c .before .before .loop-test .taken)
 
 loop-again : tie.Need-loop-again Inv-loop μ-loop
-loop-again c = (omega (arith, c .before .before .loop-test .taken), omega (arith, c .before .before .before .loop .inv), c .before .before .before .loop .inv .2, left-more (c .before .before .before .before .before .before .before .args .work .now) (c .before .before .before .loop .s) (baseAt (c .before .before .before .before .before .before .before .args .work .now) (c .before .before .before .before .before .before .before .args .k + 1)) (omega (arith, c .before .before .loop-test .taken)) (c .before .before .before .loop .inv .1) (c .before .before .before .loop .inv .3) (c .before .strike-in .ensures) (c .counted .ensures))
+loop-again c =
+    let s = c .before .before .before .before .before .before .before in
+    let w = s .args .work .now in
+    let loop-test = c .before .before .loop-test in
+    let loop = c .before .before .before .loop in
+    let strike-in = c .before .strike-in in
+    let counted = c .counted in (
+      omega (arith, loop-test .taken),
+      omega (arith, loop .inv),
+      loop .inv .2,
+      left-more w (loop .s) (baseAt w (s .args .k + 1))
+          (omega (arith, loop-test .taken)) (loop .inv .1) (loop .inv .3) (strike-in .ensures) (counted .ensures),
+    )
 
 returns : tie.Need-returns Inv-loop μ-loop
-returns c = c .before .loop .inv .3 ∙ ap (λ (q : ℕ). leftOf (freeFrom (c .before .before .before .before .before .args .work .now) q ((baseAt (c .before .before .before .before .before .args .work .now) (c .before .before .before .before .before .args .k + 1)) - q))) (omega (arith, c .loop-test .left, c .before .loop .inv .0, c .before .before .before .base .ensures))
+returns c =
+    let s = c .before .before .before .before .before in
+    let w = s .args .work .now in
+    let loop = c .before .loop in
+    let loop-test = c .loop-test in
+    let base = c .before .before .before .base in
+    loop .inv .3 ∙ ap (λ (q : ℕ). leftOf (freeFrom w q ((baseAt w (s .args .k + 1)) - q)))
+    (omega (arith, loop-test .left, loop .inv .0, base .ensures))
 
 pub remaining-spec : {M : Type 1} → statement M
 remaining-spec =

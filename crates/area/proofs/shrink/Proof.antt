@@ -19,7 +19,11 @@ slice-read-if1 : tie.Need-slice-read-if1 Inv-loop μ-loop
 slice-read-if1 c = omega (arith, c .before .loop .inv .1 .size, c .before .before .before .pre .0 .0)
 
 pop-requires : tie.Need-pop-requires Inv-loop μ-loop
-pop-requires c κs = ((omega (arith, c .before .before .before .loop .inv .1 .size, c .before .before .before .before .before .pre .0 .0), c .before .before .before .before .before .pre .0 .1, omega (arith, c .before .if1 .taken)), c .before .before .before .loop .inv .1 .trail)
+pop-requires c κs =
+    let s = c .before .before .before .before .before in
+    let loop = c .before .before .before .loop in
+    let if1 = c .before .if1 in
+    ((omega (arith, loop .inv .1 .size, s .pre .0 .0), s .pre .0 .1, omega (arith, if1 .taken)), loop .inv .1 .trail)
 
 loop-less : tie.Need-loop-less Inv-loop μ-loop
 loop-less c = omega (arith, c .before .before .pop .ensures .count, c .before .before .before .before .if1 .taken)

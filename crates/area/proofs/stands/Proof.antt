@@ -34,13 +34,32 @@ base-requires-2 : tie.Need-base-requires-2 Inv-loop μ-loop
 base-requires-2 c κs = (c .before .before .before .before .pre .size, omega (arith, c .before .before .before .before .pre .count, c .before .if1 .left))
 
 loop-holds : tie.Need-loop-holds Inv-loop μ-loop
-loop-holds c = (omega (arith, c .before .base .ensures, c .before .before .before .before .before .pre .ends (c .before .before .before .before .before .args .k) (omega (arith, c .before .before .if1 .left))), stands-starts (c .before .before .before .before .before .args .work .now) (c .before .before .before .before .before .args .k) (omega (arith, c .before .before .if1 .left)) (c .base2 .ensures) (c .before .base .ensures))
+loop-holds c =
+    let s = c .before .before .before .before .before in
+    let w = s .args .work .now in
+    let k = s .args .k in
+    let base = c .before .base in
+    let if1 = c .before .before .if1 in
+    let base2 = c .base2 in (
+      omega (arith, base .ensures, s .pre .ends k (omega (arith, if1 .left))),
+      stands-starts w k (omega (arith, if1 .left)) (base2 .ensures)
+          (base .ensures),
+    )
 
 strike-in-requires : tie.Need-strike-in-requires Inv-loop μ-loop
 strike-in-requires c κs = (c .before .before .before .before .before .before .before .pre .size, omega (arith, c .before .loop .inv .0, c .loop-test .taken))
 
 returns-2 : tie.Need-returns-2 Inv-loop μ-loop
-returns-2 c = stands-falls (c .before .before .before .before .before .before .before .before .before .args .work .now) (c .before .before .before .before .before .before .before .before .before .args .k) (c .before .before .before .loop .s) (c .before .before .before .before .before .base .result) (c .before .before .before .loop .inv .1) (c .before .before .loop-test .taken) (c .before .strike-in .ensures) (c .if2 .taken)
+returns-2 c =
+    let s = c .before .before .before .before .before .before .before .before .before in
+    let w = s .args .work .now in
+    let k = s .args .k in
+    let loop = c .before .before .before .loop in
+    let base = c .before .before .before .before .before .base in
+    let loop-test = c .before .before .loop-test in
+    let strike-in = c .before .strike-in in
+    let if2 = c .if2 in
+    stands-falls w k (loop .s) (base .result) (loop .inv .1) (loop-test .taken) (strike-in .ensures) (if2 .taken)
 
 add-s : tie.Need-add-s Inv-loop μ-loop
 add-s c = omega (arith, c .before .before .before .loop .inv .0, c .before .before .loop-test .taken)
@@ -49,10 +68,26 @@ loop-less : tie.Need-loop-less Inv-loop μ-loop
 loop-less c = omega (arith, c .before .before .loop-test .taken)
 
 loop-again : tie.Need-loop-again Inv-loop μ-loop
-loop-again c = (c .before .before .before .loop .inv .0, stands-later (c .before .before .before .before .before .before .before .before .before .args .work .now) (c .before .before .before .before .before .before .before .before .before .args .k) (c .before .before .before .loop .s) (c .before .before .before .before .before .base .result) (c .before .before .before .loop .inv .1) (c .before .before .loop-test .taken) (c .before .strike-in .ensures) (omega (arith, c .if2 .left)))
+loop-again c =
+    let s = c .before .before .before .before .before .before .before .before .before in
+    let w = s .args .work .now in
+    let k = s .args .k in
+    let loop = c .before .before .before .loop in
+    let base = c .before .before .before .before .before .base in
+    let loop-test = c .before .before .loop-test in
+    let strike-in = c .before .strike-in in
+    let if2 = c .if2 in
+    (loop .inv .0, stands-later w k (loop .s) (base .result) (loop .inv .1) (loop-test .taken) (strike-in .ensures) (omega (arith, if2 .left)))
 
 returns-3 : tie.Need-returns-3 Inv-loop μ-loop
-returns-3 c = stands-ends (c .before .before .before .before .before .before .before .args .work .now) (c .before .before .before .before .before .before .before .args .k) (c .before .loop .s) (c .before .before .before .base .result) (c .before .loop .inv .1) (c .loop-test .left)
+returns-3 c =
+    let s = c .before .before .before .before .before .before .before in
+    let w = s .args .work .now in
+    let k = s .args .k in
+    let loop = c .before .loop in
+    let base = c .before .before .before .base in
+    let loop-test = c .loop-test in
+    stands-ends w k (loop .s) (base .result) (loop .inv .1) (loop-test .left)
 
 pub stands-spec : {M : Type 1} → statement M
 stands-spec =

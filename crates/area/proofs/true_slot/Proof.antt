@@ -1,6 +1,5 @@
 -- `area::true_slot` meets its contract. The loop's invariant: what is left from slot s on is the answer. Assumes nothing.
 use native.Mathlib.Omega.{arith}
-use borrow.Author.Needs.{needs}
 use mathlib.Core.Path.{_≡_, ap}
 use Prim.Native.Nat.{ℕ, _-_, _≤_}
 use Rattle.area.specs.Area.{mostSlots, baseAt, lengthAt, trueFrom}
@@ -25,16 +24,40 @@ base-requires-2 : tie.Need-base-requires-2 Inv-loop μ-loop
 base-requires-2 c κs = (c .before .before .pre .0 .0 .size, omega (arith, c .before .before .pre .0 .0 .count, c .before .before .pre .0 .1))
 
 loop-holds : tie.Need-loop-holds Inv-loop μ-loop
-loop-holds c = (omega (arith, c .before .base .ensures, c .before .before .before .pre .0 .0 .ends (c .before .before .before .args .k) (c .before .before .before .pre .0 .1)), sym (ap (λ (x : ℕ). trueFrom (c .before .before .before .args .work .now) x (c .before .base .result - x)) (c .base2 .ensures) ∙ ap (λ (x : ℕ). trueFrom (c .before .before .before .args .work .now) (baseAt (c .before .before .before .args .work .now) (c .before .before .before .args .k)) (x - baseAt (c .before .before .before .args .work .now) (c .before .before .before .args .k))) (c .before .base .ensures)))
+loop-holds c =
+    let s = c .before .before .before in
+    let w = s .args .work .now in
+    let k = s .args .k in
+    let base = c .before .base in
+    let base2 = c .base2 in (
+      omega (arith, base .ensures, s .pre .0 .0 .ends k (s .pre .0 .1)),
+      sym
+          (ap (λ (x : ℕ). trueFrom w x (base .result - x)) (base2 .ensures) ∙ ap (λ (x : ℕ). trueFrom w (baseAt w k) (x - baseAt w k)) (base .ensures)),
+    )
 
 is-true-requires : tie.Need-is-true-requires Inv-loop μ-loop
-is-true-requires c κs = ((c .before .before .before .before .before .pre .0 .0 .size, c .before .before .before .before .before .pre .0 .2, omega (arith, c .before .loop .inv .0, c .loop-test .taken), c .before .before .before .before .before .pre .1 .1 (c .before .loop .s) (omega (arith, c .loop-test .taken, c .before .before .before .base .ensures))), c .before .before .before .before .before .pre .1 .0)
+is-true-requires c κs =
+    let s = c .before .before .before .before .before in
+    let loop = c .before .loop in
+    let loop-test = c .loop-test in
+    let base = c .before .before .before .base in (
+      (s .pre .0 .0 .size, s .pre .0 .2, omega (arith, loop .inv .0, loop-test .taken), s .pre .1 .1 (loop .s) (omega (arith, loop-test .taken, base .ensures))),
+      s .pre .1 .0,
+    )
 
 add-result : tie.Need-add-result Inv-loop μ-loop
 add-result c = omega (arith, c .before .before .before .loop .inv .0, c .before .before .loop-test .taken)
 
 returns : tie.Need-returns Inv-loop μ-loop
-returns c = true-found (c .before .before .before .before .before .before .before .args .work .now) (c .before .before .before .loop .s) (c .before .before .before .before .before .base .result) _ (c .before .before .before .loop .inv .1) (c .before .before .loop-test .taken) (c .before .is-true .ensures) (c .if1 .taken)
+returns c =
+    let s = c .before .before .before .before .before .before .before in
+    let w = s .args .work .now in
+    let loop = c .before .before .before .loop in
+    let base = c .before .before .before .before .before .base in
+    let loop-test = c .before .before .loop-test in
+    let is-true = c .before .is-true in
+    let if1 = c .if1 in
+    true-found w (loop .s) (base .result) _ (loop .inv .1) (loop-test .taken) (is-true .ensures) (if1 .taken)
 
 add-s : tie.Need-add-s Inv-loop μ-loop
 add-s c = omega (arith, c .before .before .before .loop .inv .0, c .before .before .loop-test .taken)
@@ -43,7 +66,15 @@ loop-less : tie.Need-loop-less Inv-loop μ-loop
 loop-less c = omega (arith, c .before .before .loop-test .taken)
 
 loop-again : tie.Need-loop-again Inv-loop μ-loop
-loop-again c = (c .before .before .before .loop .inv .0, true-later (c .before .before .before .before .before .before .before .args .work .now) (c .before .before .before .loop .s) (c .before .before .before .before .before .base .result) _ (c .before .before .before .loop .inv .1) (c .before .before .loop-test .taken) (c .before .is-true .ensures) (c .if1 .left))
+loop-again c =
+    let s = c .before .before .before .before .before .before .before in
+    let w = s .args .work .now in
+    let loop = c .before .before .before .loop in
+    let base = c .before .before .before .before .before .base in
+    let loop-test = c .before .before .loop-test in
+    let is-true = c .before .is-true in
+    let if1 = c .if1 in
+    (loop .inv .0, true-later w (loop .s) (base .result) _ (loop .inv .1) (loop-test .taken) (is-true .ensures) (if1 .left))
 
 returns-2 : tie.Need-returns-2 Inv-loop μ-loop
 returns-2 c = true-none (c .before .before .before .before .before .args .work .now) (c .before .loop .s) (c .before .before .before .base .result) _ (c .before .loop .inv .1) (c .loop-test .left)

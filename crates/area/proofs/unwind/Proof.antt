@@ -73,7 +73,13 @@ same-length : tie.Need-same-length Inv-loop μ-loop
 same-length c = c .before .before .loop .inv .size
 
 returns : tie.Need-returns Inv-loop μ-loop
-returns c = unwinding-ends (c .before .before .before .args .head) (c .before .before .before .args .work .now) (c .before .before .loop .work) (c .before .before .before .pre .0) (c .before .before .before .pre .1) (c .before .before .loop .inv) (c .if1 .left)
+returns c =
+    let s = c .before .before .before in
+    let w = s .args .work .now in
+    let loop = c .before .before .loop in
+    let if1 = c .if1 in
+    let H = s .pre .1 in
+    unwinding-ends (s .args .head) w (loop .work) (s .pre .0) H (loop .inv) (if1 .left)
 
 pub unwind-spec : {M : Type 1} → statement M
 unwind-spec =

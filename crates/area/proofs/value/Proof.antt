@@ -23,16 +23,33 @@ shared-slice-read-e : tie.Need-shared-slice-read-e
 shared-slice-read-e c = search needs
 
 returns : tie.Need-returns
-returns c = side-none (trailAt (c .before .before .args .work .now) (2017 + c .before .before .args .l / 2)) (c .before .before .args .l % 2) (valueOf (gOf (c .before .before .args .work .now)) (c .before .before .args .l)) (c .if1 .taken) (c .before .before .pre .1 (c .before .before .args .l) (c .before .before .pre .0 .2))
+returns c =
+    let s = c .before .before in
+    let w = s .args .work .now in
+    let l = s .args .l in
+    let if1 = c .if1 in
+    side-none (trailAt w (2017 + s .args .l / 2)) (s .args .l % 2) (valueOf (gOf w) l) (if1 .taken) (s .pre .1 l (s .pre .0 .2))
 
 sub-if2 : tie.Need-sub-if2
 sub-if2 c = search needs
 
 returns-2 : tie.Need-returns-2
-returns-2 c = side-true (trailAt (c .before .before .before .args .work .now) (2017 + c .before .before .before .args .l / 2)) (c .before .before .before .args .l % 2) (valueOf (gOf (c .before .before .before .args .work .now)) (c .before .before .before .args .l)) (c .before .if1 .left) (c .if2 .taken) (c .before .before .before .pre .1 (c .before .before .before .args .l) (c .before .before .before .pre .0 .2))
+returns-2 c =
+    let s = c .before .before .before in
+    let w = s .args .work .now in
+    let l = s .args .l in
+    let if1 = c .before .if1 in
+    let if2 = c .if2 in
+    side-true (trailAt w (2017 + s .args .l / 2)) (s .args .l % 2) (valueOf (gOf w) l) (if1 .left) (if2 .taken) (s .pre .1 l (s .pre .0 .2))
 
 returns-3 : tie.Need-returns-3
-returns-3 c = side-false (trailAt (c .before .before .before .args .work .now) (2017 + c .before .before .before .args .l / 2)) (c .before .before .before .args .l % 2) (valueOf (gOf (c .before .before .before .args .work .now)) (c .before .before .before .args .l)) (c .before .if1 .left) (c .if2 .left) (c .before .before .before .pre .1 (c .before .before .before .args .l) (c .before .before .before .pre .0 .2))
+returns-3 c =
+    let s = c .before .before .before in
+    let w = s .args .work .now in
+    let l = s .args .l in
+    let if1 = c .before .if1 in
+    let if2 = c .if2 in
+    side-false (trailAt w (2017 + s .args .l / 2)) (s .args .l % 2) (valueOf (gOf w) l) (if1 .left) (if2 .left) (s .pre .1 l (s .pre .0 .2))
 
 pub value-spec : {M : Type 1} → statement M
 value-spec =

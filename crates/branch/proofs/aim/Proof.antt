@@ -1,7 +1,6 @@
 -- `branch::aim` meets its contract. The loop's invariant: the goals passed are stored. Assumes nothing.
 use native.Mathlib.Omega.{arith}
-use borrow.Author.Needs.{needs}
-use Prim.Native.Nat.{ℕ, _-_, _≤_}
+use Prim.Native.Nat.{_-_, _≤_}
 use lib.ListN.{length, getD}
 use Rattle.area.specs.Area.{slotsFrom}
 use Rattle.branch.specs.Clauses.{Filled}
@@ -41,7 +40,11 @@ loop-less : tie.Need-loop-less Inv-loop μ-loop
 loop-less c = omega (arith, c .before .loop-test .taken)
 
 loop-again : tie.Need-loop-again Inv-loop μ-loop
-loop-again c = (omega (arith, c .before .loop-test .taken), filled-more (c .before .before .loop .inv .1) (omega (arith, c .before .before .before .pre .0, c .before .before .before .pre .1, c .before .loop-test .taken)) refl)
+loop-again c =
+    let s = c .before .before .before in
+    let loop-test = c .before .loop-test in
+    let loop = c .before .before .loop in
+    (omega (arith, loop-test .taken), filled-more (loop .inv .1) (omega (arith, s .pre .0, s .pre .1, loop-test .taken)) refl)
 
 same-length : tie.Need-same-length Inv-loop μ-loop
 same-length c = c .before .loop .inv .1 .size

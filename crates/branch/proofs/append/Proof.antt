@@ -2,7 +2,6 @@
 use native.Mathlib.Omega.{arith}
 use borrow.Author.Needs.{needs}
 use mathlib.Core.Path.{refl, _∙_}
-use Prim.Native.Nat.{_/_}
 use lib.ListN.{length-set}
 use Rattle.index.specs.Index.{indexNode}
 use Rattle.branch.proofs.Appends.{row-clauses, appended}
@@ -37,28 +36,62 @@ cast-put-literals-2 : tie.Need-cast-put-literals-2
 cast-put-literals-2 c = search needs
 
 put-literals-requires : tie.Need-put-literals-requires
-put-literals-requires c κs = (c .before .before .before .before .before .before .before .before .before .before .pre .0, (c .before .before .before .before .before .before .before .before .before .before .pre .1 .0, ((omega (arith, c .before .before .before .before .before .before .before .before .before .before .pre .1 .1 .0 .0, c .before .before .before .put-ends .ensures .size), c .before .before .before .before .before .before .before .row-of .ensures .1, omega (arith, c .before .before .before .before .before .before .before .before .before .before .pre .1 .1 .0 .1), c .before .before .before .before .before .before .before .before .before .before .pre .1 .1 .1 .1), omega (arith, c .before .before .before .before .before .before .before .row-of .ensures .0))))
+put-literals-requires c κs =
+    let s = c .before .before .before .before .before .before .before .before .before .before in
+    let put-ends = c .before .before .before .put-ends in
+    let row-of = c .before .before .before .before .before .before .before .row-of in (
+      s .pre .0,
+      (s .pre .1 .0, ((omega (arith, s .pre .1 .1 .0 .0, put-ends .ensures .size), row-of .ensures .1, omega (arith, s .pre .1 .1 .0 .1), s .pre .1 .1 .1 .1), omega (arith, row-of .ensures .0))),
+    )
 
 template-requires : tie.Need-template-requires
-template-requires c κs = (c .before .before .before .before .before .before .before .before .before .before .before .before .before .pre .0, (c .before .before .before .before .before .before .before .before .before .before .row-of .ensures .1, omega arith))
+template-requires c κs =
+    let s = c .before .before .before .before .before .before .before .before .before .before .before .before .before in
+    let row-of = c .before .before .before .before .before .before .before .before .before .before .row-of in
+    (s .pre .0, (row-of .ensures .1, omega arith))
 
 cast-work : tie.Need-cast-work
-cast-work c = omega (arith, c .template .ensures, row-clauses (c .before .before .before .before .before .before .before .before .before .before .before .row-of .result) (c .before .before .before .before .before .before .before .before .before .before .before .row-of .ensures .1))
+cast-work c =
+    let template = c .template in
+    let row-of = c .before .before .before .before .before .before .before .before .before .before .before .row-of in
+    omega (arith, template .ensures, row-clauses (row-of .result) (row-of .ensures .1))
 
 add-work : tie.Need-add-work
-add-work c = omega (arith, c .template .ensures, row-clauses (c .before .before .before .before .before .before .before .before .before .before .before .row-of .result) (c .before .before .before .before .before .before .before .before .before .before .before .row-of .ensures .1), c .before .before .before .before .before .before .before .before .before .before .before .before .before .before .pre .1 .1 .1)
+add-work c =
+    let s = c .before .before .before .before .before .before .before .before .before .before .before .before .before .before in
+    let template = c .template in
+    let row-of = c .before .before .before .before .before .before .before .before .before .before .before .row-of in
+    omega (arith, template .ensures, row-clauses (row-of .result) (row-of .ensures .1), s .pre .1 .1 .1)
 
 cast-work-2 : tie.Need-cast-work-2
-cast-work-2 c = omega (arith, c .template .ensures, row-clauses (c .before .before .before .before .before .before .before .before .before .before .before .row-of .result) (c .before .before .before .before .before .before .before .before .before .before .before .row-of .ensures .1), c .before .before .before .before .before .before .before .before .before .before .before .before .before .before .pre .1 .1 .1)
+cast-work-2 c =
+    let s = c .before .before .before .before .before .before .before .before .before .before .before .before .before .before in
+    let template = c .template in
+    let row-of = c .before .before .before .before .before .before .before .before .before .before .before .row-of in
+    omega (arith, template .ensures, row-clauses (row-of .result) (row-of .ensures .1), s .pre .1 .1 .1)
 
 slice-write-work : tie.Need-slice-write-work
-slice-write-work c = omega (arith, c .before .before .before .before .before .before .before .before .before .before .before .before .before .before .pre .1 .1 .0 .0, c .before .before .before .before .before .before .before .before .before .before .before .before .before .before .pre .1 .1 .1, c .before .before .before .before .before .before .before .put-ends .ensures .size, c .before .before .before .put-literals .ensures .size)
+slice-write-work c =
+    let s = c .before .before .before .before .before .before .before .before .before .before .before .before .before .before in
+    let put-ends = c .before .before .before .before .before .before .before .put-ends in
+    let put-literals = c .before .before .before .put-literals in
+    omega (arith, s .pre .1 .1 .0 .0, s .pre .1 .1 .1, put-ends .ensures .size, put-literals .ensures .size)
 
 same-length : tie.Need-same-length
 same-length c = simp length-set (c .before .before .before .put-literals .ensures .size ∙ c .before .before .before .before .before .before .before .put-ends .ensures .size)
 
 returns : tie.Need-returns
-returns c = appended (indexNode (c .before .before .before .before .before .before .before .before .before .before .before .before .before .before .args .x .now)) (c .before .before .before .before .before .before .before .before .before .before .before .before .before .before .args .l) (c .before .before .before .before .before .before .before .before .before .before .before .row-of .result) (c .before .before .before .before .before .before .before .before .before .before .before .row-of .ensures .1) (c .before .before .before .before .before .before .before .before .before .before .before .row-of .ensures .0) (c .before .before .before .before .before .before .before .before .before .before .before .before .before .before .args .work .now) _ _ _ (c .template .result) (c .before .before .before .before .before .before .before .before .before .before .before .before .before .before .pre .1 .1 .0 .0) (c .before .before .before .before .before .before .before .before .before .before .before .before .before .before .pre .1 .1 .1 .0) refl (c .before .before .before .before .before .before .before .before .before .before .before .before .before .before .pre .1 .1 .1 .1) (c .template .ensures) (c .before .before .before .before .before .before .before .put-ends .ensures) (c .before .before .before .put-literals .ensures)
+returns c =
+    let s = c .before .before .before .before .before .before .before .before .before .before .before .before .before .before in
+    let t = indexNode (s .args .x .now) in
+    let w = s .args .work .now in
+    let l = s .args .l in
+    let row-of = c .before .before .before .before .before .before .before .before .before .before .before .row-of in
+    let template = c .template in
+    let put-ends = c .before .before .before .before .before .before .before .put-ends in
+    let put-literals = c .before .before .before .put-literals in
+    appended t l (row-of .result) (row-of .ensures .1) (row-of .ensures .0) w _ _ _ (template .result) (s .pre .1 .1 .0 .0) (s .pre .1 .1 .1 .0) refl
+    (s .pre .1 .1 .1 .1) (template .ensures) (put-ends .ensures) (put-literals .ensures)
 
 pub append-spec : {M : Type 1} → statement M
 append-spec =

@@ -12,22 +12,51 @@ zeros-requires : tie.Need-zeros-requires
 zeros-requires c κs = search needs
 
 number-requires : tie.Need-number-requires
-number-requires c κs = (omega (arith, c .before .before .before .before .before .before .before .before .pre .1 .1, zeros-length (c .before .before .before .before .before .before .before .before .args .work .now) (c .before .before .before .zeros .ensures)), omega (arith, c .before .before .before .before .before .before .before .before .pre .1 .0 .most))
+number-requires c κs =
+    let s = c .before .before .before .before .before .before .before .before in
+    let w = s .args .work .now in
+    let zeros = c .before .before .before .zeros in
+    (omega (arith, s .pre .1 .1, zeros-length w (zeros .ensures)), omega (arith, s .pre .1 .0 .most))
 
 aim-requires : tie.Need-aim-requires
-aim-requires c κs = (omega (arith, c .before .before .before .before .before .before .before .before .before .before .before .before .pre .1 .1, zeros-length (c .before .before .before .before .before .before .before .before .before .before .before .before .args .work .now) (c .before .before .before .before .before .before .before .zeros .ensures), c .before .before .before .number .ensures .size), omega (arith, c .before .before .before .before .before .before .before .before .before .before .before .before .pre .1 .0 .most))
+aim-requires c κs =
+    let s = c .before .before .before .before .before .before .before .before .before .before .before .before in
+    let w = s .args .work .now in
+    let zeros = c .before .before .before .before .before .before .before .zeros in
+    let number = c .before .before .before .number in
+    (omega (arith, s .pre .1 .1, zeros-length w (zeros .ensures), number .ensures .size), omega (arith, s .pre .1 .0 .most))
 
 cast-work : tie.Need-cast-work
 cast-work c = omega (arith, c .before .before .before .before .before .before .before .before .before .before .before .before .before .before .before .pre .1 .0 .most)
 
 slice-write-work : tie.Need-slice-write-work
-slice-write-work c = omega (arith, c .before .before .before .before .before .before .before .before .before .before .before .before .before .before .before .pre .1 .1, zeros-length (c .before .before .before .before .before .before .before .before .before .before .before .before .before .before .before .args .work .now) (c .before .before .before .before .before .before .before .before .before .before .zeros .ensures), c .before .before .before .before .before .before .number .ensures .size, c .before .before .aim .ensures .size)
+slice-write-work c =
+    let s = c .before .before .before .before .before .before .before .before .before .before .before .before .before .before .before in
+    let w = s .args .work .now in
+    let zeros = c .before .before .before .before .before .before .before .before .before .before .zeros in
+    let number = c .before .before .before .before .before .before .number in
+    let aim = c .before .before .aim in
+    omega (arith, s .pre .1 .1, zeros-length w (zeros .ensures), number .ensures .size, aim .ensures .size)
 
 same-length : tie.Need-same-length
-same-length c = simp length-set (c .before .before .aim .ensures .size ∙ c .before .before .before .before .before .before .number .ensures .size ∙ zeros-length (c .before .before .before .before .before .before .before .before .before .before .before .before .before .before .before .args .work .now) (c .before .before .before .before .before .before .before .before .before .before .zeros .ensures))
+same-length c =
+    let s = c .before .before .before .before .before .before .before .before .before .before .before .before .before .before .before in
+    let w = s .args .work .now in
+    let aim = c .before .before .aim in
+    let number = c .before .before .before .before .before .before .number in
+    let zeros = c .before .before .before .before .before .before .before .before .before .before .zeros in
+    simp length-set (aim .ensures .size ∙ number .ensures .size ∙ zeros-length w (zeros .ensures))
 
 returns : tie.Need-returns
-returns c = begun (indexNode (c .before .before .before .before .before .before .before .before .before .before .before .before .before .before .before .args .x .now)) (c .before .before .before .before .before .before .before .before .before .before .before .before .before .before .before .args .n) (c .before .before .before .before .before .before .before .before .before .before .before .before .before .before .before .args .work .now) (c .before .before .before .before .before .before .before .before .before .before .before .before .before .before .before .pre .1 .1) (c .before .before .before .before .before .before .before .before .before .before .before .before .before .before .before .pre .1 .0) (c .before .before .before .before .before .before .before .before .before .before .zeros .ensures) (c .before .before .before .before .before .before .number .ensures) (c .before .before .aim .ensures)
+returns c =
+    let s = c .before .before .before .before .before .before .before .before .before .before .before .before .before .before .before in
+    let t = indexNode (s .args .x .now) in
+    let n = s .args .n in
+    let w = s .args .work .now in
+    let zeros = c .before .before .before .before .before .before .before .before .before .before .zeros in
+    let number = c .before .before .before .before .before .before .number in
+    let aim = c .before .before .aim in
+    begun t n w (s .pre .1 .1) (s .pre .1 .0) (zeros .ensures) (number .ensures) (aim .ensures)
 
 pub begin-spec : {M : Type 1} → statement M
 begin-spec =

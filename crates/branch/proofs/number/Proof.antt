@@ -1,7 +1,6 @@
 -- `branch::number` meets its contract. The loop's invariant: the clauses passed have their ends. Assumes nothing.
 use native.Mathlib.Omega.{arith}
-use borrow.Author.Needs.{needs}
-use Prim.Native.Nat.{ℕ, suc, _+_, _-_, _≤_}
+use Prim.Native.Nat.{suc, _+_, _-_, _≤_}
 use native.Mathlib.Numerals.{add-one}
 use Rattle.area.specs.Area.{basesFrom}
 use Rattle.branch.specs.Clauses.{Filled}
@@ -43,7 +42,11 @@ loop-less : tie.Need-loop-less Inv-loop μ-loop
 loop-less c = omega (arith, c .loop-test .taken)
 
 loop-again : tie.Need-loop-again Inv-loop μ-loop
-loop-again c = (omega (arith, c .loop-test .taken), filled-more (c .before .loop .inv .1) (omega (arith, c .before .before .pre .0, c .before .before .pre .1, c .loop-test .taken)) (add-one (c .before .loop .k)))
+loop-again c =
+    let s = c .before .before in
+    let loop-test = c .loop-test in
+    let loop = c .before .loop in
+    (omega (arith, loop-test .taken), filled-more (loop .inv .1) (omega (arith, s .pre .0, s .pre .1, loop-test .taken)) (add-one (loop .k)))
 
 same-length : tie.Need-same-length Inv-loop μ-loop
 same-length c = c .before .loop .inv .1 .size

@@ -1,5 +1,4 @@
 -- `branch::push` meets its contract. The clauses are appended, and the literal enters the trail. Assumes nothing.
-use native.Mathlib.Omega.{arith}
 use borrow.Author.Needs.{needs}
 use mathlib.Core.Path.{refl}
 use Rattle.index.specs.Index.{indexNode}
@@ -12,16 +11,30 @@ use Rattle.branch.proofs.push.Tie as tie
 
 append-requires : tie.Need-append-requires
 unfolding rows templates flat offset
-append-requires c κs = (refl, (c .before .before .before .before .pre .0, ((c .before .before .before .before .pre .1 .0, c .before .before .before .before .pre .1 .1 .1 .1 .0), c .before .before .before .before .pre .1 .1 .0)))
+append-requires c κs =
+    let s = c .before .before .before .before in
+    (refl, (s .pre .0, ((s .pre .1 .0, s .pre .1 .1 .1 .1 .0), s .pre .1 .1 .0)))
 
 enter-requires : tie.Need-enter-requires
-enter-requires c κs = enter-ready (indexNode (c .before .before .before .before .before .before .before .before .args .x .now)) (c .before .before .before .before .before .before .before .before .args .l) (c .before .before .before .append .ensures) (c .before .before .before .before .before .before .before .before .pre .1 .0) (c .before .before .before .before .before .before .before .before .pre .0 .few) (c .before .before .before .before .before .before .before .before .pre .1 .1 .1 .0) (c .before .before .before .before .before .before .before .before .pre .1 .1 .1 .1)
+enter-requires c κs =
+    let s = c .before .before .before .before .before .before .before .before in
+    let t = indexNode (s .args .x .now) in
+    let few = s .pre .0 .few in
+    let l = s .args .l in
+    let append = c .before .before .before .append in
+    enter-ready t l (append .ensures) (s .pre .1 .0) few (s .pre .1 .1 .1 .0) (s .pre .1 .1 .1 .1)
 
 same-length : tie.Need-same-length
 same-length c = search needs
 
 returns : tie.Need-returns
-returns c = joined-is (indexNode (c .before .before .before .before .before .before .before .before .before .before .before .args .x .now)) (c .before .before .before .before .before .before .before .before .before .before .before .args .l) (c .before .before .before .before .before .before .append .ensures) (c .before .before .enter .ensures)
+returns c =
+    let s = c .before .before .before .before .before .before .before .before .before .before .before in
+    let t = indexNode (s .args .x .now) in
+    let l = s .args .l in
+    let append = c .before .before .before .before .before .before .append in
+    let enter = c .before .before .enter in
+    joined-is t l (append .ensures) (enter .ensures)
 
 pub push-spec : {M : Type 1} → statement M
 push-spec = tie.close (tie.spec append-requires enter-requires same-length returns)

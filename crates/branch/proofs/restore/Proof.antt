@@ -76,16 +76,32 @@ mul-work : tie.Need-mul-work
 mul-work c = omega (arith, low (c .before .before .before .before .before .before .before .before .before .before .before .before .before .before))
 
 slice-read-work : tie.Need-slice-read-work
-slice-read-work c = omega (arith, low (c .before .before .before .before .before .before .before .before .before .before .before .before .before .before .before), c .before .before .before .before .before .before .before .unwind .ensures .size, c .before .before .before .shrink .ensures .size)
+slice-read-work c =
+    let unwind = c .before .before .before .before .before .before .before .unwind in
+    let shrink = c .before .before .before .shrink in
+    omega
+    (arith, low (c .before .before .before .before .before .before .before .before .before .before .before .before .before .before .before), unwind .ensures .size, shrink .ensures .size)
 
 slice-write-work : tie.Need-slice-write-work
-slice-write-work c = omega (arith, low (c .before .before .before .before .before .before .before .before .before .before .before .before .before .before .before), c .before .before .before .before .before .before .before .unwind .ensures .size, c .before .before .before .shrink .ensures .size)
+slice-write-work c =
+    let unwind = c .before .before .before .before .before .before .before .unwind in
+    let shrink = c .before .before .before .shrink in
+    omega
+    (arith, low (c .before .before .before .before .before .before .before .before .before .before .before .before .before .before .before), unwind .ensures .size, shrink .ensures .size)
 
 cast-work : tie.Need-cast-work
-cast-work c = omega (arith, low (c .before .before .before .before .before .before .before .before .before .before .before .before .before .before .before), c .before .before .before .before .before .before .before .unwind .ensures .size, c .before .before .before .shrink .ensures .size)
+cast-work c =
+    let unwind = c .before .before .before .before .before .before .before .unwind in
+    let shrink = c .before .before .before .shrink in
+    omega
+    (arith, low (c .before .before .before .before .before .before .before .before .before .before .before .before .before .before .before), unwind .ensures .size, shrink .ensures .size)
 
 slice-write-work-2 : tie.Need-slice-write-work-2
-slice-write-work-2 c = simp length-set (omega (arith, low (c .before .before .before .before .before .before .before .before .before .before .before .before .before .before .before), c .before .before .before .before .before .before .before .unwind .ensures .size, c .before .before .before .shrink .ensures .size))
+slice-write-work-2 c =
+    let unwind = c .before .before .before .before .before .before .before .unwind in
+    let shrink = c .before .before .before .shrink in
+    simp length-set
+    (omega (arith, low (c .before .before .before .before .before .before .before .before .before .before .before .before .before .before .before), unwind .ensures .size, shrink .ensures .size))
 
 same-length : tie.Need-same-length
 same-length c = simp length-set (c .before .before .before .shrink .ensures .size ∙ c .before .before .before .before .before .before .before .unwind .ensures .size)

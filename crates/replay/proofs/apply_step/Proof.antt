@@ -22,7 +22,10 @@ returns c =
     let e = expand (indexNode (s .args .x .now)) in
     let n = s .args .n in
     let p = s .args .step in
-    ruled-as (c .before .before .rule-u .last .1 .1 .0) (c .before .before .rule-u .result) (λ goals. ruleU e goals n (p .value)) (λ goals. apply e goals n p) (is-u e n p (c .before .before .before .before .if1 .taken)) (c .before .before .rule-u .ensures)
+    let r = c .before .before .rule-u in
+    ruled-as (r .last .1 .1 .0) (r .result)
+    (λ goals. ruleU e goals n (p .value)) (λ goals. apply e goals n p)
+    (is-u e n p (c .before .before .before .before .if1 .taken)) (r .ensures)
 
 rule-r-requires : tie.Need-rule-r-requires
 rule-r-requires c κs = (c .before .before .before .before .before .before .before .before .pre .0, c .before .before .before .before .before .before .before .before .pre .1)
@@ -36,7 +39,10 @@ returns-2 c =
     let e = expand (indexNode (s .args .x .now)) in
     let n = s .args .n in
     let p = s .args .step in
-    ruled-as (c .before .before .rule-r .last .1 .1 .0) (c .before .before .rule-r .result) (λ goals. ruleR e goals n (p .position) (p .value)) (λ goals. apply e goals n p) (is-r e n p (c .before .before .before .before .before .before .if1 .left) (c .before .before .before .before .if2 .taken)) (c .before .before .rule-r .ensures)
+    let r = c .before .before .rule-r in
+    ruled-as (r .last .1 .1 .0) (r .result)
+    (λ goals. ruleR e goals n (p .position) (p .value)) (λ goals. apply e goals n p)
+    (is-r e n p (c .before .before .before .before .before .before .if1 .left) (c .before .before .before .before .if2 .taken)) (r .ensures)
 
 rule-e-requires : tie.Need-rule-e-requires
 rule-e-requires c κs = (c .before .before .before .before .before .before .before .before .before .before .pre .0, c .before .before .before .before .before .before .before .before .before .before .pre .1)
@@ -50,7 +56,10 @@ returns-3 c =
     let e = expand (indexNode (s .args .x .now)) in
     let n = s .args .n in
     let p = s .args .step in
-    ruled-as (c .before .before .rule-e .last .1 .1 .0) (c .before .before .rule-e .result) (λ goals. ruleE e goals n (p .value)) (λ goals. apply e goals n p) (is-e e n p (c .before .before .before .before .before .before .before .before .if1 .left) (c .before .before .before .before .before .before .if2 .left) (c .before .before .before .before .if3 .taken)) (c .before .before .rule-e .ensures)
+    let r = c .before .before .rule-e in
+    ruled-as (r .last .1 .1 .0) (r .result)
+    (λ goals. ruleE e goals n (p .value)) (λ goals. apply e goals n p)
+    (is-e e n p (c .before .before .before .before .before .before .before .before .if1 .left) (c .before .before .before .before .before .before .if2 .left) (c .before .before .before .before .if3 .taken)) (r .ensures)
 
 rule-c-requires : tie.Need-rule-c-requires
 rule-c-requires c κs = (c .before .before .before .before .before .before .before .before .before .before .before .before .pre .0, c .before .before .before .before .before .before .before .before .before .before .before .before .pre .1)
@@ -64,7 +73,10 @@ returns-4 c =
     let e = expand (indexNode (s .args .x .now)) in
     let n = s .args .n in
     let p = s .args .step in
-    ruled-as (c .before .before .rule-c .last .1 .1 .0) (c .before .before .rule-c .result) (λ goals. ruleC e goals n (p .value)) (λ goals. apply e goals n p) (is-c e n p (c .before .before .before .before .before .before .before .before .before .before .if1 .left) (c .before .before .before .before .before .before .before .before .if2 .left) (c .before .before .before .before .before .before .if3 .left) (c .before .before .before .before .if4 .taken)) (c .before .before .rule-c .ensures)
+    let r = c .before .before .rule-c in
+    ruled-as (r .last .1 .1 .0) (r .result)
+    (λ goals. ruleC e goals n (p .value)) (λ goals. apply e goals n p)
+    (is-c e n p (c .before .before .before .before .before .before .before .before .before .before .if1 .left) (c .before .before .before .before .before .before .before .before .if2 .left) (c .before .before .before .before .before .before .if3 .left) (c .before .before .before .before .if4 .taken)) (r .ensures)
 
 rule-s-requires : tie.Need-rule-s-requires
 rule-s-requires c κs = (c .before .before .before .before .before .before .before .before .before .before .before .before .pre .0, c .before .before .before .before .before .before .before .before .before .before .before .before .pre .1)
@@ -78,7 +90,10 @@ returns-5 c =
     let e = expand (indexNode (s .args .x .now)) in
     let n = s .args .n in
     let p = s .args .step in
-    ruled-as (c .before .before .rule-s .last .1 .1 .0) (c .before .before .rule-s .result) (λ goals. ruleS e goals n (p .value)) (λ goals. apply e goals n p) (is-s e n p (c .before .before .before .before .before .before .before .before .before .before .if1 .left) (c .before .before .before .before .before .before .before .before .if2 .left) (c .before .before .before .before .before .before .if3 .left) (c .before .before .before .before .if4 .left)) (c .before .before .rule-s .ensures)
+    let r = c .before .before .rule-s in
+    ruled-as (r .last .1 .1 .0) (r .result)
+    (λ goals. ruleS e goals n (p .value)) (λ goals. apply e goals n p)
+    (is-s e n p (c .before .before .before .before .before .before .before .before .before .before .if1 .left) (c .before .before .before .before .before .before .before .before .if2 .left) (c .before .before .before .before .before .before .if3 .left) (c .before .before .before .before .if4 .left)) (r .ensures)
 
 pub apply-step-spec : {M : Type 1} → statement M
 apply-step-spec =
