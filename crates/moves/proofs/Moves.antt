@@ -1,8 +1,8 @@
 -- The move of a work area that holds. Assumes nothing.
 use mathlib.Core.Path.{_≡_, refl, sym, ap, _∙_, subst, fun-ext}
-use mathlib.Core.Bool.{Bool, true, false, false≢true}
-use mathlib.Core.List.{List, [], _∷_}
-use Prim.Native.Nat.{ℕ, suc, _+_, _-_, _*_, _/_, _%_, _<_, _≤_}
+use mathlib.Core.Bool.{Bool, true, false}
+use mathlib.Core.List.{List}
+use Prim.Native.Nat.{ℕ, _+_, _*_, _/_, _%_, _<_, _≤_}
 use native.Mathlib.Omega.{arith}
 use native.Mathlib.Decide.{decLt}
 use lib.ListN.{length, getD, set, length-map, length-set}
@@ -10,19 +10,19 @@ use lib.Seq.{getD-set-same, getD-set-other}
 use borrow.Author.Tests.{lt-ltb, le-ltb}
 use Rattle.scope.specs.declared.Node.{Node}
 use Rattle.calculus.specs.Expansion.{chosen, expand}
-use Rattle.calculus.specs.Order.{State, met, empty, holds, joined, valueOf, stateOf, literalOf, literalAt, isEmpty, isOne, some, firstOf, bit, moveOf, move, clauses}
-use Rattle.calculus.specs.Model.{All, Goals}
+use Rattle.calculus.specs.Order.{State, met, empty, joined, valueOf, stateOf, literalOf, literalAt, isEmpty, isOne, some, firstOf, bit, moveOf, move}
+use Rattle.calculus.specs.Model.{Goals}
 use Rattle.calculus.specs.declared.Move.the-variants.{Conflict, Unit as Single, Done, Split}
 use Rattle.calculus.proofs.Literals.{is-false}
 use Rattle.trail.proofs.Trails.{trail-length}
-use Rattle.index.specs.Index.{operands}
-use Rattle.units.specs.Units.{member, Some, Empty, First}
+use Rattle.index.specs.Index.{operands, mostNodes}
+use Rattle.units.specs.Units.{member, Empty, First, positions}
 use Rattle.clause.specs.Coded.{isOpen, Choice, Coded}
-use Rattle.state.specs.Work.{tail, litAt, baseOf, gOf, held, trail, valueCode, cursorAt, cursorOf, conflictOf, waitingOf, placeOf, Ready, Numbered}
+use Rattle.state.specs.Work.{tail, litAt, baseOf, gOf, held, trail, valueCode, cursorAt, cursorOf, conflictOf, waitingOf, placeOf, Numbered, trailAt, literalsAt, basesAt, valuesAt}
 use Rattle.state.specs.Holds.{statesAt, Entered, Closed, AllMet, Waiting, Holds}
 use Rattle.state.proofs.Areas.{count-most, base-most, ready-same}
-use Rattle.state.proofs.Clauses.{sofar, sofar-length, none-by, first-at, none-sofar, Found, found-goal, found-position, goal-state, goals-length}
-use Rattle.moves.specs.Place.{placeNumber, Placed, Without, AllTrue, FirstGoal, CellSet, FirstOpen, Moved}
+use Rattle.state.proofs.Clauses.{sofar, sofar-length, none-by, first-at, none-sofar, found-goal, found-position, goal-state, goals-length}
+use Rattle.moves.specs.Place.{placeNumber, Placed, Without, FirstGoal, CellSet, FirstOpen, Moved, goalsAt}
 use Rattle.moves.proofs.Tests.{move-conflict, move-unit, move-split, move-done, all-met, met-closed, first-low, goal-false, goal-unfalse, goal-unit, goal-ununit, value-else}
 
 bit-false : (b : Bool) → bit b ≡ 0 → b ≡ false
@@ -49,23 +49,23 @@ without-by f h j i = f .before j (omega (arith, i, h))
 pub cell-set : {i v : ℕ} {w : List ℕ} → i < length w → CellSet i v w (set w i v)
 cell-set {i} {v} {w} b = record { size = length-set w i v; cell = getD-set-same w i v 0 b; other = λ j e. getD-set-other w i j v 0 e }
 
-module _ {t : ℕ → Node} {n : ℕ} {goals w m : List ℕ} (w′ : List ℕ) (few : n ≤ 2016) (H : Holds t n goals w m) (size : length w′ ≡ length w)
-    (rest : (i : ℕ) → 4 ≤ i → getD w′ i 0 ≡ getD w i 0) (conflict : conflictOf w′ ≡ conflictOf w) (waits : waitingOf w′ ≡ waitingOf w)
+module _ {t : ℕ → Node} {n : ℕ} {goals w m : List ℕ} (w′ : List ℕ) (few : n ≤ mostNodes) (H : Holds t n goals w m) (size : length w′ ≡ length w)
+    (rest : (i : ℕ) → trailAt ≤ i → getD w′ i 0 ≡ getD w i 0) (conflict : conflictOf w′ ≡ conflictOf w) (waits : waitingOf w′ ≡ waitingOf w)
     (low : cursorOf w′ ≤ tail w 0) (before : AllMet t (gOf w) (tail w) (cursorOf w′)) where
   same : tail w′ ≡ tail w
-  same = fun-ext (λ i. rest (4 + i) (omega arith))
+  same = fun-ext (λ i. rest (trailAt + i) (omega arith))
 
   cell-list : gOf w′ ≡ gOf w
   cell-list = ap held same
 
   cell-holds : Holds t n goals w′ m
   cell-holds = record {
-    ready = ready-same few (H .ready) size (λ i k. rest (4 + i) (omega arith)) (λ l k. rest (4 + (6051 + l)) (omega arith));
+    ready = ready-same few (H .ready) size (λ i k. rest (trailAt + i) (omega arith)) (λ l k. rest (trailAt + (valuesAt + l)) (omega arith));
     numbered = subst (Numbered t goals) (sym same) (H .numbered);
     units = H .units;
     entered = subst (λ (r : ℕ → ℕ). (q : ℕ) → q < r 0 → Entered t (held r) r (conflictOf w′) m q) (sym same)
         (subst (λ (c : ℕ). (q : ℕ) → q < tail w 0 → Entered t (gOf w) (tail w) c m q) (sym conflict) (H .entered));
-    clear = subst (λ (r : ℕ → ℕ). (q : ℕ) → r 0 ≤ q → q < 2048 → member m q ≡ 0) (sym same) (H .clear);
+    clear = subst (λ (r : ℕ → ℕ). (q : ℕ) → r 0 ≤ q → q < positions → member m q ≡ 0) (sym same) (H .clear);
     closed = subst (λ (r : ℕ → ℕ). Closed t (held r) r (conflictOf w′)) (sym same) (subst (Closed t (gOf w) (tail w)) (sym conflict) (H .closed));
     cursor = omega (arith, low, ap (λ (r : ℕ → ℕ). r 0) same);
     met-before = subst (λ (r : ℕ → ℕ). AllMet t (held r) r (cursorOf w′)) (sym same) before;
@@ -74,11 +74,11 @@ module _ {t : ℕ → Node} {n : ℕ} {goals w m : List ℕ} (w′ : List ℕ) (
   }
 
 -- the place of the move's clause
-module _ {t : ℕ → Node} {n place : ℕ} {goals w w′ m : List ℕ} (few : n ≤ 2016) (H : Holds t n goals w m) (z : CellSet 3 place w w′) where
+module _ {t : ℕ → Node} {n place : ℕ} {goals w w′ m : List ℕ} (few : n ≤ mostNodes) (H : Holds t n goals w m) (z : CellSet 3 place w w′) where
   cell : (i : ℕ) → i < 3 → getD w′ i 0 ≡ getD w i 0
   cell i b = z .other i (λ e. omega (arith, e, b))
 
-  rest : (i : ℕ) → 4 ≤ i → getD w′ i 0 ≡ getD w i 0
+  rest : (i : ℕ) → trailAt ≤ i → getD w′ i 0 ≡ getD w i 0
   rest i b = z .other i (λ e. omega (arith, e, b))
 
   before : AllMet t (gOf w) (tail w) (cursorOf w′)
@@ -91,34 +91,34 @@ module _ {t : ℕ → Node} {n place : ℕ} {goals w w′ m : List ℕ} (few : n
   keeps-list = cell-list w′ few H (z .size) rest (cell 1 (omega arith)) (cell 2 (omega arith)) (omega (arith, cell 0 (omega arith), H .cursor)) before
 
   -- a goal's
-  placed-goal : (k : ℕ) → place ≡ 8064 + k → k < length goals → Placed t goals w′ k
+  placed-goal : (k : ℕ) → place ≡ goalsAt + k → k < length goals → Placed t goals w′ k
   unfolding placeNumber
   placed-goal k e b =
-      let p : placeOf w′ ≡ 8064 + k = z .cell ∙ e in
+      let p : placeOf w′ ≡ goalsAt + k = z .cell ∙ e in
       record {
-        number = rw (p, le-ltb (8064 + k) 8064 (omega arith)) (omega arith);
+        number = rw (p, le-ltb (goalsAt + k) goalsAt (omega arith)) (omega arith);
         goal = λ i. omega (arith, p, b);
         held = λ i. absurd (omega (arith, i, p));
         column = λ i. absurd (omega (arith, i, p));
       }
 
   -- that of a position's clause
-  placed-at : (q j : ℕ) → place ≡ 4 * q + j → j < 4 → q < tail w 0 → q < 2016 → j < length (expand t (litAt (tail w) q)) → Placed t goals w′ (baseOf (tail w) q + j)
+  placed-at : (q j : ℕ) → place ≡ 4 * q + j → j < 4 → q < tail w 0 → q < mostNodes → j < length (expand t (litAt (tail w) q)) → Placed t goals w′ (baseOf (tail w) q + j)
   unfolding placeNumber
   placed-at q j e c b o l =
       let p : placeOf w′ ≡ 4 * q + j = z .cell ∙ e in
       let d : (4 * q + j) / 4 ≡ q = omega (arith, c) in
       let f : (4 * q + j) % 4 ≡ j = omega (arith, c) in
       record {
-        number = rw (p, lt-ltb (4 * q + j) 8064 (omega (arith, c, o)), d, f) (ap (_+ j) (rest (4 + (4034 + q)) (omega arith)));
+        number = rw (p, lt-ltb (4 * q + j) goalsAt (omega (arith, c, o)), d, f) (ap (_+ j) (rest (trailAt + (basesAt + q)) (omega arith)));
         goal = λ i. absurd (omega (arith, i, p, c, o));
         held = λ i. rw (p, d) (omega (arith, b, rest 4 (omega arith)));
-        column = λ i. rw (p, d, f, rest (4 + (1 + q)) (omega arith)) l;
+        column = λ i. rw (p, d, f, rest (trailAt + (literalsAt + q)) (omega arith)) l;
       }
 
 -- ---- the moves
 
-module _ {t : ℕ → Node} {n : ℕ} {goals w m : List ℕ} (few : n ≤ 2016) (gs : Goals n goals) (H : Holds t n goals w m) where
+module _ {t : ℕ → Node} {n : ℕ} {goals w m : List ℕ} (few : n ≤ mostNodes) (gs : Goals n goals) (H : Holds t n goals w m) where
   abbrev G : List ℕ
   G = gOf w
 
@@ -131,7 +131,7 @@ module _ {t : ℕ → Node} {n : ℕ} {goals w m : List ℕ} (few : n ≤ 2016) 
   abbrev S : ℕ → List State
   S q = statesAt t G r q
 
-  most : r 0 ≤ 2016
+  most : r 0 ≤ mostNodes
   most = omega (arith, count-most (H .ready), few)
 
   pub base-low : (q : ℕ) → q ≤ r 0 → baseOf r q ≤ 8192
@@ -163,7 +163,7 @@ module _ {t : ℕ → Node} {n : ℕ} {goals w m : List ℕ} (few : n ≤ 2016) 
   -- ---- a conflict
 
   -- on a goal
-  pub conflict-goal : {k : ℕ} {w′ : List ℕ} → FirstGoal goals G 2 k → k < length goals → CellSet 3 (8064 + k) w w′ → Moved t n goals w w′ m (Conflict k)
+  pub conflict-goal : {k : ℕ} {w′ : List ℕ} → FirstGoal goals G 2 k → k < length goals → CellSet 3 (goalsAt + k) w w′ → Moved t n goals w w′ m (Conflict k)
   conflict-goal {k} f i z =
       let b : k < length (C 0) = omega (arith, i, goals-length t goals G r) in
       let a = first-at isEmpty (C 0) k b (goal-at isEmpty true k i (goal-false (valueOf G (getD goals k 0)) (getD goals k 0) (f .here i)))
@@ -177,7 +177,7 @@ module _ {t : ℕ → Node} {n : ℕ} {goals w m : List ℕ} (few : n ≤ 2016) 
       }
 
   -- on the first position that has one
-  module _ {q : ℕ} (e : q ≡ conflictOf w) (i : q < 2016) where
+  module _ {q : ℕ} (e : q ≡ conflictOf w) (i : q < mostNodes) where
     conflict-there : (q < r 0) × (some isEmpty (S q) ≡ true)
     conflict-there = subst (Closed t G r) (sym e) (H .closed) i
 
@@ -203,7 +203,7 @@ module _ {t : ℕ → Node} {n : ℕ} {goals w m : List ℕ} (few : n ≤ 2016) 
 
   -- ---- no conflict
 
-  module _ (free : 2016 ≤ conflictOf w) where
+  module _ (free : mostNodes ≤ conflictOf w) where
     position-free : (q : ℕ) → q < r 0 → some isEmpty (S q) ≡ false
     position-free q i = is-false (some isEmpty (S q)) (λ u. omega (arith, free, i, most, H .entered q i .conflict u))
 
@@ -220,7 +220,7 @@ module _ {t : ℕ → Node} {n : ℕ} {goals w m : List ℕ} (few : n ≤ 2016) 
             let (j, b, d) = H .waiting .on z in
             absurd (u .before j (omega (arith, i, b)) (value-else (valueOf G (getD goals j 0)) (f j b) d))
 
-    pub unit-goal : {k : ℕ} {w′ : List ℕ} → Without 2 goals G → FirstGoal goals G 0 k → k < length goals → CellSet 3 (8064 + k) w w′
+    pub unit-goal : {k : ℕ} {w′ : List ℕ} → Without 2 goals G → FirstGoal goals G 0 k → k < length goals → CellSet 3 (goalsAt + k) w w′
         → Moved t n goals w w′ m (Single k (getD goals k 0))
     unit-goal {k} f u i z =
         let b : k < length (C 0) = omega (arith, i, goals-length t goals G r) in
@@ -329,11 +329,11 @@ module _ {t : ℕ → Node} {n : ℕ} {goals w m : List ℕ} (few : n ≤ 2016) 
           pub split : {l y code : ℕ} → y ≡ litAt (tail w′) q → Coded (t (litAt (tail w′) q / 2)) (statesAt t (gOf w′) (tail w′) q) code
               → (code / 1024 % 8 / 2 < length (operands (t (y / 2)))) × (l ≡ chosen (t (y / 2)) (code / 1024 % 8) → Moved t n goals w w′ m (Split l))
           split {l} {y} {code} u v =
-              let same : tail w′ ≡ r = fun-ext (λ j. rest₀ (4 + j) (omega arith)) in
+              let same : tail w′ ≡ r = fun-ext (λ j. rest₀ (trailAt + j) (omega arith)) in
               let b : q < r 0 = omega (arith, i, count-is e) in
               let s = f .here b in
               let v′ : Coded (t (litAt r q / 2)) (S q) code = subst (λ (h : ℕ → ℕ). Coded (t (litAt h q / 2)) (statesAt t (held h) h q) code) same v in
-              let y′ : y ≡ litAt r q = u ∙ rest₀ (4 + (1 + q)) (omega arith) in
+              let y′ : y ≡ litAt r q = u ∙ rest₀ (trailAt + (literalsAt + q)) (omega arith) in
               let d = v′ .unmet-literal s in
               let n = none-sofar t goals G r isOpen q no-open-goal closed-before in
               let o = found-position t goals G r isOpen q (r 0) b n s in (

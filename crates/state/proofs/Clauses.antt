@@ -10,12 +10,12 @@ use lib.Seq.{getD-append-add}
 use Rattle.scope.specs.declared.Node.{Node}
 use Rattle.scope.proofs.Tests.{or-left, or-right}
 use Rattle.calculus.specs.Expansion.{expand}
-use Rattle.calculus.specs.Order.{State, met, empty, joined, valueOf, stateOf, literalAt, isEmpty, isOne, isMany, some, firstOf, moveOf, clauses, move}
+use Rattle.calculus.specs.Order.{State, met, empty, joined, valueOf, stateOf, literalAt, isEmpty, isOne, isMany, some, firstOf, moveOf, clauses}
 use Rattle.calculus.specs.declared.Move.{Move}
 use Rattle.calculus.specs.declared.Move.the-variants.{Conflict, Unit as Single, Done, Split}
 use Rattle.calculus.proofs.Lists.{getD-map}
 use Rattle.trail.proofs.Trails.{trail-suc}
-use Rattle.state.specs.Work.{litAt, trail, held}
+use Rattle.state.specs.Work.{litAt, trail}
 use Rattle.state.specs.Holds.{statesAt}
 
 -- ---- a list of states, and a test

@@ -1,9 +1,9 @@
 -- `moves::code_at` meets its contract. Assumes nothing.
-use mathlib.Core.Path.{_≡_, _∙_, ap, subst}
+use mathlib.Core.Path.{_≡_, subst}
 use Prim.Native.Nat.{ℕ, _+_, _*_, _/_, _%_}
 use Rattle.index.specs.Index.{indexNode}
 use Rattle.clause.specs.Coded.{statesOf, Coded}
-use Rattle.state.specs.Work.{tail, gOf, litAt}
+use Rattle.state.specs.Work.{gOf}
 use Rattle.state.proofs.Areas.{count-most, held-below}
 use native.Mathlib.Omega.{arith}
 use borrow.Author.Needs.{needs}

@@ -1,7 +1,7 @@
 -- `moves::reason` meets its contract. Assumes nothing.
 use mathlib.Core.Path.{refl}
-use Rattle.state.proofs.Areas.{held-below, count-most}
-use Rattle.moves.proofs.Reasons.{reason-goal, position-low, reason-position}
+use Rattle.state.proofs.Areas.{held-below}
+use Rattle.moves.proofs.Reasons.{reason-goal, reason-position}
 use native.Mathlib.Omega.{arith}
 use borrow.Author.Needs.{needs}
 use Rattle.moves.proofs.reason.Statement.{statement}

@@ -1,9 +1,8 @@
 -- `moves::unit_move` meets its contract. Assumes nothing.
-use mathlib.Core.Path.{_∙_, ap, sym}
-use Prim.Native.Nat.{ℕ, _/_, _%_, _<_}
-use lib.ListN.{length}
+use mathlib.Core.Path.{_∙_, ap}
+use Prim.Native.Nat.{ℕ, _/_, _%_}
 use Rattle.calculus.specs.Expansion.{chosen}
-use Rattle.index.specs.Index.{indexNode, operands}
+use Rattle.index.specs.Index.{indexNode}
 use Rattle.state.proofs.Areas.{count-most, held-below}
 use Rattle.moves.proofs.Moves.{base-low, unit-low, unit-choice, unit-position}
 use native.Mathlib.Omega.{arith}
