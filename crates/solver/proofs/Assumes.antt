@@ -1,29 +1,28 @@
 -- A literal joins: what holds then. Assumes nothing.
 use mathlib.Core.Path.{_≡_, refl, sym, ap, _∙_, subst}
-use mathlib.Core.Bool.{true}
 use mathlib.Core.Logic.{_⊎_, inl, inr, ⊎-elim}
-use mathlib.Core.List.{List, _∷_, map}
+use mathlib.Core.List.{List, _∷_}
 use Prim.Native.Nat.{ℕ, suc, _+_, _-_, _*_, _/_, _%_, _<_, _≤_}
 use native.Mathlib.Omega.{arith}
 use native.Mathlib.Numerals.{add-one}
-use native.Mathlib.Decide.{ℕ-discrete, decLt}
+use native.Mathlib.Decide.{ℕ-discrete}
 use lib.ListN.{length, getD, length-map, length-set}
 use lib.Seq.{getD-set-same, getD-set-other}
 use Rattle.scope.specs.declared.Node.{Node}
 use Rattle.calculus.specs.Expansion.{expand}
-use Rattle.calculus.specs.Order.{holds, undecided, valueOf, stateOf, isEmpty, isOne, some, clauses}
+use Rattle.calculus.specs.Order.{holds, stateOf, isEmpty, some, clauses}
 use Rattle.calculus.specs.Model.{Goals, Fresh}
-use Rattle.calculus.proofs.Sizes.{clauses-more, expand-few}
+use Rattle.calculus.proofs.Sizes.{clauses-more}
 use Rattle.trail.proofs.Trails.{trail-length, trail-same}
-use Rattle.index.specs.Index.{indexNode}
+use Rattle.index.specs.Index.{indexNode, mostNodes}
 use Rattle.index.specs.Indexed.{Indexed}
-use Rattle.units.specs.Units.{member}
+use Rattle.units.specs.Units.{member, positions}
 use Rattle.clause.specs.Coded.{statesOf, Coded}
-use Rattle.state.specs.Work.{tail, litAt, entryOf, baseOf, cursorAt, cursorOf, conflictOf, waitingOf, valueAt, held, gOf, trail, Ready, Numbered}
-use Rattle.state.specs.Holds.{statesAt, Entered, Closed, AllMet, Waiting, Holds}
+use Rattle.state.specs.Work.{tail, litAt, entryOf, baseOf, cursorAt, cursorOf, conflictOf, held, gOf, trail, Ready, Numbered, trailAt, literalsAt, basesAt, valuesAt, cursorsAt, area}
+use Rattle.state.specs.Holds.{statesAt, Entered, Closed, AllMet, Holds}
 use Rattle.state.specs.Changes.{Pushed, baseSet}
-use Rattle.state.proofs.Areas.{count-most, room-left, held-below, held-still, base-most, ready-same}
-use Rattle.solver.specs.Changes.{Beside, Renewed, Pending, Walk, Touchable, Served, Awaited}
+use Rattle.state.proofs.Areas.{room-left, held-below, held-still, base-most, ready-same}
+use Rattle.solver.specs.Changes.{Renewed, Pending, Walk, Touchable, Served, Awaited}
 use Rattle.solver.proofs.Stays.{value-stays, all-met-stays, some-empty-stays, still-or}
 use Rattle.solver.proofs.Marks.{beside-same}
 use Rattle.solver.proofs.Walks.{beside-tail, beside-ready, entered-still, walk-ends}
@@ -38,7 +37,7 @@ module _ {x goals w m : List ℕ} {n l : ℕ} (I : Indexed x n) (H : Holds (inde
   abbrev h : ℕ
   h = r 0
 
-  pub room : h < 2016
+  pub room : h < mostNodes
   room = omega (arith, room-left (H .ready) f, I .few)
 
   pub node-low : l / 2 < n
@@ -51,7 +50,7 @@ module _ {x goals w m : List ℕ} {n l : ℕ} (I : Indexed x n) (H : Holds (inde
     r₁ = tail w₁
 
     lits₁ : (q : ℕ) → q < h → litAt r₁ q ≡ litAt r q
-    lits₁ q i = P .kept (4 + (1 + q)) (inr (inl (omega arith, omega arith)))
+    lits₁ q i = P .kept (trailAt + (literalsAt + q)) (inr (inl (omega arith, omega arith)))
 
     -- its own entry
     pub own-entry : entryOf r₁ (l / 2) ≡ 2 * h + l % 2 + 1
@@ -125,40 +124,40 @@ module _ {x goals w m : List ℕ} {n l : ℕ} (I : Indexed x n) (H : Holds (inde
 
         -- what `number` asks
         pub number-asked : Goals n goals → {c : ℕ} → c ≡ length (gOf w) → (more : ℕ) → more ≤ 7
-            → (32768 ≤ length w₃) × (c < 2016) × (baseOf (tail w₃) c + more < 65536)
+            → (area ≤ length w₃) × (c < mostNodes) × (baseOf (tail w₃) c + more < 65536)
         number-asked gs {c} e more b =
             let i : c ≡ h = e ∙ trail-length h r in
             let base = base-most (H .ready) t (I .few) gs (H .numbered) h (omega arith) in (
               omega (arith, size₃, P .ready .size),
               omega (arith, i, room),
-              rw i (omega (arith, b, ap (λ (s : ℕ → ℕ). baseOf s h) same₃, P .kept (4 + (4034 + h)) (inr (inr (inl (omega arith, omega (arith, room))))), base)),
+              rw i (omega (arith, b, ap (λ (s : ℕ → ℕ). baseOf s h) same₃, P .kept (trailAt + (basesAt + h)) (inr (inr (inl (omega arith, omega (arith, room))))), base)),
             )
 
         module _ {c : ℕ} {w₄ : List ℕ} (more : ℕ) (C : c ≡ length (gOf w)) (B₀ : w₄ ≡ baseSet w₃ c more) where
           B : w₄ ≡ baseSet w₃ h more
           B = subst (λ (k : ℕ). w₄ ≡ baseSet w₃ k more) (C ∙ trail-length h r) B₀
 
-          other₄ : (i : ℕ) → (i ≡ 4 + (4034 + (h + 1)) → ⊥) → getD w₄ i 0 ≡ getD w₃ i 0
-          other₄ i d = rw B (getD-set-other w₃ (4 + (4034 + (h + 1))) i (baseOf (tail w₃) h + more) 0 d)
+          other₄ : (i : ℕ) → (i ≡ trailAt + (basesAt + (h + 1)) → ⊥) → getD w₄ i 0 ≡ getD w₃ i 0
+          other₄ i d = rw B (getD-set-other w₃ (trailAt + (basesAt + (h + 1))) i (baseOf (tail w₃) h + more) 0 d)
 
           base₄ : baseOf (tail w₄) (h + 1) ≡ baseOf (tail w₃) h + more
           base₄ =
-              rw B (getD-set-same w₃ (4 + (4034 + (h + 1))) (baseOf (tail w₃) h + more) 0 (omega (arith, size₃, P .ready .size, room)))
+              rw B (getD-set-same w₃ (trailAt + (basesAt + (h + 1))) (baseOf (tail w₃) h + more) 0 (omega (arith, size₃, P .ready .size, room)))
 
           -- as the trail after `push`, beside the base
-          same₄ : (i : ℕ) → (i ≡ 4034 + (h + 1) → ⊥) → tail w₄ i ≡ r₁ i
-          same₄ i d = other₄ (4 + i) (λ e. d (omega (arith, e))) ∙ ap (λ (s : ℕ → ℕ). s i) same₃
+          same₄ : (i : ℕ) → (i ≡ basesAt + (h + 1) → ⊥) → tail w₄ i ≡ r₁ i
+          same₄ i d = other₄ (trailAt + i) (λ e. d (omega (arith, e))) ∙ ap (λ (s : ℕ → ℕ). s i) same₃
 
           pub ready₄ : Ready n w₄
           ready₄ =
-              ready-same (I .few) (P .ready) (rw B (length-set w₃ (4 + (4034 + (h + 1))) (baseOf (tail w₃) h + more)) ∙ size₃)
-              (λ i k. same₄ i (λ e. omega (arith, e, k))) (λ k i. same₄ (6051 + k) (λ e. omega (arith, e, room)))
+              ready-same (I .few) (P .ready) (rw B (length-set w₃ (trailAt + (basesAt + (h + 1))) (baseOf (tail w₃) h + more)) ∙ size₃)
+              (λ i k. same₄ i (λ e. omega (arith, e, k))) (λ k i. same₄ (valuesAt + k) (λ e. omega (arith, e, room)))
 
           list₄ : gOf w₄ ≡ l ∷ gOf w
           list₄ = held-still (I .few) (P .ready .trail) (λ i k. same₄ i (λ e. omega (arith, e, k))) ∙ P .list
 
           -- a cell but the conflict
-          cell₄ : (i : ℕ) → i < 4 → (i ≡ 1 → ⊥) → getD w₄ i 0 ≡ getD w i 0
+          cell₄ : (i : ℕ) → i < trailAt → (i ≡ 1 → ⊥) → getD w₄ i 0 ≡ getD w i 0
           cell₄ i b d = other₄ i (λ e. omega (arith, e, b)) ∙ K .beside .other i d ∙ R .beside .other i d ∙ P .kept i (inl b)
 
           -- what `wait` asks
@@ -174,32 +173,32 @@ module _ {x goals w m : List ℕ} {n l : ℕ} (I : Indexed x n) (H : Holds (inde
             abbrev r₅ : ℕ → ℕ
             r₅ = tail w₅
 
-            same₅ : (i : ℕ) → (i ≡ 4034 + (h + 1) → ⊥) → r₅ i ≡ r₁ i
-            same₅ i d = A .other (4 + i) (λ e. omega (arith, e)) ∙ same₄ i d
+            same₅ : (i : ℕ) → (i ≡ basesAt + (h + 1) → ⊥) → r₅ i ≡ r₁ i
+            same₅ i d = A .other (trailAt + i) (λ e. omega (arith, e)) ∙ same₄ i d
 
             ready₅ : Ready n w₅
             ready₅ =
-                ready-same (I .few) ready₄ (A .size) (λ i k. A .other (4 + i) (λ e. omega (arith, e)))
-                (λ k i. A .other (4 + (6051 + k)) (λ e. omega (arith, e)))
+                ready-same (I .few) ready₄ (A .size) (λ i k. A .other (trailAt + i) (λ e. omega (arith, e)))
+                (λ k i. A .other (trailAt + (valuesAt + k)) (λ e. omega (arith, e)))
 
             pub list₅ : gOf w₅ ≡ l ∷ gOf w
-            list₅ = held-still (I .few) (ready₄ .trail) (λ i k. A .other (4 + i) (λ e. omega (arith, e))) ∙ list₄
+            list₅ = held-still (I .few) (ready₄ .trail) (λ i k. A .other (trailAt + i) (λ e. omega (arith, e))) ∙ list₄
 
             count₅ : r₅ 0 ≡ suc h
             count₅ = same₅ 0 (λ e. omega (arith, e)) ∙ P .count
 
             lits₅ : (q : ℕ) → q < h → litAt r₅ q ≡ litAt r q
-            lits₅ q i = same₅ (1 + q) (λ e. omega (arith, e, i, room)) ∙ lits₁ q i
+            lits₅ q i = same₅ (literalsAt + q) (λ e. omega (arith, e, i, room)) ∙ lits₁ q i
 
             top₅ : litAt r₅ h ≡ l
-            top₅ = same₅ (1 + h) (λ e. omega (arith, e, room)) ∙ P .top
+            top₅ = same₅ (literalsAt + h) (λ e. omega (arith, e, room)) ∙ P .top
 
             trail₅ : (q : ℕ) → q ≤ h → trail q r₅ ≡ trail q r
             trail₅ q i = trail-same q r₅ r (λ k b. lits₅ k (omega arith))
 
             -- a position's states are those after `push`
             states₅ : (q : ℕ) → q < suc h → statesAt t (gOf w₅) r₅ q ≡ statesAt t (gOf w₁) r₁ q
-            states₅ q i = rw (list₅, P .list, same₅ (1 + q) (λ e. omega (arith, e, i, room)))
+            states₅ q i = rw (list₅, P .list, same₅ (literalsAt + q) (λ e. omega (arith, e, i, room)))
 
             conflict₅ : conflictOf w₅ ≡ conflictOf w₃
             conflict₅ = A .other 1 (λ e. omega (arith, e)) ∙ other₄ 1 (λ e. omega (arith, e))
@@ -231,7 +230,7 @@ module _ {x goals w m : List ℕ} {n l : ℕ} (I : Indexed x n) (H : Holds (inde
                     let (a, b) = after i in
                     (omega (arith, a, P .count, count₅), rw (states₅ (conflictOf w₃) (omega (arith, a, P .count))) b)
 
-            clear₅ : (q : ℕ) → r₅ 0 ≤ q → q < 2048 → member m₃ q ≡ 0
+            clear₅ : (q : ℕ) → r₅ 0 ≤ q → q < positions → member m₃ q ≡ 0
             clear₅ q i b =
                 K .else q (omega (arith, i, count₅, ap (λ (s : ℕ → ℕ). s 0) same₂, P .count)) b
                 ∙ R .else q b (λ a. absurd (omega (arith, a, i, count₅, P .count))) ∙ H .clear q (omega (arith, i, count₅)) b
@@ -256,24 +255,24 @@ module _ {x goals w m : List ℕ} {n l : ℕ} (I : Indexed x n) (H : Holds (inde
                 go : Dec (q ≡ h) → (cursorAt r₅ q ≤ q) × AllMet t (trail q r₅) r₅ (cursorAt r₅ q)
                 go (yes e) =
                     cursor-is (cursorOf w)
-                    (ap (cursorAt r₅) e ∙ same₅ (10085 + h) (λ y. omega (arith, y, room)) ∙ P .cursor) (H .cursor)
+                    (ap (cursorAt r₅) e ∙ same₅ (cursorsAt + h) (λ y. omega (arith, y, room)) ∙ P .cursor) (H .cursor)
                     (omega (arith, H .cursor, e), subst (λ (k : ℕ). AllMet t (trail k r) r (cursorOf w)) (sym e) (H .met-before))
                 go (no e) =
                     let b : q < h = omega (arith, i, count₅, e) in
                     let c = H .cursors q b in
                     cursor-is (cursorAt r q)
-                    (same₅ (10085 + q) (λ y. omega (arith, y, room, b)) ∙ P .kept (4 + (10085 + q)) (inr (inr (inr (omega arith, λ y. e (omega (arith, y)))))))
+                    (same₅ (cursorsAt + q) (λ y. omega (arith, y, room, b)) ∙ P .kept (trailAt + (cursorsAt + q)) (inr (inr (inr (omega arith, λ y. e (omega (arith, y)))))))
                     (omega (arith, c .0, b)) c
 
             numbered₅ : Numbered t goals r₅
             numbered₅ q i = go (ℕ-discrete q (suc h))
               where
                 base₃ : baseOf (tail w₃) h ≡ baseOf r h
-                base₃ = ap (λ (s : ℕ → ℕ). baseOf s h) same₃ ∙ P .kept (4 + (4034 + h)) (inr (inr (inl (omega arith, omega (arith, room)))))
+                base₃ = ap (λ (s : ℕ → ℕ). baseOf s h) same₃ ∙ P .kept (trailAt + (basesAt + h)) (inr (inr (inl (omega arith, omega (arith, room)))))
 
                 go : Dec (q ≡ suc h) → baseOf r₅ q ≡ length (clauses (expand t) goals (trail q r₅))
                 go (yes e) =
-                    ap (baseOf r₅) (e ∙ sym (add-one h)) ∙ A .other (4 + (4034 + (h + 1))) (λ y. omega (arith, y)) ∙ base₄
+                    ap (baseOf r₅) (e ∙ sym (add-one h)) ∙ A .other (trailAt + (basesAt + (h + 1))) (λ y. omega (arith, y)) ∙ base₄
                     ∙ ap (_+ more) (base₃ ∙ H .numbered h (omega arith)) ∙ ap (length (clauses (expand t) goals (gOf w)) +_) counted
                     ∙ sym (clauses-more (expand t) goals l (gOf w)) ∙ ap (λ (F : List ℕ). length (clauses (expand t) goals F)) (sym whole)
                   where
@@ -281,8 +280,8 @@ module _ {x goals w m : List ℕ} {n l : ℕ} (I : Indexed x n) (H : Holds (inde
                     whole = ap (λ (k : ℕ). trail k r₅) (e ∙ sym count₅) ∙ list₅
                 go (no e) =
                     let b : q ≤ h = omega (arith, i, count₅, e) in
-                    same₅ (4034 + q) (λ y. omega (arith, y, b))
-                    ∙ P .kept (4 + (4034 + q)) (inr (inr (inl (omega arith, omega (arith, b, room)))))
+                    same₅ (basesAt + q) (λ y. omega (arith, y, b))
+                    ∙ P .kept (trailAt + (basesAt + q)) (inr (inr (inl (omega arith, omega (arith, b, room)))))
                     ∙ H .numbered q b ∙ ap (λ (F : List ℕ). length (clauses (expand t) goals F)) (sym (trail₅ q b))
 
             pub assumed : Holds t n goals w₅ m₃

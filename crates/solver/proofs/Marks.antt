@@ -9,11 +9,10 @@ use lib.ListN.{length, getD, set, length-set}
 use lib.Seq.{getD-set-same, getD-set-other}
 use Rattle.scope.specs.declared.Node.{Node}
 use Rattle.calculus.specs.Order.{State, isEmpty, some, bit}
-use Rattle.units.specs.Units.{member, Units, Putted}
+use Rattle.units.specs.Units.{Units, Putted}
 use Rattle.clause.specs.Coded.{statesOf, Coded}
 use Rattle.state.specs.Work.{tail, litAt, entryOf, gOf, conflictOf, Ready}
 use Rattle.state.specs.Holds.{statesAt, Entered, Closed}
-use Rattle.state.proofs.Areas.{held-below}
 use Rattle.solver.specs.Changes.{Beside, Marked, Renewed}
 
 pub bit-true : (b : Bool) → bit b ≡ 1 → b ≡ true

@@ -1,18 +1,19 @@
 -- What start and undo leave: no position is a unit, none has a conflict. Assumes nothing.
+use Rattle.index.specs.Index.{mostNodes}
 use mathlib.Core.Path.{_≡_, refl, sym, ap, _∙_, subst, fun-ext}
 use mathlib.Core.Bool.{true, false, false≢true}
 use mathlib.Core.Logic.{inl, inr}
-use mathlib.Core.List.{List, []}
-use Prim.Native.Nat.{ℕ, suc, _+_, _-_, _*_, _<_, _≤_}
+use mathlib.Core.List.{List}
+use Prim.Native.Nat.{ℕ, _+_, _-_, _*_, _<_, _≤_}
 use native.Mathlib.Omega.{arith}
 use lib.ListN.{length, getD, set, length-set}
 use lib.Seq.{getD-set-same, getD-set-other}
 use Rattle.scope.specs.declared.Node.{Node}
 use Rattle.calculus.specs.Order.{Value, holds, fails, undecided, valueOf, isEmpty, isOne, some, bit}
-use Rattle.units.specs.Units.{member, Units, Empty}
+use Rattle.units.specs.Units.{Units, Empty}
 use Rattle.trail.proofs.Trails.{trail-length}
-use Rattle.state.specs.Work.{tail, litAt, baseOf, cursorAt, gOf, trail, valueCode, cursorOf, conflictOf, waitingOf, held, Ready, Numbered}
-use Rattle.state.specs.Holds.{Holds, AllMet, Waiting, Closed, statesAt}
+use Rattle.state.specs.Work.{tail, litAt, baseOf, cursorAt, gOf, trail, valueCode, cursorOf, waitingOf, held, Ready, Numbered, trailAt, literalsAt, basesAt, valuesAt, cursorsAt}
+use Rattle.state.specs.Holds.{Holds, AllMet, Waiting, statesAt}
 use Rattle.state.specs.Changes.{Popped}
 use Rattle.state.proofs.Areas.{count-most, held-below, ready-same}
 use Rattle.solver.specs.Changes.{Served, Awaited, Settled, Left}
@@ -36,24 +37,24 @@ waiting-over f = record { over = λ z. f; on = λ z. absurd (z refl) }
 -- ---- the cells are set
 
 module _ {w m′ : List ℕ} {c v : ℕ} (size : 2 < length w) (u : Units m′ × Empty m′) where
-  pub settled : Settled w c v (set (set (set w 0 c) 1 2016) 2 v) m′
+  pub settled : Settled w c v (set (set (set w 0 c) 1 mostNodes) 2 v) m′
   settled = record {
     units = u;
     size = simp length-set;
     cursor =
-        getD-set-other (set (set w 0 c) 1 2016) 2 0 v 0 (λ e. omega (arith, e)) ∙ getD-set-other (set w 0 c) 1 0 2016 0 (λ e. omega (arith, e))
+        getD-set-other (set (set w 0 c) 1 mostNodes) 2 0 v 0 (λ e. omega (arith, e)) ∙ getD-set-other (set w 0 c) 1 0 mostNodes 0 (λ e. omega (arith, e))
         ∙ getD-set-same w 0 c 0 (omega (arith, size));
-    conflict = getD-set-other (set (set w 0 c) 1 2016) 2 1 v 0 (λ e. omega (arith, e)) ∙ getD-set-same (set w 0 c) 1 2016 0 (simp length-set (omega (arith, size)));
-    waiting = getD-set-same (set (set w 0 c) 1 2016) 2 v 0 (simp length-set size);
+    conflict = getD-set-other (set (set w 0 c) 1 mostNodes) 2 1 v 0 (λ e. omega (arith, e)) ∙ getD-set-same (set w 0 c) 1 mostNodes 0 (simp length-set (omega (arith, size)));
+    waiting = getD-set-same (set (set w 0 c) 1 mostNodes) 2 v 0 (simp length-set size);
     rest = λ i k.
-        getD-set-other (set (set w 0 c) 1 2016) 2 i v 0 (λ e. omega (arith, e, k)) ∙ getD-set-other (set w 0 c) 1 i 2016 0 (λ e. omega (arith, e, k))
+        getD-set-other (set (set w 0 c) 1 mostNodes) 2 i v 0 (λ e. omega (arith, e, k)) ∙ getD-set-other (set w 0 c) 1 i mostNodes 0 (λ e. omega (arith, e, k))
         ∙ getD-set-other w 0 i c 0 (λ e. omega (arith, e, k));
   }
 
 -- the work area holds where no position of its trail has a unit or a conflict
-module _ {n : ℕ} {w w′ m′ : List ℕ} {c v : ℕ} (few : n ≤ 2016) (h : Ready n w) (z : Settled w c v w′ m′) where
+module _ {n : ℕ} {w w′ m′ : List ℕ} {c v : ℕ} (few : n ≤ mostNodes) (h : Ready n w) (z : Settled w c v w′ m′) where
   same : tail w′ ≡ tail w
-  same = fun-ext (λ i. z .rest (4 + i) (omega arith))
+  same = fun-ext (λ i. z .rest (trailAt + i) (omega arith))
 
   pub settled-list : gOf w′ ≡ gOf w
   settled-list = ap held same
@@ -64,7 +65,7 @@ module _ {n : ℕ} {w w′ m′ : List ℕ} {c v : ℕ} (few : n ≤ 2016) (h : 
       (none : (q : ℕ) → q < tail w 0 → (some isEmpty (statesAt t (gOf w) (tail w) q) ≡ false) × (some isOne (statesAt t (gOf w) (tail w) q) ≡ false)) where
     pub settled-holds : Holds t n goals w′ m′
     settled-holds = record {
-      ready = ready-same few h (z .size) (λ i k. z .rest (4 + i) (omega arith)) (λ l k. z .rest (4 + (6051 + l)) (omega arith));
+      ready = ready-same few h (z .size) (λ i k. z .rest (trailAt + i) (omega arith)) (λ l k. z .rest (trailAt + (valuesAt + l)) (omega arith));
       numbered = subst (Numbered t goals) (sym same) numbered;
       units = z .units .0;
       entered = λ q i. record {
@@ -93,20 +94,20 @@ pub record Leaving (n to : ℕ) (w₀ w : List ℕ) : Type 0 where
   pub ready : Ready n w
   pub size : length w ≡ length w₀
   pub low : to ≤ tail w 0
-  pub lits : (q : ℕ) → q < 2016 → litAt (tail w) q ≡ litAt (tail w₀) q
-  pub bases : (q : ℕ) → q ≤ 2016 → baseOf (tail w) q ≡ baseOf (tail w₀) q
+  pub lits : (q : ℕ) → q < mostNodes → litAt (tail w) q ≡ litAt (tail w₀) q
+  pub bases : (q : ℕ) → q ≤ mostNodes → baseOf (tail w) q ≡ baseOf (tail w₀) q
   pub cursors : (q : ℕ) → cursorAt (tail w) q ≡ cursorAt (tail w₀) q
 
 pub leaving-starts : {n to : ℕ} {w : List ℕ} → Ready n w → to < tail w 0 → Leaving n to w w
 leaving-starts h b = record { ready = h; size = refl; low = omega (arith, b); lits = λ q i. refl; bases = λ q i. refl; cursors = λ q. refl }
 
-module _ {n to : ℕ} {w₀ w : List ℕ} (few : n ≤ 2016) (v : Leaving n to w₀ w) {c : ℕ} (count : c ≡ length (gOf w)) where
+module _ {n to : ℕ} {w₀ w : List ℕ} (few : n ≤ mostNodes) (v : Leaving n to w₀ w) {c : ℕ} (count : c ≡ length (gOf w)) where
   count-is : c ≡ tail w 0
   count-is = count ∙ trail-length (tail w 0) (tail w)
 
   module _ (b : to < c) where
     -- what `pop` asks
-    pub pop-asked : (Ready n w × (((n ≤ 2016) × (0 < tail w 0) × (tail w 0 ≤ 2016)) × (litAt (tail w) (tail w 0 - 1) < 2 * 2016)))
+    pub pop-asked : (Ready n w × (((n ≤ mostNodes) × (0 < tail w 0) × (tail w 0 ≤ mostNodes)) × (litAt (tail w) (tail w 0 - 1) < 2 * mostNodes)))
     pop-asked =
         let p : 0 < tail w 0 = omega (arith, count-is, b) in (
           v .ready,
@@ -118,9 +119,9 @@ module _ {n to : ℕ} {w₀ w : List ℕ} (few : n ≤ 2016) (v : Leaving n to w
       ready = k .ready;
       size = k .size ∙ v .size;
       low = omega (arith, k .count, count-is, b);
-      lits = λ q i. k .kept (4 + (1 + q)) (inr (inl (omega arith, omega arith))) ∙ v .lits q i;
-      bases = λ q i. k .kept (4 + (4034 + q)) (inr (inr (inl (omega arith, omega arith)))) ∙ v .bases q i;
-      cursors = λ q. k .kept (4 + (10085 + q)) (inr (inr (inr (omega arith)))) ∙ v .cursors q;
+      lits = λ q i. k .kept (trailAt + (literalsAt + q)) (inr (inl (omega arith, omega arith))) ∙ v .lits q i;
+      bases = λ q i. k .kept (trailAt + (basesAt + q)) (inr (inr (inl (omega arith, omega arith)))) ∙ v .bases q i;
+      cursors = λ q. k .kept (trailAt + (cursorsAt + q)) (inr (inr (inr (omega arith)))) ∙ v .cursors q;
     }
 
     pub leaving-less : {w′ : List ℕ} → Popped n w w′ → tail w′ 0 < tail w 0

@@ -1,9 +1,9 @@
 -- What stays of the clauses' states as a literal joins. Assumes nothing.
-use mathlib.Core.Path.{_≡_, refl, sym, ap, _∙_, subst}
+use mathlib.Core.Path.{_≡_, refl, sym, ap, _∙_}
 use mathlib.Core.Bool.{Bool, true, false, cond, _||_, false≢true, or-true}
 use mathlib.Core.Logic.{_⊎_, inl, inr, ⊎-elim}
 use mathlib.Core.List.{List, [], _∷_, map}
-use Prim.Native.Nat.{ℕ, zero, suc, _+_, _*_, _/_, _%_, _<_, _≤_}
+use Prim.Native.Nat.{ℕ, _+_, _*_, _/_, _%_, _<_}
 use native.Mathlib.Omega.{arith}
 use native.Mathlib.Decide.{ℕ-discrete, decLt}
 use lib.Dec.{eqb}
@@ -11,12 +11,12 @@ use lib.ListN.{getD}
 use borrow.Author.Tests.{ne-eqb, le-ltb}
 use Rattle.scope.specs.declared.Node.{Node}
 use Rattle.calculus.specs.Expansion.{neg, chosen, templates, expand}
-use Rattle.calculus.specs.Order.{mem, Value, holds, fails, undecided, valueOf, State, met, empty, one, many, joined, opened, stateOf, isEmpty, some}
+use Rattle.calculus.specs.Order.{Value, holds, fails, undecided, valueOf, State, met, empty, one, many, joined, stateOf, isEmpty, some}
 use Rattle.calculus.specs.Model.{All}
-use Rattle.calculus.proofs.Lists.{all-map, all-each, all-imply, map-all}
-use Rattle.calculus.proofs.Literals.{mem-later, holds-mem, fails-mem, value-joined, value-negated, value-other, undecided-neg}
+use Rattle.calculus.proofs.Lists.{all-map, all-each, all-imply}
+use Rattle.calculus.proofs.Literals.{value-other, undecided-neg}
 use Rattle.calculus.proofs.Rows.{bare, row-bare}
-use Rattle.index.specs.Index.{operands, opNode}
+use Rattle.index.specs.Index.{operands, none, opNode}
 use Rattle.clause.specs.Coded.{statesOf}
 use Rattle.solver.specs.Changes.{Pending}
 
@@ -117,7 +117,7 @@ module _ (n : ℕ) (t : ℕ → Node) (m : ℕ) (b : m < 2 * n) where
       second = omega arith
 
       one-of : (i : ℕ) → (4 * p + i) % 4 ≡ i → (4 * p + i) / 4 ≡ p → i < 4
-          → getD (9999 ∷ map (_/ 2) (cond false [] (t p .a ∷ t p .b ∷ []))) i 9999 ≡ chosen (t p) c / 2 → Pending t (chosen (t p) c / 2) (4 * n) p
+          → getD (none ∷ map (_/ 2) (cond false [] (t p .a ∷ t p .b ∷ []))) i none ≡ chosen (t p) c / 2 → Pending t (chosen (t p) c / 2) (4 * n) p
       one-of i u v o e = (4 * p + i, omega (arith, b, o), rw (u, v, le-ltb (t p .kind) 3 k) e, v)
 
       go : (c′ : ℕ) → Pending t (chosen (t p) c / 2) (4 * n) p

@@ -1,18 +1,17 @@
 -- What undo_to and start leave. Assumes nothing.
+use Rattle.index.specs.Index.{mostNodes}
 use mathlib.Core.Path.{_≡_, refl, sym, ap, _∙_, subst}
 use mathlib.Core.Bool.{true, false, false≢true}
 use mathlib.Core.List.{List, []}
 use Prim.Native.Nat.{ℕ, zero, suc, _+_, _-_, _<_, _≤_}
 use native.Mathlib.Omega.{arith}
-use lib.ListN.{length, getD, drop, set, length-set}
-use lib.Seq.{getD-set-same, getD-set-other}
+use lib.ListN.{length, getD, drop}
 use Rattle.scope.specs.declared.Node.{Node}
 use Rattle.calculus.specs.Expansion.{expand}
-use Rattle.calculus.specs.Order.{Value, holds, fails, undecided, valueOf, mem, met, empty, joined, isEmpty, isOne, some, stateOf, clauses, move, moveOf}
-use Rattle.calculus.specs.Model.{Goals}
+use Rattle.calculus.specs.Order.{Value, holds, fails, undecided, valueOf, mem, empty, joined, isEmpty, isOne, some, clauses, move}
 use Rattle.trail.proofs.Trails.{trail-length, trail-same}
-use Rattle.state.specs.Work.{tail, litAt, baseOf, cursorAt, gOf, held, trail, Ready, Numbered}
-use Rattle.state.specs.Holds.{Holds, AllMet, Waiting, Splits, statesAt}
+use Rattle.state.specs.Work.{tail, cursorAt, gOf, trail, Numbered}
+use Rattle.state.specs.Holds.{Holds, AllMet, Waiting, Splits}
 use Rattle.state.specs.Changes.{Blank}
 use Rattle.state.proofs.Areas.{count-most}
 use Rattle.state.proofs.Clauses.{sofar, sofar-length, none-at, none-goals, none-position, goal-state, goals-length, split-none}
@@ -37,12 +36,12 @@ goal-holds undecided l a b = absurd (false≢true (sym b))
 
 -- ---- back to a split
 
-module _ {t : ℕ → Node} {n to : ℕ} {goals w m w₁ : List ℕ} (few : n ≤ 2016) (H : Holds t n goals w m) (low : to < length (gOf w))
+module _ {t : ℕ → Node} {n to : ℕ} {goals w m w₁ : List ℕ} (few : n ≤ mostNodes) (H : Holds t n goals w m) (low : to < length (gOf w))
     (s : Splits (expand t) goals (drop (length (gOf w) - to) (gOf w))) (k : Left n to w w₁) where
   under : to < tail w 0
   under = omega (arith, low, trail-length (tail w 0) (tail w))
 
-  most : tail w 0 ≤ 2016
+  most : tail w 0 ≤ mostNodes
   most = omega (arith, count-most (H .ready), few)
 
   trails : (q : ℕ) → q ≤ to → trail q (tail w₁) ≡ trail q (tail w)
@@ -80,14 +79,14 @@ module _ {t : ℕ → Node} {n to : ℕ} {goals w m w₁ : List ℕ} (few : n �
     pub undone : Holds t n goals w₂ m₂ × (gOf w₂ ≡ drop (length (gOf w) - to) (gOf w))
     undone = (
       settled-holds few (k .ready) z
-      (λ q i. k .bases q (omega (arith, i, k .count, under, most)) ∙ H .numbered q (omega (arith, i, k .count, under))
-      ∙ ap (λ (F : List ℕ). length (clauses (expand t) goals F)) (sym (trails q (omega (arith, i, k .count)))))
-      (omega (arith, e, met-before to (omega arith) .0, k .count))
-      (subst (λ (j : ℕ). AllMet t (trail j (tail w₁)) (tail w₁) c) (sym (k .count))
-      (subst (AllMet t (trail to (tail w₁)) (tail w₁)) (sym e) (met-before to (omega arith) .1)))
-      (λ q i. met-before q (omega (arith, i, k .count)))
-      waiting
-      (λ q i. (none-position t goals (gOf w₁) (tail w₁) isEmpty q (tail w₁ 0) i (none .0), none-position t goals (gOf w₁) (tail w₁) isOne q (tail w₁ 0) i (none .1))),
+          (λ q i. k .bases q (omega (arith, i, k .count, under, most)) ∙ H .numbered q (omega (arith, i, k .count, under))
+          ∙ ap (λ (F : List ℕ). length (clauses (expand t) goals F)) (sym (trails q (omega (arith, i, k .count)))))
+          (omega (arith, e, met-before to (omega arith) .0, k .count))
+          (subst (λ (j : ℕ). AllMet t (trail j (tail w₁)) (tail w₁) c) (sym (k .count))
+          (subst (AllMet t (trail to (tail w₁)) (tail w₁)) (sym e) (met-before to (omega arith) .1)))
+          (λ q i. met-before q (omega (arith, i, k .count)))
+          waiting
+          (λ q i. (none-position t goals (gOf w₁) (tail w₁) isEmpty q (tail w₁ 0) i (none .0), none-position t goals (gOf w₁) (tail w₁) isOne q (tail w₁ 0) i (none .1))),
       settled-list few (k .ready) z ∙ list,
     )
 
@@ -95,12 +94,12 @@ module _ {t : ℕ → Node} {n to : ℕ} {goals w m w₁ : List ℕ} (few : n �
   pub leave-low : to < tail w 0
   leave-low = under
 
-  pub cursor-low : to < 2016
+  pub cursor-low : to < mostNodes
   cursor-low = omega (arith, under, most)
 
 -- ---- nothing is held
 
-module _ (t : ℕ → Node) (goals : List ℕ) {n : ℕ} {w w′ m′ : List ℕ} (few : n ≤ 2016) (b : Blank n (length goals) w) (z : Settled w 0 (length goals) w′ m′) where
+module _ (t : ℕ → Node) (goals : List ℕ) {n : ℕ} {w w′ m′ : List ℕ} (few : n ≤ mostNodes) (b : Blank n (length goals) w) (z : Settled w 0 (length goals) w′ m′) where
   empty-list : gOf w ≡ []
   unfolding trail
   empty-list = ap (λ (q : ℕ). trail q (tail w)) (b .count)
@@ -123,6 +122,6 @@ module _ (t : ℕ → Node) (goals : List ℕ) {n : ℕ} {w w′ m′ : List ℕ
   pub started : Holds t n goals w′ m′ × (gOf w′ ≡ [])
   started = (
     settled-holds few (b .ready) z numbered (omega arith) (λ q i. absurd (omega (arith, i))) (λ q i. absurd (omega (arith, i, b .count))) waits
-    (λ q i. absurd (omega (arith, i, b .count))),
+        (λ q i. absurd (omega (arith, i, b .count))),
     settled-list few (b .ready) z ∙ empty-list,
   )

@@ -1,34 +1,33 @@
 -- The walk along the parents of a node: which positions are entered. Assumes nothing.
-use mathlib.Core.Path.{_≡_, refl, sym, ap, _∙_, subst, fun-ext}
+use mathlib.Core.Path.{_≡_, sym, ap, _∙_, subst, fun-ext}
 use mathlib.Core.Logic.{_⊎_, inl, inr, ⊎-elim}
-use mathlib.Core.List.{List, [], _∷_, map}
-use Prim.Native.Nat.{ℕ, _+_, _-_, _*_, _/_, _%_, _<_, _≤_}
+use mathlib.Core.List.{List}
+use Prim.Native.Nat.{ℕ, _+_, _*_, _/_, _%_, _<_, _≤_}
 use native.Mathlib.Omega.{arith}
 use native.Mathlib.Decide.{ℕ-discrete}
-use lib.ListN.{length, getD}
 use Rattle.scope.specs.declared.Node.{Node}
-use Rattle.index.specs.Index.{indexNode, opNode, headOf, nextOf}
+use Rattle.index.specs.Index.{indexNode, none, opNode, headOf, nextOf, mostNodes}
 use Rattle.index.specs.Indexed.{Indexed}
-use Rattle.units.specs.Units.{Units, positions, member}
-use Rattle.state.specs.Work.{tail, litAt, held, gOf, conflictOf, Ready}
+use Rattle.units.specs.Units.{member}
+use Rattle.state.specs.Work.{tail, litAt, held, gOf, conflictOf, Ready, trailAt, valuesAt}
 use Rattle.state.specs.Holds.{Entered, Closed}
 use Rattle.state.proofs.Areas.{count-most, ready-same}
 use Rattle.solver.specs.Changes.{Beside, Renewed, Pending, Walk, Touchable}
 
 -- the trail is not changed
 pub beside-tail : {w w′ : List ℕ} → Beside w w′ → tail w′ ≡ tail w
-beside-tail b = fun-ext (λ i. b .other (4 + i) (λ e. omega (arith, e)))
+beside-tail b = fun-ext (λ i. b .other (trailAt + i) (λ e. omega (arith, e)))
 
-pub beside-ready : {n : ℕ} {w w′ : List ℕ} → n ≤ 2016 → Beside w w′ → Ready n w → Ready n w′
+pub beside-ready : {n : ℕ} {w w′ : List ℕ} → n ≤ mostNodes → Beside w w′ → Ready n w → Ready n w′
 beside-ready {n} {w} {w′} few b h =
-    ready-same few h (b .size) (λ i k. b .other (4 + i) (λ e. omega (arith, e))) (λ l k. b .other (4 + (6051 + l)) (λ e. omega (arith, e)))
+    ready-same few h (b .size) (λ i k. b .other (trailAt + i) (λ e. omega (arith, e))) (λ l k. b .other (trailAt + (valuesAt + l)) (λ e. omega (arith, e)))
 
 -- a link is 0 or a cell that names the node
 abbrev pub On : (ℕ → Node) → ℕ → ℕ → ℕ → Type 0
 On t n node s = (s ≡ 0 → ⊥) → (s < 4 * n) × (opNode t s ≡ node)
 
 -- the first cell of a node names none
-no-operand : (t : ℕ → Node) (y : ℕ) → y % 4 ≡ 0 → opNode t y ≡ 9999
+no-operand : (t : ℕ → Node) (y : ℕ) → y % 4 ≡ 0 → opNode t y ≡ none
 unfolding opNode
 no-operand t y e = rw e
 

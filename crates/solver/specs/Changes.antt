@@ -2,13 +2,13 @@
 use mathlib.Core.Path.{_≡_}
 use mathlib.Core.Logic.{_⊎_}
 use mathlib.Core.List.{List}
-use Prim.Native.Nat.{ℕ, _+_, _*_, _/_, _%_, _<_, _≤_}
+use Prim.Native.Nat.{ℕ, _*_, _/_, _%_, _<_, _≤_}
 use lib.ListN.{getD, length}
 use Rattle.scope.specs.declared.Node.{Node}
 use Rattle.calculus.specs.Order.{holds, valueOf}
 use Rattle.index.specs.Index.{mostNodes, opNode}
 use Rattle.units.specs.Units.{positions, member, Units, Empty, Putted}
-use Rattle.state.specs.Work.{tail, litAt, baseOf, cursorAt, gOf, cursorOf, conflictOf, waitingOf, Ready}
+use Rattle.state.specs.Work.{tail, litAt, baseOf, cursorAt, gOf, cursorOf, conflictOf, waitingOf, Ready, trailAt}
 use Rattle.state.specs.Holds.{Entered, Closed, Waiting}
 
 -- only the first conflict is changed
@@ -70,7 +70,7 @@ pub record Settled (w : List ℕ) (c v : ℕ) (w′ m′ : List ℕ) : Type 0 wh
   pub cursor : cursorOf w′ ≡ c
   pub conflict : conflictOf w′ ≡ mostNodes
   pub waiting : waitingOf w′ ≡ v
-  pub rest : (i : ℕ) → 4 ≤ i → getD w′ i 0 ≡ getD w i 0
+  pub rest : (i : ℕ) → trailAt ≤ i → getD w′ i 0 ≡ getD w i 0
 
 -- the first literals are held, and each is as it was, with its base and its cursor
 pub record Left (n held : ℕ) (w w′ : List ℕ) : Type 0 where

@@ -3,13 +3,13 @@
 // The work area's layout is in crate state, specs/Work.antt, the index's in crate index.
 ghost use mathlib.Core.Path.{_≡_};
 ghost use mathlib.Core.List.{[], _∷_};
-ghost use Prim.Native.Nat.{ℕ, _+_, _-_, _*_, _/_, _%_, _≤_, _<_};
+ghost use Prim.Native.Nat.{_+_, _-_, _*_, _/_, _%_, _≤_, _<_};
 ghost use lib.ListN.{length, drop};
 ghost use Rattle.calculus.specs.Expansion.{expand};
 ghost use Rattle.calculus.specs.Model.{Goals, Fresh};
 ghost use Rattle.index.specs.Index.{mostNodes, indexNode};
 ghost use Rattle.index.specs.Indexed.{Indexed};
-ghost use Rattle.units.specs.Units.{positions, words, Units};
+ghost use Rattle.units.specs.Units.{words, Units};
 ghost use Rattle.clause.specs.Coded.{statesOf, Coded};
 ghost use Rattle.state.specs.Work.{area, tail, gOf, entryOf, Ready};
 ghost use Rattle.state.specs.Holds.{Holds, Splits, Waiting};

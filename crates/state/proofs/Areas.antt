@@ -1,4 +1,5 @@
 -- Laws of the work area: what it holds, and what stands where the numbers that it is read off do not change. Assumes nothing.
+use Rattle.index.specs.Index.{mostNodes}
 use mathlib.Core.Path.{_≡_, sym, ap, _∙_, subst}
 use mathlib.Core.List.{List}
 use Prim.Native.Nat.{ℕ, _+_, _-_, _*_, _/_, _%_, _<_, _≤_}
@@ -11,7 +12,7 @@ use Rattle.calculus.proofs.Sizes.{clauses-few}
 use Rattle.trail.specs.Trail.{side}
 use Rattle.trail.proofs.Trails.{trail-length, trail-same, literal-below, count-most as most-held, room-left as room-held}
 use Rattle.clause.specs.Coded.{wideValue}
-use Rattle.state.specs.Work.{tail, valueAt, litAt, entryOf, baseOf, trail, held, gOf, Goals, Trail, Ready, Numbered}
+use Rattle.state.specs.Work.{tail, valueAt, litAt, entryOf, baseOf, trail, held, gOf, Goals, Trail, Ready, Numbered, entriesEnd, valuesSize, entriesAt, literalsAt}
 
 -- ---- the literals held
 
@@ -29,7 +30,7 @@ module _ {n : ℕ} {w : List ℕ} (h : Ready n w) where
   room-left {l} f = room-held n (tail w) (h .trail) l f
 
   -- how many clauses stand before a position
-  pub base-most : (t : ℕ → Node) {goals : List ℕ} → n ≤ 2016 → Goals n goals → Numbered t goals (tail w) → (q : ℕ) → q ≤ tail w 0
+  pub base-most : (t : ℕ → Node) {goals : List ℕ} → n ≤ mostNodes → Goals n goals → Numbered t goals (tail w) → (q : ℕ) → q ≤ tail w 0
       → baseOf (tail w) q ≤ 8192
   base-most t {goals} few gs e q i =
       omega (arith, e q i, clauses-few t goals (trail q (tail w)), trail-length q (tail w), count-most, gs .most)
@@ -37,15 +38,15 @@ module _ {n : ℕ} {w : List ℕ} (h : Ready n w) where
 -- ---- what stands where the numbers that it is read off do not change
 
 -- the trail, of which nothing stands past the entries
-module _ {n : ℕ} {r r′ : ℕ → ℕ} (few : n ≤ 2016) (h : Trail n r) (e : (i : ℕ) → i < 4033 → r′ i ≡ r i) where
+module _ {n : ℕ} {r r′ : ℕ → ℕ} (few : n ≤ mostNodes) (h : Trail n r) (e : (i : ℕ) → i < entriesEnd → r′ i ≡ r i) where
   count : r′ 0 ≡ r 0
   count = e 0 (omega arith)
 
   lits : (q : ℕ) → q < r 0 → litAt r′ q ≡ litAt r q
-  lits q i = e (1 + q) (omega (arith, i, most-held n r h))
+  lits q i = e (literalsAt + q) (omega (arith, i, most-held n r h))
 
   entry : (m : ℕ) → m < n → entryOf r′ m ≡ entryOf r m
-  entry m i = e (2017 + m) (omega arith)
+  entry m i = e (entriesAt + m) (omega arith)
 
   pub held-still : held r′ ≡ held r
   held-still = ap (λ (k : ℕ). trail k r′) count ∙ trail-same (r 0) r′ r lits
@@ -73,8 +74,8 @@ module _ {n : ℕ} {r r′ : ℕ → ℕ} (few : n ≤ 2016) (h : Trail n r) (e 
   }
 
 -- all that Ready reads
-pub ready-same : {n : ℕ} {w w′ : List ℕ} → n ≤ 2016 → Ready n w → length w′ ≡ length w → ((i : ℕ) → i < 4033 → tail w′ i ≡ tail w i)
-    → ((l : ℕ) → l < 4034 → valueAt (tail w′) l ≡ valueAt (tail w) l) → Ready n w′
+pub ready-same : {n : ℕ} {w w′ : List ℕ} → n ≤ mostNodes → Ready n w → length w′ ≡ length w → ((i : ℕ) → i < entriesEnd → tail w′ i ≡ tail w i)
+    → ((l : ℕ) → l < valuesSize → valueAt (tail w′) l ≡ valueAt (tail w) l) → Ready n w′
 ready-same few h z e f = record {
   size = omega (arith, z, h .size);
   trail = trail-still few (h .trail) e;

@@ -1,8 +1,9 @@
 -- A literal joins what is held, and the newest leaves. Assumes nothing.
+use Rattle.index.specs.Index.{mostNodes, always}
 use mathlib.Core.Path.{_≡_, refl, sym, ap, _∙_, subst}
 use mathlib.Core.Logic.{_⊎_, inl, inr}
-use mathlib.Core.List.{List, [], _∷_}
-use Prim.Native.Nat.{ℕ, suc, _+_, _-_, _*_, _/_, _%_, _<_, _≤_}
+use mathlib.Core.List.{List, _∷_}
+use Prim.Native.Nat.{ℕ, _+_, _-_, _/_, _<_, _≤_}
 use native.Mathlib.Omega.{arith}
 use native.Mathlib.Decide.{ℕ-discrete}
 use lib.ListN.{length, getD, set, length-set}
@@ -10,25 +11,25 @@ use lib.Seq.{getD-set-same, getD-set-other}
 use Rattle.calculus.specs.Expansion.{neg}
 use Rattle.calculus.specs.Order.{undecided, valueOf}
 use Rattle.calculus.specs.Model.{Fresh, Good}
-use Rattle.trail.proofs.Trails.{literal-below, trail-same, empty-trail, empty-held}
+use Rattle.trail.proofs.Trails.{trail-same, empty-trail, empty-held}
 use Rattle.trail.proofs.Joins.{Joins, joins}
 use Rattle.trail.proofs.Leaves.{Leaves, leaves, dropped}
 use Rattle.clause.specs.Coded.{wideValue}
-use Rattle.state.specs.Work.{tail, valueAt, cursorAt, cursorOf, litAt, gOf, held, trail, Trail, Ready}
+use Rattle.state.specs.Work.{tail, valueAt, cursorAt, cursorOf, litAt, gOf, held, trail, Ready, trailAt, literalsAt, entriesAt, entriesEnd, basesAt, valuesAt, valuesSize, cursorsAt, area}
 use Rattle.state.specs.Changes.{valuesSet, entrySet, Kept, Pushed, Popped, Wiped, Blank}
 use Rattle.state.proofs.Areas.{count-most, room-left, held-below, trail-still}
-use Rattle.state.proofs.Values.{wide-joined, wide-negated, wide-before, wide-before-neg, wide-other, wide-none, wide-nil, set-other, set-first, set-second, set-length}
+use Rattle.state.proofs.Values.{wide-joined, wide-negated, wide-before, wide-before-neg, wide-other, wide-nil, set-other, set-first, set-second, set-length}
 
 -- ---- a literal joins: its values, the cursor, its entry
 
-module _ {n : ℕ} {w : List ℕ} {l : ℕ} (few : n ≤ 2016) (h : Ready n w) (f : Fresh n (gOf w) l) where
+module _ {n : ℕ} {w : List ℕ} {l : ℕ} (few : n ≤ mostNodes) (h : Ready n w) (f : Fresh n (gOf w) l) where
   H : ℕ
   H = tail w 0
 
-  low : l < 4032
+  low : l < always
   low = omega (arith, f .0, few)
 
-  room : H < 2016
+  room : H < mostNodes
   unfolding H
   room = omega (arith, room-left h f, few)
 
@@ -36,33 +37,33 @@ module _ {n : ℕ} {w : List ℕ} {l : ℕ} (few : n ≤ 2016) (h : Ready n w) (
   v = valuesSet w l 1 2
 
   u : List ℕ
-  u = set v (4 + (10085 + H)) (cursorOf w)
+  u = set v (trailAt + (cursorsAt + H)) (cursorOf w)
 
   u-size : length u ≡ length w
   unfolding u v
-  u-size = length-set v (4 + (10085 + H)) (cursorOf w) ∙ set-length w l 1 2 low (omega (arith, h .size))
+  u-size = length-set v (trailAt + (cursorsAt + H)) (cursorOf w) ∙ set-length w l 1 2 low (omega (arith, h .size))
 
-  u-other : (i : ℕ) → (i ≡ 4 + (6051 + l) → ⊥) → (i ≡ 4 + (6051 + neg l) → ⊥) → (i ≡ 4 + (10085 + H) → ⊥) → getD u i 0 ≡ getD w i 0
+  u-other : (i : ℕ) → (i ≡ trailAt + (valuesAt + l) → ⊥) → (i ≡ trailAt + (valuesAt + neg l) → ⊥) → (i ≡ trailAt + (cursorsAt + H) → ⊥) → getD u i 0 ≡ getD w i 0
   unfolding u v
-  u-other i a b c = getD-set-other v (4 + (10085 + H)) i (cursorOf w) 0 c ∙ set-other w l 1 2 low (omega (arith, h .size)) i a b
+  u-other i a b c = getD-set-other v (trailAt + (cursorsAt + H)) i (cursorOf w) 0 c ∙ set-other w l 1 2 low (omega (arith, h .size)) i a b
 
-  u-value : (k : ℕ) → k < 4034 → valueAt (tail u) k ≡ valueAt (tail v) k
+  u-value : (k : ℕ) → k < valuesSize → valueAt (tail u) k ≡ valueAt (tail v) k
   unfolding u
-  u-value k i = getD-set-other v (4 + (10085 + H)) (4 + (6051 + k)) (cursorOf w) 0 (λ e. omega (arith, e, i))
+  u-value k i = getD-set-other v (trailAt + (cursorsAt + H)) (trailAt + (valuesAt + k)) (cursorOf w) 0 (λ e. omega (arith, e, i))
 
   j : Joins n 4 l w u (entrySet u H l)
   unfolding H
   j =
       joins n 4 l w u (omega (arith, u-size, h .size)) few
-      (λ i b. u-other (4 + i) (λ e. omega (arith, e, b)) (λ e. omega (arith, e, b)) (λ e. omega (arith, e, b))) (h .trail) f
+      (λ i b. u-other (trailAt + i) (λ e. omega (arith, e, b)) (λ e. omega (arith, e, b)) (λ e. omega (arith, e, b))) (h .trail) f
 
-  values : (k : ℕ) → k < 4034 → valueAt (tail (entrySet u H l)) k ≡ wideValue (held (tail (entrySet u H l))) k
+  values : (k : ℕ) → k < valuesSize → valueAt (tail (entrySet u H l)) k ≡ wideValue (held (tail (entrySet u H l))) k
   unfolding v
   values k i =
-      j .else (4 + (6051 + k)) (inr (omega arith)) ∙ u-value k i ∙ go (ℕ-discrete k l) (ℕ-discrete k (neg l))
+      j .else (trailAt + (valuesAt + k)) (inr (omega arith)) ∙ u-value k i ∙ go (ℕ-discrete k l) (ℕ-discrete k (neg l))
       ∙ ap (λ (G : List ℕ). wideValue G k) (sym (j .list))
     where
-      size : 10089 ≤ length w
+      size : trailAt + cursorsAt ≤ length w
       size = omega (arith, h .size)
 
       go : Dec (k ≡ l) → Dec (k ≡ neg l) → valueAt (tail (valuesSet w l 1 2)) k ≡ wideValue (l ∷ gOf w) k
@@ -71,14 +72,14 @@ module _ {n : ℕ} {w : List ℕ} {l : ℕ} (few : n ≤ 2016) (h : Ready n w) (
       go (no e) (yes d) =
           ap (valueAt (tail (valuesSet w l 1 2))) d ∙ set-second w l 1 2 low size ∙ sym (wide-negated (gOf w) l low (f .1)) ∙ ap (wideValue (l ∷ gOf w)) (sym d)
       go (no e) (no d) =
-          set-other w l 1 2 low size (4 + (6051 + k)) (λ x. e (omega (arith, x))) (λ x. d (omega (arith, x)))
+          set-other w l 1 2 low size (trailAt + (valuesAt + k)) (λ x. e (omega (arith, x))) (λ x. d (omega (arith, x)))
           ∙ h .values k i ∙ sym (wide-other (gOf w) l low (f .1) k e d)
 
   kept : (i : ℕ) → Kept H i → getD (entrySet u H l) i 0 ≡ getD w i 0
   unfolding H
   kept i (inl b) = j .else i (inl b) ∙ u-other i (λ e. omega (arith, e, b)) (λ e. omega (arith, e, b)) (λ e. omega (arith, e, b))
   kept i (inr (inl b)) =
-      let e : 4 + (1 + (i - 5)) ≡ i = omega arith in
+      let e : trailAt + (literalsAt + (i - 5)) ≡ i = omega arith in
       subst (λ (k : ℕ). getD (entrySet u (tail w 0) l) k 0 ≡ getD w k 0) e (j .lits (i - 5) (omega arith))
   kept i (inr (inr (inl b))) =
       j .else i (inr (omega arith)) ∙ u-other i (λ e. omega (arith, e, b)) (λ e. omega (arith, e, b)) (λ e. omega (arith, e, b))
@@ -88,8 +89,8 @@ module _ {n : ℕ} {w : List ℕ} {l : ℕ} (few : n ≤ 2016) (h : Ready n w) (
   cursor : cursorAt (tail (entrySet u H l)) H ≡ cursorOf w
   unfolding u v
   cursor =
-      j .else (4 + (10085 + H)) (inr (omega arith))
-      ∙ getD-set-same v (4 + (10085 + H)) (cursorOf w) 0 (omega (arith, set-length w l 1 2 low (omega (arith, h .size)), h .size, room))
+      j .else (trailAt + (cursorsAt + H)) (inr (omega arith))
+      ∙ getD-set-same v (trailAt + (cursorsAt + H)) (cursorOf w) 0 (omega (arith, set-length w l 1 2 low (omega (arith, h .size)), h .size, room))
 
   pushed′ : Pushed n l w (entrySet u H l)
   unfolding H
@@ -104,7 +105,7 @@ module _ {n : ℕ} {w : List ℕ} {l : ℕ} (few : n ≤ 2016) (h : Ready n w) (
   }
 
   -- of the work area before the last stores
-  pub pushed : {c : ℕ} {w₁ w₂ : List ℕ} → w₁ ≡ valuesSet w l 1 2 → c ≡ getD w₁ 0 0 → w₂ ≡ entrySet (set w₁ (4 + (10085 + tail w 0)) c) (tail w 0) l
+  pub pushed : {c : ℕ} {w₁ w₂ : List ℕ} → w₁ ≡ valuesSet w l 1 2 → c ≡ getD w₁ 0 0 → w₂ ≡ entrySet (set w₁ (trailAt + (cursorsAt + tail w 0)) c) (tail w 0) l
       → Pushed n l w w₂
   unfolding H u v
   pushed {c} {w₁} {w₂} a b e =
@@ -114,8 +115,8 @@ module _ {n : ℕ} {w : List ℕ} {l : ℕ} (few : n ≤ 2016) (h : Ready n w) (
 
 -- ---- the newest leaves: its values, its entry
 
-module _ {n : ℕ} {w : List ℕ} {l : ℕ} (few : n ≤ 2016) (h : Ready n w) (p : 0 < tail w 0) (top : l ≡ litAt (tail w) (tail w 0 - 1)) where
-  newest-low : l < 4032
+module _ {n : ℕ} {w : List ℕ} {l : ℕ} (few : n ≤ mostNodes) (h : Ready n w) (p : 0 < tail w 0) (top : l ≡ litAt (tail w) (tail w 0 - 1)) where
+  newest-low : l < always
   newest-low = omega (arith, top, held-below h (tail w 0 - 1) (omega arith), few)
 
   o : List ℕ
@@ -125,12 +126,12 @@ module _ {n : ℕ} {w : List ℕ} {l : ℕ} (few : n ≤ 2016) (h : Ready n w) (
   unfolding o
   o-size = set-length w l 0 0 newest-low (omega (arith, h .size))
 
-  o-other : (i : ℕ) → (i ≡ 4 + (6051 + l) → ⊥) → (i ≡ 4 + (6051 + neg l) → ⊥) → getD o i 0 ≡ getD w i 0
+  o-other : (i : ℕ) → (i ≡ trailAt + (valuesAt + l) → ⊥) → (i ≡ trailAt + (valuesAt + neg l) → ⊥) → getD o i 0 ≡ getD w i 0
   unfolding o
   o-other = set-other w l 0 0 newest-low (omega (arith, h .size))
 
-  o-same : (i : ℕ) → i < 4033 → tail o i ≡ tail w i
-  o-same i b = o-other (4 + i) (λ e. omega (arith, e, b)) (λ e. omega (arith, e, b))
+  o-same : (i : ℕ) → i < entriesEnd → tail o i ≡ tail w i
+  o-same i b = o-other (trailAt + i) (λ e. omega (arith, e, b)) (λ e. omega (arith, e, b))
 
   o-top : l ≡ litAt (tail o) (tail o 0 - 1)
   o-top =
@@ -155,11 +156,11 @@ module _ {n : ℕ} {w : List ℕ} {l : ℕ} (few : n ≤ 2016) (h : Ready n w) (
   fresh : valueOf (held (tail (dropped 4 o l))) l ≡ undecided
   fresh = subst (Good n) list (h .trail .good) .0 .1
 
-  leave-values : (k : ℕ) → k < 4034 → valueAt (tail (dropped 4 o l)) k ≡ wideValue (held (tail (dropped 4 o l))) k
+  leave-values : (k : ℕ) → k < valuesSize → valueAt (tail (dropped 4 o l)) k ≡ wideValue (held (tail (dropped 4 o l))) k
   unfolding o
-  leave-values k i = g .else (4 + (6051 + k)) (inr (omega arith)) ∙ go (ℕ-discrete k l) (ℕ-discrete k (neg l))
+  leave-values k i = g .else (trailAt + (valuesAt + k)) (inr (omega arith)) ∙ go (ℕ-discrete k l) (ℕ-discrete k (neg l))
     where
-      size : 10089 ≤ length w
+      size : trailAt + cursorsAt ≤ length w
       size = omega (arith, h .size)
 
       F : List ℕ
@@ -170,14 +171,14 @@ module _ {n : ℕ} {w : List ℕ} {l : ℕ} (few : n ≤ 2016) (h : Ready n w) (
       go (no e) (yes d) =
           ap (valueAt (tail (valuesSet w l 0 0))) d ∙ set-second w l 0 0 newest-low size ∙ sym (wide-before-neg F l newest-low fresh) ∙ ap (wideValue F) (sym d)
       go (no e) (no d) =
-          set-other w l 0 0 newest-low size (4 + (6051 + k)) (λ x. e (omega (arith, x))) (λ x. d (omega (arith, x)))
+          set-other w l 0 0 newest-low size (trailAt + (valuesAt + k)) (λ x. e (omega (arith, x))) (λ x. d (omega (arith, x)))
           ∙ h .values k i ∙ ap (λ (G : List ℕ). wideValue G k) list ∙ wide-other F l newest-low fresh k e d
 
-  leave-kept : (i : ℕ) → (i < 4) ⊎ (((4 < i) × (i < 2021)) ⊎ (((4038 ≤ i) × (i < 6055)) ⊎ (10089 ≤ i))) → getD (dropped 4 o l) i 0 ≡ getD w i 0
+  leave-kept : (i : ℕ) → (i < trailAt) ⊎ (((trailAt < i) × (i < trailAt + entriesAt)) ⊎ (((trailAt + basesAt ≤ i) × (i < trailAt + valuesAt)) ⊎ (trailAt + cursorsAt ≤ i))) → getD (dropped 4 o l) i 0 ≡ getD w i 0
   leave-kept i (inl b) = g .else i (inl b) ∙ o-other i (λ e. omega (arith, e, b)) (λ e. omega (arith, e, b))
   leave-kept i (inr (inl b)) =
-      getD-set-other (set o (4 + (2017 + l / 2)) 0) 4 i (getD o 4 0 - 1) 0 (λ e. omega (arith, e, b))
-      ∙ getD-set-other o (4 + (2017 + l / 2)) i 0 0 (λ e. omega (arith, e, b)) ∙ o-other i (λ e. omega (arith, e, b)) (λ e. omega (arith, e, b))
+      getD-set-other (set o (trailAt + (entriesAt + l / 2)) 0) 4 i (getD o 4 0 - 1) 0 (λ e. omega (arith, e, b))
+      ∙ getD-set-other o (trailAt + (entriesAt + l / 2)) i 0 0 (λ e. omega (arith, e, b)) ∙ o-other i (λ e. omega (arith, e, b)) (λ e. omega (arith, e, b))
   leave-kept i (inr (inr (inl b))) = g .else i (inr (omega arith)) ∙ o-other i (λ e. omega (arith, e, b)) (λ e. omega (arith, e, b))
   leave-kept i (inr (inr (inr b))) =
       g .else i (inr (omega arith)) ∙ o-other i (λ e. omega (arith, e, b, newest-low)) (λ e. omega (arith, e, b, newest-low))
@@ -190,13 +191,23 @@ module _ {n : ℕ} {w : List ℕ} {l : ℕ} (few : n ≤ 2016) (h : Ready n w) (
     kept = leave-kept;
   }
 
-  pub popped : {w₁ : List ℕ} {c : ℕ} → w₁ ≡ valuesSet w l 0 0 → c ≡ tail w 0 - 1 → Popped n w (set (set w₁ (4 + (2017 + l / 2)) 0) 4 c)
+  pub popped : {w₁ : List ℕ} {c : ℕ} → w₁ ≡ valuesSet w l 0 0 → c ≡ tail w 0 - 1 → Popped n w (set (set w₁ (trailAt + (entriesAt + l / 2)) 0) 4 c)
   unfolding o
   popped {w₁} {c} a b =
       let z : c ≡ getD (valuesSet w l 0 0) 4 0 - 1 = b ∙ ap (_- 1) (sym (o-same 0 (omega arith))) in
       rw (a, z) popped′
 
 -- ---- nothing is held
+
+-- the cells of the first base, and of the values of the two literals of no node
+abbrev firstBase : ℕ
+firstBase = trailAt + basesAt
+
+abbrev alwaysCell : ℕ
+alwaysCell = trailAt + (valuesAt + always)
+
+abbrev neverCell : ℕ
+neverCell = trailAt + (valuesAt + (always + 1))
 
 pub wiped-starts : (w : List ℕ) → Wiped w 0 w
 wiped-starts w = record { size = refl; zero = λ i b. absurd (omega (arith, b)) }
@@ -208,62 +219,62 @@ wiped-goes {w} {w₁} {k} z b = record { size = length-set w₁ k 0 ∙ z .size;
     go i a (yes e) = rw e (getD-set-same w₁ k 0 0 b)
     go i a (no e) = getD-set-other w₁ k i 0 0 e ∙ z .zero i (omega (arith, a, e))
 
-module _ {n : ℕ} {w w₁ : List ℕ} (more : ℕ) (few : n ≤ 2016) (size : 32768 ≤ length w) (z : Wiped w 10089 w₁) where
+module _ {n : ℕ} {w w₁ : List ℕ} (more : ℕ) (few : n ≤ mostNodes) (size : area ≤ length w) (z : Wiped w (trailAt + cursorsAt) w₁) where
   b₁ : List ℕ
-  b₁ = set w₁ 4038 more
+  b₁ = set w₁ firstBase more
 
   b₂ : List ℕ
-  b₂ = set b₁ 10087 1
+  b₂ = set b₁ alwaysCell 1
 
   b₃ : List ℕ
-  b₃ = set b₂ 10088 2
+  b₃ = set b₂ neverCell 2
 
   s₁ : length b₁ ≡ length w
   unfolding b₁
-  s₁ = length-set w₁ 4038 more ∙ z .size
+  s₁ = length-set w₁ firstBase more ∙ z .size
 
   s₂ : length b₂ ≡ length w
   unfolding b₂
-  s₂ = length-set b₁ 10087 1 ∙ s₁
+  s₂ = length-set b₁ alwaysCell 1 ∙ s₁
 
   s₃ : length b₃ ≡ length w
   unfolding b₃
-  s₃ = length-set b₂ 10088 2 ∙ s₂
+  s₃ = length-set b₂ neverCell 2 ∙ s₂
 
-  past : (i : ℕ) → i < 10087 → getD b₃ i 0 ≡ getD b₁ i 0
+  past : (i : ℕ) → i < alwaysCell → getD b₃ i 0 ≡ getD b₁ i 0
   unfolding b₃ b₂
-  past i b = getD-set-other b₂ 10088 i 2 0 (λ e. omega (arith, e, b)) ∙ getD-set-other b₁ 10087 i 1 0 (λ e. omega (arith, e, b))
+  past i b = getD-set-other b₂ neverCell i 2 0 (λ e. omega (arith, e, b)) ∙ getD-set-other b₁ alwaysCell i 1 0 (λ e. omega (arith, e, b))
 
-  b₃-zero : (i : ℕ) → i < 10087 → (i ≡ 4038 → ⊥) → getD b₃ i 0 ≡ 0
+  b₃-zero : (i : ℕ) → i < alwaysCell → (i ≡ firstBase → ⊥) → getD b₃ i 0 ≡ 0
   unfolding b₁
-  b₃-zero i b d = past i b ∙ getD-set-other w₁ 4038 i more 0 d ∙ z .zero i (omega (arith, b))
+  b₃-zero i b d = past i b ∙ getD-set-other w₁ firstBase i more 0 d ∙ z .zero i (omega (arith, b))
 
   none : tail b₃ 0 ≡ 0
   none = b₃-zero 4 (omega arith) (λ e. omega (arith, e))
 
-  blank-values : (l : ℕ) → l < 4034 → valueAt (tail b₃) l ≡ wideValue (held (tail b₃)) l
+  blank-values : (l : ℕ) → l < valuesSize → valueAt (tail b₃) l ≡ wideValue (held (tail b₃)) l
   unfolding wideValue b₃ b₂
-  blank-values l b = go (ℕ-discrete l 4032) (ℕ-discrete l 4033)
+  blank-values l b = go (ℕ-discrete l always) (ℕ-discrete l (always + 1))
     where
-      go : Dec (l ≡ 4032) → Dec (l ≡ 4033) → valueAt (tail b₃) l ≡ wideValue (held (tail b₃)) l
-      go (yes e) d = rw e (getD-set-other b₂ 10088 10087 2 0 (λ x. omega (arith, x)) ∙ getD-set-same b₁ 10087 1 0 (omega (arith, s₁, size)))
-      go (no e) (yes d) = rw d (getD-set-same b₂ 10088 2 0 (omega (arith, s₂, size)))
+      go : Dec (l ≡ always) → Dec (l ≡ always + 1) → valueAt (tail b₃) l ≡ wideValue (held (tail b₃)) l
+      go (yes e) d = rw e (getD-set-other b₂ neverCell alwaysCell 2 0 (λ x. omega (arith, x)) ∙ getD-set-same b₁ alwaysCell 1 0 (omega (arith, s₁, size)))
+      go (no e) (yes d) = rw d (getD-set-same b₂ neverCell 2 0 (omega (arith, s₂, size)))
       go (no e) (no d) =
-          let i : l < 4032 = omega (arith, b, e, d) in
-          b₃-zero (4 + (6051 + l)) (omega (arith, i)) (λ x. omega (arith, x)) ∙ sym (wide-nil l i) ∙ ap (λ (G : List ℕ). wideValue G l) (sym (empty-held n (tail b₃) none))
+          let i : l < always = omega (arith, b, e, d) in
+          b₃-zero (trailAt + (valuesAt + l)) (omega (arith, i)) (λ x. omega (arith, x)) ∙ sym (wide-nil l i) ∙ ap (λ (G : List ℕ). wideValue G l) (sym (empty-held n (tail b₃) none))
 
   blanked′ : Blank n more b₃
   unfolding b₁
   blanked′ = record {
     ready = record {
       size = omega (arith, s₃, size);
-      trail = empty-trail n (tail b₃) none (λ m i. b₃-zero (4 + (2017 + m)) (omega (arith, i, few)) (λ x. omega (arith, x, i, few)));
+      trail = empty-trail n (tail b₃) none (λ m i. b₃-zero (trailAt + (entriesAt + m)) (omega (arith, i, few)) (λ x. omega (arith, x, i, few)));
       values = blank-values;
     };
     count = none;
-    base = past 4038 (omega arith) ∙ getD-set-same w₁ 4038 more 0 (omega (arith, z .size, size));
+    base = past firstBase (omega arith) ∙ getD-set-same w₁ firstBase more 0 (omega (arith, z .size, size));
   }
 
-  pub blanked : Blank n more (set (set (set w₁ 4038 more) 10087 1) 10088 2)
+  pub blanked : Blank n more (set (set (set w₁ (trailAt + basesAt) more) (trailAt + (valuesAt + always)) 1) (trailAt + (valuesAt + (always + 1))) 2)
   unfolding b₃ b₂ b₁
   blanked = blanked′

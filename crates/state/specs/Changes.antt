@@ -1,28 +1,27 @@
 -- What the functions of this crate leave: a literal joins the trail, or the newest leaves. Assumes nothing.
 use mathlib.Core.Path.{_≡_}
 use mathlib.Core.Logic.{_⊎_}
-use mathlib.Core.List.{List, [], _∷_}
+use mathlib.Core.List.{List, _∷_}
 use Prim.Native.Nat.{ℕ, suc, _+_, _*_, _/_, _%_, _<_, _≤_}
 use lib.ListN.{getD, length, set}
 use Rattle.calculus.specs.Expansion.{neg}
-use Rattle.index.specs.Index.{mostNodes, always}
-use Rattle.state.specs.Work.{tail, litAt, baseOf, cursorAt, cursorOf, conflictOf, gOf, Ready}
+use Rattle.state.specs.Work.{tail, litAt, baseOf, cursorAt, cursorOf, gOf, Ready, trailAt, literalsAt, entriesAt, basesAt, valuesAt, cursorsAt}
 
 -- the values of l and its negation are stored
 abbrev pub valuesSet : List ℕ → ℕ → ℕ → ℕ → List ℕ
-valuesSet w l v u = set (set w (4 + (6051 + l)) v) (4 + (6051 + neg l)) u
+valuesSet w l v u = set (set w (trailAt + (valuesAt + l)) v) (trailAt + (valuesAt + neg l)) u
 
 -- what a joining literal stores of itself in u: its entry, itself, and the count
 abbrev pub entrySet : List ℕ → ℕ → ℕ → List ℕ
-entrySet u h l = set (set (set u (4 + (2017 + l / 2)) (2 * h + l % 2 + 1)) (4 + (1 + h)) l) (4 + 0) (h + 1)
+entrySet u h l = set (set (set u (trailAt + (entriesAt + l / 2)) (2 * h + l % 2 + 1)) (trailAt + (literalsAt + h)) l) (trailAt + 0) (h + 1)
 
 -- how many clauses stand before those of position h + 1
 abbrev pub baseSet : List ℕ → ℕ → ℕ → List ℕ
-baseSet w h more = set w (4 + (4034 + (h + 1))) (baseOf (tail w) h + more)
+baseSet w h more = set w (trailAt + (basesAt + (h + 1))) (baseOf (tail w) h + more)
 
 -- a number that neither a joining nor a leaving literal changes: a cell, an earlier literal, a base, a cursor but that at h
 abbrev pub Kept : ℕ → ℕ → Type 0
-Kept h i = (i < 4) ⊎ (((4 < i) × (i < 5 + h)) ⊎ (((4038 ≤ i) × (i < 6055)) ⊎ ((10089 ≤ i) × (i ≡ 10089 + h → ⊥))))
+Kept h i = (i < trailAt) ⊎ (((trailAt < i) × (i < trailAt + literalsAt + h)) ⊎ (((trailAt + basesAt ≤ i) × (i < trailAt + valuesAt)) ⊎ ((trailAt + cursorsAt ≤ i) × (i ≡ trailAt + cursorsAt + h → ⊥))))
 
 -- l has joined at the position that was the count
 pub record Pushed (n l : ℕ) (w w′ : List ℕ) : Type 0 where
@@ -39,7 +38,7 @@ pub record Popped (n : ℕ) (w w′ : List ℕ) : Type 0 where
   pub ready : Ready n w′
   pub size : length w′ ≡ length w
   pub count : tail w 0 ≡ suc (tail w′ 0)
-  pub kept : (i : ℕ) → (i < 4) ⊎ (((4 < i) × (i < 2021)) ⊎ (((4038 ≤ i) × (i < 6055)) ⊎ (10089 ≤ i))) → getD w′ i 0 ≡ getD w i 0
+  pub kept : (i : ℕ) → (i < trailAt) ⊎ (((trailAt < i) × (i < trailAt + entriesAt)) ⊎ (((trailAt + basesAt ≤ i) × (i < trailAt + valuesAt)) ⊎ (trailAt + cursorsAt ≤ i))) → getD w′ i 0 ≡ getD w i 0
 
 -- the first k numbers are 0
 pub record Wiped (w : List ℕ) (k : ℕ) (w′ : List ℕ) : Type 0 where

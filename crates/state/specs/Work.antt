@@ -2,9 +2,8 @@
 -- the trail: how many literals are held true, the literals in the order they joined, each node's entry, how many clauses stand before each
 -- literal's, each literal's value, and the cursor as each literal joined. Assumes nothing.
 use mathlib.Core.Path.{_≡_}
-use mathlib.Core.Logic.{_⊎_}
 use mathlib.Core.List.{List}
-use Prim.Native.Nat.{ℕ, _+_, _<_, _≤_}
+use Prim.Native.Nat.{ℕ, _+_, _≤_}
 use lib.ListN.{getD, length}
 use Rattle.scope.specs.declared.Node.{Node}
 use Rattle.calculus.specs.Expansion.{expand}
@@ -13,6 +12,33 @@ pub use Rattle.calculus.specs.Model.{Goals}
 pub use Rattle.trail.specs.Trail.{litAt, entryOf, held, valueCode, Trail}
 unfoldable pub use Rattle.trail.specs.Trail.{trail}
 pub use Rattle.clause.specs.Coded.{tail, valueAt, gOf, Valued}
+
+-- where the trail stands, and in it the literals, the entries (crate trail), the bases, the values (crate clause) and the cursors
+abbrev pub trailAt : ℕ
+trailAt = 4
+
+abbrev pub literalsAt : ℕ
+literalsAt = 1
+
+abbrev pub entriesAt : ℕ
+entriesAt = 2017
+
+-- past the entries
+abbrev pub entriesEnd : ℕ
+entriesEnd = 4033
+
+abbrev pub basesAt : ℕ
+basesAt = 4034
+
+abbrev pub valuesAt : ℕ
+valuesAt = 6051
+
+-- how many values there are: those of the literals of all nodes, and two more
+abbrev pub valuesSize : ℕ
+valuesSize = 4034
+
+abbrev pub cursorsAt : ℕ
+cursorsAt = 10085
 
 -- what the work area has at least
 abbrev pub area : ℕ
@@ -34,10 +60,10 @@ placeOf w = getD w 3 0
 
 -- of a trail r: how many clauses stand before those of position q, and what the cursor was as the literal at q joined
 abbrev pub baseOf : (ℕ → ℕ) → ℕ → ℕ
-baseOf r q = r (4034 + q)
+baseOf r q = r (basesAt + q)
 
 abbrev pub cursorAt : (ℕ → ℕ) → ℕ → ℕ
-cursorAt r q = r (10085 + q)
+cursorAt r q = r (cursorsAt + q)
 
 -- the trail is right, and so is the value of each literal
 pub record Ready (n : ℕ) (w : List ℕ) : Type 0 where

@@ -1,8 +1,6 @@
 -- `solver::leave` meets its contract. The invariant: what is held begins with the first literals, and each is as it was. Assumes nothing.
 use Rattle.state.specs.Work.{tail}
 use Rattle.solver.proofs.Settles.{Leaving, leaving-starts, pop-asked, leaving-goes, leaving-less, leaving-ends}
-use native.Mathlib.Omega.{arith}
-use borrow.Author.Needs.{needs}
 use Rattle.solver.proofs.leave.Statement.{statement}
 use Rattle.solver.proofs.leave.Tie as tie
 

@@ -1,7 +1,6 @@
 -- `solver::start` meets its contract. Assumes nothing.
 use Rattle.index.specs.Index.{indexNode}
 use Rattle.solver.proofs.Undoes.{started}
-use native.Mathlib.Omega.{arith}
 use borrow.Author.Needs.{needs}
 use Rattle.solver.proofs.start.Statement.{statement}
 use Rattle.solver.proofs.start.Tie as tie

@@ -1,11 +1,10 @@
 -- `solver::touch` meets its contract. The loop walks along the links of the node. Its invariant is `Walk`; the measure is the link. Assumes nothing.
-use mathlib.Core.Path.{_≡_, sym, _∙_, subst}
+use mathlib.Core.Path.{sym, _∙_, subst}
 use Prim.Native.Nat.{ℕ, _+_}
-use Rattle.index.specs.Index.{indexNode, headOf, nextOf}
+use Rattle.index.specs.Index.{indexNode, headsAt, linksAt}
 use Rattle.solver.specs.Changes.{Walk}
 use Rattle.solver.proofs.Walks.{On, beside-ready, walk-on, walk-starts, parent-low, walk-less, walk-on-next, walk-goes}
 use native.Mathlib.Omega.{arith}
-use borrow.Author.Needs.{needs}
 use Rattle.solver.proofs.touch.Statement.{statement}
 use Rattle.solver.proofs.touch.Tie as tie
 
@@ -25,7 +24,7 @@ shared-slice-read-s : tie.Need-shared-slice-read-s Inv-loop μ-loop
 shared-slice-read-s c = omega (arith, c .before .before .before .before .pre .0 .few, c .before .before .before .before .pre .0 .size, c .before .before .before .before .pre .1 .1 .1)
 
 cast-s : tie.Need-cast-s Inv-loop μ-loop
-cast-s c = omega (arith, c .shared-slice-known2 .given (8064 + c .before .before .before .before .args .node))
+cast-s c = omega (arith, c .shared-slice-known2 .given (headsAt + c .before .before .before .before .args .node))
 
 loop-holds : tie.Need-loop-holds Inv-loop μ-loop
 loop-holds c =
@@ -38,8 +37,8 @@ visit-requires c κs =
     let inv = c .before .before .before .loop .inv in (
       s .pre .0,
       (
-    beside-ready (s .pre .0 .few) (inv .0 .beside) (s .pre .1 .0),
-    (inv .0 .units, parent-low (s .pre .0) (s .pre .1 .0) (s .pre .1 .1 .1) (inv .0) (inv .1) (c .before .before .loop-test .taken)),
+        beside-ready (s .pre .0 .few) (inv .0 .beside) (s .pre .1 .0),
+        (inv .0 .units, parent-low (s .pre .0) (s .pre .1 .0) (s .pre .1 .1 .1) (inv .0) (inv .1) (c .before .before .loop-test .taken)),
       ),
     )
 
@@ -53,7 +52,7 @@ shared-slice-read-s-2 : tie.Need-shared-slice-read-s-2 Inv-loop μ-loop
 shared-slice-read-s-2 c = omega (arith, c .before .before .before .before .before .before .before .before .before .loop .inv .1 (c .before .before .before .before .before .before .before .before .loop-test .taken) .0, c .before .before .before .before .before .before .before .before .before .before .before .before .before .before .pre .0 .few, c .before .before .before .before .before .before .before .before .before .before .before .before .before .before .pre .0 .size)
 
 cast-s-2 : tie.Need-cast-s-2 Inv-loop μ-loop
-cast-s-2 c = omega (arith, c .shared-slice-known3 .given (10080 + c .before .before .before .before .before .before .before .before .before .loop .s))
+cast-s-2 c = omega (arith, c .shared-slice-known3 .given (linksAt + c .before .before .before .before .before .before .before .before .before .loop .s))
 
 loop-less : tie.Need-loop-less Inv-loop μ-loop
 loop-less c =

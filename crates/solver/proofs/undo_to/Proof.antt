@@ -1,6 +1,5 @@
 -- `solver::undo_to` meets its contract. Assumes nothing.
-use Rattle.solver.proofs.Undoes.{undone, leave-low, cursor-low}
-use Rattle.state.proofs.Areas.{count-most}
+use Rattle.solver.proofs.Undoes.{undone, cursor-low}
 use Rattle.trail.proofs.Trails.{trail-length}
 use Rattle.state.specs.Work.{tail}
 use native.Mathlib.Omega.{arith}

@@ -2,7 +2,6 @@
 use mathlib.Core.Path.{sym}
 use Rattle.trail.proofs.Trails.{trail-length}
 use Rattle.state.specs.Work.{tail}
-use native.Mathlib.Omega.{arith}
 use borrow.Author.Needs.{needs}
 use Rattle.state.proofs.count.Statement.{statement}
 use Rattle.state.proofs.count.Tie as tie

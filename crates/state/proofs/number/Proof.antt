@@ -1,5 +1,4 @@
 -- `state::number` meets its contract. Assumes nothing.
-use native.Mathlib.Omega.{arith}
 use borrow.Author.Needs.{needs}
 use Rattle.state.proofs.number.Statement.{statement}
 use Rattle.state.proofs.number.Tie as tie

@@ -1,4 +1,5 @@
 -- `state::value` meets its contract. Assumes nothing.
+use Rattle.index.specs.Index.{always}
 use Prim.Native.Nat.{_<_}
 use mathlib.Core.Path.{_∙_}
 use Rattle.state.specs.Work.{gOf}
@@ -23,7 +24,7 @@ shared-slice-read-result c = search needs
 returns : tie.Need-returns
 returns c =
     let s = c .before in
-    let b : s .args .l < 4032 = omega arith in
+    let b : s .args .l < always = omega arith in
     s .pre .0 .values (s .args .l) (omega arith) ∙ wide-node (gOf (s .args .work .now)) (s .args .l) b
 
 pub value-spec : {M : Type 1} → statement M
