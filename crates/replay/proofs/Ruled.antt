@@ -242,6 +242,7 @@ module _ (e : ℕ → List (List ℕ)) (n : ℕ) (s : Step) where
   unfolding apply
   is-c p q r f goals b ws = simp (ne-eqb (s .rule) 85 p, ne-eqb (s .rule) 82 q, ne-eqb (s .rule) 69 r, eq-eqb (s .rule) 67 f)
 
-  pub is-s : (s .rule ≡ 85 → ⊥) → (s .rule ≡ 82 → ⊥) → (s .rule ≡ 69 → ⊥) → (s .rule ≡ 67 → ⊥) → (goals : List ℕ) (b : Branch) (ws : List Branch) → apply e goals n s b ws ≡ ruleS e goals n (s .value) b ws
+  pub is-s : (s .rule ≡ 85 → ⊥) → (s .rule ≡ 82 → ⊥) → (s .rule ≡ 69 → ⊥) → (s .rule ≡ 67 → ⊥) → (goals : List ℕ) (b : Branch) (ws : List Branch) → apply e goals n s b ws
+      ≡ ruleS e goals n (s .value) b ws
   unfolding apply
   is-s p q r f goals b ws = simp (ne-eqb (s .rule) 85 p, ne-eqb (s .rule) 82 q, ne-eqb (s .rule) 69 r, ne-eqb (s .rule) 67 f)

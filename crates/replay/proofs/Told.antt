@@ -136,7 +136,8 @@ module _ (t : ℕ → Node) (n : ℕ) (w : List ℕ) where
 
         upright : wholeIn w (offset (clausesOf t goals w) k) (length (getD (clausesOf t goals w) k [])) ≡ false
         upright =
-            sym (ap (λ (b : ℕ). wholeIn w b (lengthAt w k)) (base-is t n goals w few (h .base) k inside) ∙ ap (wholeIn w (offset (clausesOf t goals w) k)) (length-is t n goals w few (h .base) k inside))
+            sym (ap (λ (b : ℕ). wholeIn w b (lengthAt w k)) (base-is t n goals w few (h .base) k inside) ∙ ap (wholeIn w (offset (clausesOf t goals w) k))
+            (length-is t n goals w few (h .base) k inside))
             ∙ not-true (wholeIn w (baseAt w k) (lengthAt w k)) (and-right (ltb k (clauseCount w)) (not (wholeIn w (baseAt w k) (lengthAt w k))) st)
 
         -- its literal at a position

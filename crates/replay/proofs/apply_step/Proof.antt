@@ -23,9 +23,10 @@ returns c =
     let n = s .args .n in
     let p = s .args .step in
     let r = c .before .before .rule-u in
+    let if1 = c .before .before .before .before .if1 in
     ruled-as (r .last .1 .1 .0) (r .result)
     (λ goals. ruleU e goals n (p .value)) (λ goals. apply e goals n p)
-    (is-u e n p (c .before .before .before .before .if1 .taken)) (r .ensures)
+    (is-u e n p (if1 .taken)) (r .ensures)
 
 rule-r-requires : tie.Need-rule-r-requires
 rule-r-requires c κs = (c .before .before .before .before .before .before .before .before .pre .0, c .before .before .before .before .before .before .before .before .pre .1)
@@ -40,9 +41,11 @@ returns-2 c =
     let n = s .args .n in
     let p = s .args .step in
     let r = c .before .before .rule-r in
+    let if1 = c .before .before .before .before .before .before .if1 in
+    let if2 = c .before .before .before .before .if2 in
     ruled-as (r .last .1 .1 .0) (r .result)
     (λ goals. ruleR e goals n (p .position) (p .value)) (λ goals. apply e goals n p)
-    (is-r e n p (c .before .before .before .before .before .before .if1 .left) (c .before .before .before .before .if2 .taken)) (r .ensures)
+    (is-r e n p (if1 .left) (if2 .taken)) (r .ensures)
 
 rule-e-requires : tie.Need-rule-e-requires
 rule-e-requires c κs = (c .before .before .before .before .before .before .before .before .before .before .pre .0, c .before .before .before .before .before .before .before .before .before .before .pre .1)
@@ -57,9 +60,12 @@ returns-3 c =
     let n = s .args .n in
     let p = s .args .step in
     let r = c .before .before .rule-e in
+    let if1 = c .before .before .before .before .before .before .before .before .if1 in
+    let if2 = c .before .before .before .before .before .before .if2 in
+    let if3 = c .before .before .before .before .if3 in
     ruled-as (r .last .1 .1 .0) (r .result)
     (λ goals. ruleE e goals n (p .value)) (λ goals. apply e goals n p)
-    (is-e e n p (c .before .before .before .before .before .before .before .before .if1 .left) (c .before .before .before .before .before .before .if2 .left) (c .before .before .before .before .if3 .taken)) (r .ensures)
+    (is-e e n p (if1 .left) (if2 .left) (if3 .taken)) (r .ensures)
 
 rule-c-requires : tie.Need-rule-c-requires
 rule-c-requires c κs = (c .before .before .before .before .before .before .before .before .before .before .before .before .pre .0, c .before .before .before .before .before .before .before .before .before .before .before .before .pre .1)
@@ -74,9 +80,13 @@ returns-4 c =
     let n = s .args .n in
     let p = s .args .step in
     let r = c .before .before .rule-c in
+    let if1 = c .before .before .before .before .before .before .before .before .before .before .if1 in
+    let if2 = c .before .before .before .before .before .before .before .before .if2 in
+    let if3 = c .before .before .before .before .before .before .if3 in
+    let if4 = c .before .before .before .before .if4 in
     ruled-as (r .last .1 .1 .0) (r .result)
     (λ goals. ruleC e goals n (p .value)) (λ goals. apply e goals n p)
-    (is-c e n p (c .before .before .before .before .before .before .before .before .before .before .if1 .left) (c .before .before .before .before .before .before .before .before .if2 .left) (c .before .before .before .before .before .before .if3 .left) (c .before .before .before .before .if4 .taken)) (r .ensures)
+    (is-c e n p (if1 .left) (if2 .left) (if3 .left) (if4 .taken)) (r .ensures)
 
 rule-s-requires : tie.Need-rule-s-requires
 rule-s-requires c κs = (c .before .before .before .before .before .before .before .before .before .before .before .before .pre .0, c .before .before .before .before .before .before .before .before .before .before .before .before .pre .1)
@@ -91,9 +101,13 @@ returns-5 c =
     let n = s .args .n in
     let p = s .args .step in
     let r = c .before .before .rule-s in
+    let if1 = c .before .before .before .before .before .before .before .before .before .before .if1 in
+    let if2 = c .before .before .before .before .before .before .before .before .if2 in
+    let if3 = c .before .before .before .before .before .before .if3 in
+    let if4 = c .before .before .before .before .if4 in
     ruled-as (r .last .1 .1 .0) (r .result)
     (λ goals. ruleS e goals n (p .value)) (λ goals. apply e goals n p)
-    (is-s e n p (c .before .before .before .before .before .before .before .before .before .before .if1 .left) (c .before .before .before .before .before .before .before .before .if2 .left) (c .before .before .before .before .before .before .if3 .left) (c .before .before .before .before .if4 .left)) (r .ensures)
+    (is-s e n p (if1 .left) (if2 .left) (if3 .left) (if4 .left)) (r .ensures)
 
 pub apply-step-spec : {M : Type 1} → statement M
 apply-step-spec =
