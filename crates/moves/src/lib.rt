@@ -85,7 +85,14 @@ fn keep(work: &mut [u16], place: usize)
 }
 
 // The conflict at position q, which has one.
-fn conflict_at(x: &[u16], n: usize, goals: &[u16], work: &mut [u16], masks: &[u64], q: usize) -> Move
+fn conflict_at(
+    x: &[u16],
+    n: usize,
+    goals: &[u16],
+    work: &mut [u16],
+    masks: &[u64],
+    q: usize,
+) -> Move
     requires { ⌜ Indexed (now x) n ⌝ }
     requires { ⌜ Goals n (now goals) ⌝ }
     requires { ⌜ Holds (indexNode (now x)) n (now goals) (now work) (now masks) ⌝ }
