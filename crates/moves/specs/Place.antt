@@ -7,15 +7,15 @@ use lib.Dec.{ltb}
 use lib.ListN.{length, getD}
 use Rattle.scope.specs.declared.Node.{Node}
 use Rattle.calculus.specs.Expansion.{expand}
-use Rattle.calculus.specs.Order.{valueOf, clauses, isOne, isMany, some}
+use Rattle.calculus.specs.Order.{holds, valueOf, clauses, move, some}
 use Rattle.calculus.specs.Model.{Below}
 use Rattle.calculus.specs.declared.Move.{Move}
 use Rattle.calculus.specs.declared.Move.the-variants.{Conflict, Unit as Single, Done, Split}
 use Rattle.clause.specs.declared.Clause.{Clause}
 use Rattle.clause.specs.Literals.{literals}
 use Rattle.clause.specs.Coded.{isOpen}
-use Rattle.state.specs.Work.{tail, litAt, baseOf, gOf, trail, valueCode, cursorOf, placeOf}
-use Rattle.state.specs.Holds.{statesAt, AllMet}
+use Rattle.state.specs.Work.{tail, litAt, baseOf, gOf, valueCode, cursorOf, placeOf}
+use Rattle.state.specs.Holds.{statesAt, Holds}
 
 abbrev pub goalsAt : ℕ
 goalsAt = 8064
@@ -51,7 +51,15 @@ pub record FirstGoal (goals G : List ℕ) (v r : ℕ) : Type 0 where
   pub before : (k : ℕ) → k < r → valueCode (valueOf G (getD goals k 0)) ≡ v → ⊥
   pub here : r < length goals → valueCode (valueOf G (getD goals r 0)) ≡ v
 
--- only the cell i is changed, which is v
+-- no goal has a value
+abbrev pub Without : ℕ → List ℕ → List ℕ → Type 0
+Without v goals G = (k : ℕ) → k < length goals → valueCode (valueOf G (getD goals k 0)) ≡ v → ⊥
+
+-- every goal is true
+abbrev pub AllTrue : List ℕ → List ℕ → Type 0
+AllTrue goals G = (k : ℕ) → k < length goals → valueOf G (getD goals k 0) ≡ holds
+
+-- one cell is changed
 pub record CellSet (i v : ℕ) (w w′ : List ℕ) : Type 0 where
   pub size : length w′ ≡ length w
   pub cell : getD w′ i 0 ≡ v
@@ -63,3 +71,10 @@ pub record FirstOpen (t : ℕ → Node) (w : List ℕ) (q : ℕ) : Type 0 where
   pub low : q ≤ tail w 0
   pub before : (p : ℕ) → cursorOf w ≤ p → p < q → some isOpen (statesAt t (gOf w) (tail w) p) ≡ true → ⊥
   pub here : q < tail w 0 → some isOpen (statesAt t (gOf w) (tail w) q) ≡ true
+
+-- r is the next move, and what holds after it was found
+pub record Moved (t : ℕ → Node) (n : ℕ) (goals w w′ m : List ℕ) (r : Move) : Type 0 where
+  pub is : r ≡ move (expand t) goals (gOf w)
+  pub holds-on : Holds t n goals w′ m
+  pub list : gOf w′ ≡ gOf w
+  pub kept : Kept t goals w′ r

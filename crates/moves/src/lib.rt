@@ -2,19 +2,19 @@
 use calculus::Move;
 use clause::Clause;
 ghost use mathlib.Core.Path.{_≡_};
-ghost use mathlib.Core.Bool.{true, false};
 ghost use Prim.Native.Nat.{ℕ, _+_, _*_, _/_, _%_, _≤_, _<_};
 ghost use lib.ListN.{length};
 ghost use Rattle.calculus.specs.Expansion.{expand};
-ghost use Rattle.calculus.specs.Order.{move, isEmpty, isOne, some};
+ghost use Rattle.calculus.specs.Order.{move};
+ghost use Rattle.units.specs.Units.{Some, Empty};
 ghost use Rattle.calculus.specs.Model.{Goals};
 ghost use Rattle.index.specs.Index.{mostNodes, indexNode};
 ghost use Rattle.index.specs.Indexed.{Indexed};
 ghost use Rattle.clause.specs.Coded.{Coded};
 ghost use Rattle.clause.specs.Templates.{rows};
-ghost use Rattle.state.specs.Work.{area, tail, litAt, gOf, Ready, cursorOf, conflictOf, waitingOf};
+ghost use Rattle.state.specs.Work.{area, tail, litAt, gOf, Ready, Numbered, cursorOf, conflictOf, waitingOf};
 ghost use Rattle.state.specs.Holds.{Holds, statesAt};
-ghost use Rattle.moves.specs.Place.{placeNumber, Placed, Kept, Reasoned, FirstGoal, CellSet, FirstOpen};
+ghost use Rattle.moves.specs.Place.{placeNumber, Placed, Kept, Reasoned, Without, FirstGoal, CellSet, FirstOpen, Moved};
 
 // The cells of the work area.
 const CURSOR: usize = 0;
@@ -84,7 +84,15 @@ fn keep(work: &mut [u16], place: usize)
     work[PLACE] = place as u16;
 }
 
-// The conflict at position q, which has one.
+// The cursor moves on.
+fn advance(work: &mut [u16], q: usize)
+    requires { ⌜ (area ≤ length (now work)) × (q < 65536) ⌝ }
+    ensures { λ _. ⌜ CellSet 0 q (now (work .entry)) (now (work .exit)) ⌝ }
+{
+    work[CURSOR] = q as u16;
+}
+
+// The conflict at the first position that has one, where no goal is false.
 fn conflict_at(
     x: &[u16],
     n: usize,
@@ -96,12 +104,116 @@ fn conflict_at(
     requires { ⌜ Indexed (now x) n ⌝ }
     requires { ⌜ Goals n (now goals) ⌝ }
     requires { ⌜ Holds (indexNode (now x)) n (now goals) (now work) (now masks) ⌝ }
-    requires { ⌜ (q ≡ conflictOf (now work)) × (q < mostNodes) ⌝ }
-    requires { ⌜ some isEmpty (sofar (indexNode (now x)) (now goals) (gOf (now work)) (tail (now work)) 0) ≡ false ⌝ }
+    requires { ⌜ (q ≡ conflictOf (now work)) × (q < mostNodes) × Without 2 (now goals) (gOf (now work)) ⌝ }
     ensures { λ r. ⌜ Moved (indexNode (now (x .entry))) n (now (goals .entry)) (now (work .entry)) (now (work .exit)) (now (masks .entry)) r ⌝ }
 {
     let code = code_at(x, n, work, q);
     let j = (code / 256) % 4;
+    let base = state::base(work, q);
     keep(work, 4 * q + j as usize);
-    Move::Conflict(state::base(work, q) + j)
+    Move::Conflict(base + j)
+}
+
+// The next move while some goal is not true.
+fn goal_move(x: &[u16], n: usize, goals: &[u16], work: &mut [u16], masks: &[u64]) -> Move
+    requires { ⌜ Indexed (now x) n ⌝ }
+    requires { ⌜ Goals n (now goals) ⌝ }
+    requires { ⌜ Holds (indexNode (now x)) n (now goals) (now work) (now masks) ⌝ }
+    requires { ⌜ (waitingOf (now work) ≡ 0 → ⊥) ⌝ }
+    ensures { λ r. ⌜ Moved (indexNode (now (x .entry))) n (now (goals .entry)) (now (work .entry)) (now (work .exit)) (now (masks .entry)) r ⌝ }
+{
+    let k = goal_of(n, goals, work, 2);
+    if k < goals.len() {
+        keep(work, GOALS + k);
+        return Move::Conflict(k as u16);
+    }
+    let c = work[CONFLICT] as usize;
+    if c < NONE {
+        return conflict_at(x, n, goals, work, masks, c);
+    }
+    let u = goal_of(n, goals, work, 0);
+    keep(work, GOALS + u);
+    Move::Unit(u as u16, goals[u])
+}
+
+// The unit at the first position that has one, where every goal is true and there is no conflict.
+fn unit_move(x: &[u16], n: usize, goals: &[u16], work: &mut [u16], masks: &[u64]) -> Move
+    requires { ⌜ Indexed (now x) n ⌝ }
+    requires { ⌜ Goals n (now goals) ⌝ }
+    requires { ⌜ Holds (indexNode (now x)) n (now goals) (now work) (now masks) ⌝ }
+    requires { ⌜ (waitingOf (now work) ≡ 0) × (mostNodes ≤ conflictOf (now work)) × Some (now masks) ⌝ }
+    ensures { λ r. ⌜ Moved (indexNode (now (x .entry))) n (now (goals .entry)) (now (work .entry)) (now (work .exit)) (now (masks .entry)) r ⌝ }
+{
+    let q = units::first(masks);
+    let code = code_at(x, n, work, q);
+    let l = state::literal(work, q);
+    let chosen = clause::choose(x, n, (l / 2) as usize, ((code / 32) % 8) as usize);
+    let j = (code / 8) % 4;
+    let base = state::base(work, q);
+    keep(work, 4 * q + j as usize);
+    Move::Unit(base + j, chosen)
+}
+
+// A split, or none: every goal is true, there is no conflict and no unit. The cursor moves on.
+fn split_move(x: &[u16], n: usize, goals: &[u16], work: &mut [u16], masks: &[u64]) -> Move
+    requires { ⌜ Indexed (now x) n ⌝ }
+    requires { ⌜ Goals n (now goals) ⌝ }
+    requires { ⌜ Holds (indexNode (now x)) n (now goals) (now work) (now masks) ⌝ }
+    requires { ⌜ (waitingOf (now work) ≡ 0) × (mostNodes ≤ conflictOf (now work)) × Empty (now masks) ⌝ }
+    ensures { λ r. ⌜ Moved (indexNode (now (x .entry))) n (now (goals .entry)) (now (work .entry)) (now (work .exit)) (now (masks .entry)) r ⌝ }
+{
+    let q = open_from(x, n, work);
+    advance(work, q);
+    if state::count(work) as usize <= q {
+        return Move::Done;
+    }
+    let code = code_at(x, n, work, q);
+    let l = state::literal(work, q);
+    Move::Split(clause::choose(x, n, (l / 2) as usize, ((code / 1024) % 8) as usize))
+}
+
+// The next move in the solver's order: conflict first, then unit, then split.
+pub fn next_move(x: &[u16], n: usize, goals: &[u16], work: &mut [u16], masks: &[u64]) -> Move
+    requires { ⌜ Indexed (now x) n ⌝ }
+    requires { ⌜ Goals n (now goals) ⌝ }
+    requires { ⌜ Holds (indexNode (now x)) n (now goals) (now work) (now masks) ⌝ }
+    ensures { λ r. ⌜ r ≡ move (expand (indexNode (now (x .entry)))) (now (goals .entry)) (gOf (now (work .entry))) ⌝ }
+    ensures { λ _. ⌜ Holds (indexNode (now (x .entry))) n (now (goals .entry)) (now (work .exit)) (now (masks .entry)) ⌝ }
+    ensures { λ _. ⌜ gOf (now (work .exit)) ≡ gOf (now (work .entry)) ⌝ }
+    ensures { λ r. ⌜ Kept (indexNode (now (x .entry))) (now (goals .entry)) (now (work .exit)) r ⌝ }
+{
+    if work[WAITING] != 0 {
+        return goal_move(x, n, goals, work, masks);
+    }
+    let c = work[CONFLICT] as usize;
+    if c < NONE {
+        return conflict_at(x, n, goals, work, masks, c);
+    }
+    if units::some(masks) {
+        return unit_move(x, n, goals, work, masks);
+    }
+    split_move(x, n, goals, work, masks)
+}
+
+// The clause that the last move, a conflict or a unit, is on.
+pub fn reason(templates: &[[u8; 9]; 14], x: &[u16], n: usize, goals: &[u16], work: &[u16]) -> Clause
+    requires { ⌜ now templates ≡ rows ⌝ }
+    requires { ⌜ Indexed (now x) n ⌝ }
+    requires { ⌜ Goals n (now goals) ⌝ }
+    requires { ⌜ Ready n (now work) × Numbered (indexNode (now x)) (now goals) (tail (now work)) ⌝ }
+    requires { ⌜ Placed (indexNode (now x)) (now goals) (now work) (placeNumber (now work)) ⌝ }
+    ensures { λ r. ⌜ Reasoned (indexNode (now (x .entry))) n (now (goals .entry)) (now (work .entry)) r ⌝ }
+{
+    let place = work[PLACE] as usize;
+    if GOALS <= place {
+        let goal = goals[place - GOALS];
+        return Clause {
+            len: 1,
+            first: goal,
+            second: 0,
+            third: 0,
+        };
+    }
+    let l = state::literal(work, place / 4);
+    clause::clause_of(templates, x, n, l, place % 4)
 }

@@ -80,14 +80,14 @@ module _ {t : ℕ → Node} {n to : ℕ} {goals w m w₁ : List ℕ} (few : n �
     pub undone : Holds t n goals w₂ m₂ × (gOf w₂ ≡ drop (length (gOf w) - to) (gOf w))
     undone = (
       settled-holds few (k .ready) z
-      (λ q i. k .bases q (omega (arith, i, k .count, under, most)) ∙ H .numbered q (omega (arith, i, k .count, under))
-      ∙ ap (λ (F : List ℕ). length (clauses (expand t) goals F)) (sym (trails q (omega (arith, i, k .count)))))
-      (omega (arith, e, met-before to (omega arith) .0, k .count))
-      (subst (λ (j : ℕ). AllMet t (trail j (tail w₁)) (tail w₁) c) (sym (k .count))
-      (subst (AllMet t (trail to (tail w₁)) (tail w₁)) (sym e) (met-before to (omega arith) .1)))
-      (λ q i. met-before q (omega (arith, i, k .count)))
-      waiting
-      (λ q i. (none-position t goals (gOf w₁) (tail w₁) isEmpty q (tail w₁ 0) i (none .0), none-position t goals (gOf w₁) (tail w₁) isOne q (tail w₁ 0) i (none .1))),
+          (λ q i. k .bases q (omega (arith, i, k .count, under, most)) ∙ H .numbered q (omega (arith, i, k .count, under))
+          ∙ ap (λ (F : List ℕ). length (clauses (expand t) goals F)) (sym (trails q (omega (arith, i, k .count)))))
+          (omega (arith, e, met-before to (omega arith) .0, k .count))
+          (subst (λ (j : ℕ). AllMet t (trail j (tail w₁)) (tail w₁) c) (sym (k .count))
+          (subst (AllMet t (trail to (tail w₁)) (tail w₁)) (sym e) (met-before to (omega arith) .1)))
+          (λ q i. met-before q (omega (arith, i, k .count)))
+          waiting
+          (λ q i. (none-position t goals (gOf w₁) (tail w₁) isEmpty q (tail w₁ 0) i (none .0), none-position t goals (gOf w₁) (tail w₁) isOne q (tail w₁ 0) i (none .1))),
       settled-list few (k .ready) z ∙ list,
     )
 
@@ -123,6 +123,6 @@ module _ (t : ℕ → Node) (goals : List ℕ) {n : ℕ} {w w′ m′ : List ℕ
   pub started : Holds t n goals w′ m′ × (gOf w′ ≡ [])
   started = (
     settled-holds few (b .ready) z numbered (omega arith) (λ q i. absurd (omega (arith, i))) (λ q i. absurd (omega (arith, i, b .count))) waits
-    (λ q i. absurd (omega (arith, i, b .count))),
+        (λ q i. absurd (omega (arith, i, b .count))),
     settled-list few (b .ready) z ∙ empty-list,
   )

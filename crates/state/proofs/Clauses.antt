@@ -5,7 +5,7 @@ use mathlib.Core.List.{List, [], _∷_, _++_, map, append-assoc, append-nil, map
 use Prim.Native.Nat.{ℕ, zero, suc, _+_, _<_, _≤_}
 use native.Mathlib.Omega.{arith}
 use native.Mathlib.Decide.{ℕ-discrete}
-use lib.ListN.{length, getD, length-map}
+use lib.ListN.{length, getD, length-map, List·getD-append}
 use lib.Seq.{getD-append-add}
 use Rattle.scope.specs.declared.Node.{Node}
 use Rattle.scope.proofs.Tests.{or-left, or-right}
@@ -94,32 +94,61 @@ module _ (p : State → Bool) where
       let r = first-at ss k (omega arith) e (λ j i. f (suc j) (omega arith)) in
       (rw (f 0 (omega arith)) (r .0), rw (f 0 (omega arith)) (ap suc (r .1)))
 
--- ---- the clauses of goals and of the first positions of a trail r, under G
+-- ---- the clauses of goals and of the first positions of a trail r
+
+module _ (t : ℕ → Node) (goals : List ℕ) (r : ℕ → ℕ) where
+  abbrev upto : ℕ → List (List ℕ)
+  upto k = clauses (expand t) goals (trail k r)
+
+  upto-suc : (k : ℕ) → upto (suc k) ≡ upto k ++ expand t (litAt r k)
+  unfolding clauses
+  upto-suc k = ap (clauses (expand t) goals) (trail-suc k r)
+
+  upto-from : (q k : ℕ) → q ≤ k → (rest : List (List ℕ)) × (upto k ≡ upto q ++ rest)
+  upto-from q zero h =
+      let e : 0 ≡ q = omega arith in
+      ([], ap upto e ∙ sym (append-nil (upto q)))
+  upto-from q (suc k) h = go (ℕ-discrete q (suc k)) (upto-from q k)
+    where
+      go : Dec (q ≡ suc k) → (q ≤ k → (rest : List (List ℕ)) × (upto k ≡ upto q ++ rest)) → (rest : List (List ℕ)) × (upto (suc k) ≡ upto q ++ rest)
+      go (yes e) f = ([], ap upto (sym e) ∙ sym (append-nil (upto q)))
+      go (no e) f =
+          let x = f (omega (arith, e)) in
+          let c = expand t (litAt r k) in
+          (x .0 ++ c, upto-suc k ∙ ap (_++ c) (x .1) ∙ append-assoc (upto q) (x .0) c)
+
+  -- clause k of the goals
+  pub at-goal : (k N : ℕ) → k < length goals → getD (upto N) k [] ≡ getD goals k 0 ∷ []
+  unfolding clauses trail
+  at-goal k N h =
+      let x = upto-from 0 N (omega arith) in
+      let b : k < length (map (_∷ []) goals) = omega (arith, h, length-map goals (_∷ [])) in
+      ap (λ (cs : List (List ℕ)). getD cs k []) (x .1) ∙ List·getD-append (map (_∷ []) goals) (x .0) [] k b ∙ getD-map (_∷ []) goals k 0 [] h
+
+  -- clause j of position q
+  pub at-position : (q N j : ℕ) → q < N → j < length (expand t (litAt r q)) → getD (upto N) (length (upto q) + j) [] ≡ getD (expand t (litAt r q)) j []
+  at-position q N j h b =
+      let x = upto-from (suc q) N h in
+      let c = expand t (litAt r q) in
+      ap (λ (cs : List (List ℕ)). getD cs (length (upto q) + j) []) (x .1 ∙ ap (_++ x .0) (upto-suc q) ∙ append-assoc (upto q) c (x .0))
+      ∙ getD-append-add (upto q) (c ++ x .0) j [] ∙ List·getD-append c (x .0) [] j b
+
+-- ---- their states under G
 
 module _ (t : ℕ → Node) (goals G : List ℕ) (r : ℕ → ℕ) where
   abbrev pub sofar : ℕ → List State
-  sofar k = map (stateOf G) (clauses (expand t) goals (trail k r))
+  sofar k = map (stateOf G) (upto t goals r k)
 
   sofar-suc : (k : ℕ) → sofar (suc k) ≡ sofar k ++ statesAt t G r k
-  unfolding clauses
-  sofar-suc k =
-      ap (λ (F : List ℕ). map (stateOf G) (clauses (expand t) goals F)) (trail-suc k r)
-      ∙ map-append (stateOf G) (clauses (expand t) goals (trail k r)) (expand t (litAt r k))
+  sofar-suc k = ap (map (stateOf G)) (upto-suc t goals r k) ∙ map-append (stateOf G) (upto t goals r k) (expand t (litAt r k))
 
   pub sofar-length : (k : ℕ) → length (sofar k) ≡ length (clauses (expand t) goals (trail k r))
-  sofar-length k = length-map (clauses (expand t) goals (trail k r)) (stateOf G)
+  sofar-length k = length-map (upto t goals r k) (stateOf G)
 
   sofar-from : (q k : ℕ) → q ≤ k → (rest : List State) × (sofar k ≡ sofar q ++ rest)
-  sofar-from q zero h =
-      let e : 0 ≡ q = omega arith in
-      ([], ap sofar e ∙ sym (append-nil (sofar q)))
-  sofar-from q (suc k) h = go (ℕ-discrete q (suc k)) (sofar-from q k)
-    where
-      go : Dec (q ≡ suc k) → (q ≤ k → (rest : List State) × (sofar k ≡ sofar q ++ rest)) → (rest : List State) × (sofar (suc k) ≡ sofar q ++ rest)
-      go (yes e) f = ([], ap sofar (sym e) ∙ sym (append-nil (sofar q)))
-      go (no e) f =
-          let x = f (omega (arith, e)) in
-          (x .0 ++ statesAt t G r k, sofar-suc k ∙ ap (_++ statesAt t G r k) (x .1) ∙ append-assoc (sofar q) (x .0) (statesAt t G r k))
+  sofar-from q k h =
+      let x = upto-from t goals r q k h in
+      (map (stateOf G) (x .0), ap (map (stateOf G)) (x .1) ∙ map-append (stateOf G) (upto t goals r q) (x .0))
 
   -- those of position q stand behind those before it
   sofar-part : (q k : ℕ) → q < k → (rest : List State) × (sofar k ≡ sofar q ++ (statesAt t G r q ++ rest))
@@ -146,7 +175,7 @@ module _ (t : ℕ → Node) (goals G : List ℕ) (r : ℕ → ℕ) where
         none-left p (statesAt t G r q) (x .0) (none-right p (sofar q) (statesAt t G r q ++ x .0) (ap (some p) (sym (x .1)) ∙ e))
 
     -- the first that passes, among those of the goals, or of position q where none before has one
-    pub Found : ℕ → ℕ → ℕ → Type 0
+    abbrev pub Found : ℕ → ℕ → ℕ → Type 0
     Found k i l = (some p (sofar k) ≡ true) × (firstOf p (sofar k) ≡ i) × (literalAt (sofar k) (firstOf p (sofar k)) ≡ l)
 
     found-in : (xs ys zs ss : List State) → ss ≡ xs ++ (ys ++ zs) → some p xs ≡ false → some p ys ≡ true
@@ -156,7 +185,7 @@ module _ (t : ℕ → Node) (goals G : List ℕ) (r : ℕ → ℕ) where
         rw e (some-in p xs ys zs h, f .0, ap (literalAt (xs ++ (ys ++ zs))) (f .0) ∙ f .1)
 
     pub found-goal : (k : ℕ) → some p (sofar 0) ≡ true → Found k (firstOf p (sofar 0)) (literalAt (sofar 0) (firstOf p (sofar 0)))
-    unfolding Found some
+    unfolding some
     found-goal k e =
         let x = sofar-from 0 k (omega arith) in
         let f = found-in [] (sofar 0) (x .0) (sofar k) (x .1) refl e in
@@ -164,7 +193,6 @@ module _ (t : ℕ → Node) (goals G : List ℕ) (r : ℕ → ℕ) where
 
     pub found-position : (q k : ℕ) → q < k → some p (sofar q) ≡ false → some p (statesAt t G r q) ≡ true
         → Found k (length (sofar q) + firstOf p (statesAt t G r q)) (literalAt (statesAt t G r q) (firstOf p (statesAt t G r q)))
-    unfolding Found
     found-position q k h n e =
         let x = sofar-part q k h in
         found-in (sofar q) (statesAt t G r q) (x .0) (sofar k) (x .1) n e

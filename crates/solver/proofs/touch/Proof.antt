@@ -38,8 +38,8 @@ visit-requires c κs =
     let inv = c .before .before .before .loop .inv in (
       s .pre .0,
       (
-    beside-ready (s .pre .0 .few) (inv .0 .beside) (s .pre .1 .0),
-    (inv .0 .units, parent-low (s .pre .0) (s .pre .1 .0) (s .pre .1 .1 .1) (inv .0) (inv .1) (c .before .before .loop-test .taken)),
+        beside-ready (s .pre .0 .few) (inv .0 .beside) (s .pre .1 .0),
+        (inv .0 .units, parent-low (s .pre .0) (s .pre .1 .0) (s .pre .1 .1 .1) (inv .0) (inv .1) (c .before .before .loop-test .taken)),
       ),
     )
 

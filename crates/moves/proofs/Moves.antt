@@ -1,0 +1,349 @@
+-- The move of a work area that holds. Assumes nothing.
+use mathlib.Core.Path.{_≡_, refl, sym, ap, _∙_, subst, fun-ext}
+use mathlib.Core.Bool.{Bool, true, false, false≢true}
+use mathlib.Core.List.{List, [], _∷_}
+use Prim.Native.Nat.{ℕ, suc, _+_, _-_, _*_, _/_, _%_, _<_, _≤_}
+use native.Mathlib.Omega.{arith}
+use native.Mathlib.Decide.{decLt}
+use lib.ListN.{length, getD, set, length-map, length-set}
+use lib.Seq.{getD-set-same, getD-set-other}
+use borrow.Author.Tests.{lt-ltb, le-ltb}
+use Rattle.scope.specs.declared.Node.{Node}
+use Rattle.calculus.specs.Expansion.{chosen, expand}
+use Rattle.calculus.specs.Order.{State, met, empty, holds, joined, valueOf, stateOf, literalOf, literalAt, isEmpty, isOne, some, firstOf, bit, moveOf, move, clauses}
+use Rattle.calculus.specs.Model.{All, Goals}
+use Rattle.calculus.specs.declared.Move.the-variants.{Conflict, Unit as Single, Done, Split}
+use Rattle.calculus.proofs.Literals.{is-false}
+use Rattle.trail.proofs.Trails.{trail-length}
+use Rattle.index.specs.Index.{operands}
+use Rattle.units.specs.Units.{member, Some, Empty, First}
+use Rattle.clause.specs.Coded.{isOpen, Choice, Coded}
+use Rattle.state.specs.Work.{tail, litAt, baseOf, gOf, held, trail, valueCode, cursorAt, cursorOf, conflictOf, waitingOf, placeOf, Ready, Numbered}
+use Rattle.state.specs.Holds.{statesAt, Entered, Closed, AllMet, Waiting, Holds}
+use Rattle.state.proofs.Areas.{count-most, base-most, ready-same}
+use Rattle.state.proofs.Clauses.{sofar, sofar-length, none-by, first-at, none-sofar, Found, found-goal, found-position, goal-state, goals-length}
+use Rattle.moves.specs.Place.{placeNumber, Placed, Without, AllTrue, FirstGoal, CellSet, FirstOpen, Moved}
+use Rattle.moves.proofs.Tests.{move-conflict, move-unit, move-split, move-done, all-met, met-closed, first-low, goal-false, goal-unfalse, goal-unit, goal-ununit, value-else}
+
+bit-false : (b : Bool) → bit b ≡ 0 → b ≡ false
+bit-false true e = absurd (omega arith)
+bit-false false e = refl
+
+single-same : {a b c d : ℕ} → a ≡ b → c ≡ d → Single a c ≡ Single b d
+single-same p q = cc
+
+pub bit-true : (b : Bool) → bit b ≡ 1 → b ≡ true
+bit-true true e = refl
+bit-true false e = absurd (omega arith)
+
+-- a property of those before k, and of k
+pub step : {P : ℕ → Type 0} {k : ℕ} (i : ℕ) → i < k + 1 → Dec (i ≡ k) → P k → ((j : ℕ) → j < k → P j) → P i
+step {P} i b (yes e) h f = subst P (sym e) h
+step i b (no e) h f = f i (omega (arith, b, e))
+
+pub without-by : {goals G : List ℕ} {v k : ℕ} → FirstGoal goals G v k → length goals ≤ k → Without v goals G
+without-by f h j i = f .before j (omega (arith, i, h))
+
+-- ---- a cell is set
+
+pub cell-set : {i v : ℕ} {w : List ℕ} → i < length w → CellSet i v w (set w i v)
+cell-set {i} {v} {w} b = record { size = length-set w i v; cell = getD-set-same w i v 0 b; other = λ j e. getD-set-other w i j v 0 e }
+
+module _ {t : ℕ → Node} {n : ℕ} {goals w m : List ℕ} (w′ : List ℕ) (few : n ≤ 2016) (H : Holds t n goals w m) (size : length w′ ≡ length w)
+    (rest : (i : ℕ) → 4 ≤ i → getD w′ i 0 ≡ getD w i 0) (conflict : conflictOf w′ ≡ conflictOf w) (waits : waitingOf w′ ≡ waitingOf w)
+    (low : cursorOf w′ ≤ tail w 0) (before : AllMet t (gOf w) (tail w) (cursorOf w′)) where
+  same : tail w′ ≡ tail w
+  same = fun-ext (λ i. rest (4 + i) (omega arith))
+
+  cell-list : gOf w′ ≡ gOf w
+  cell-list = ap held same
+
+  cell-holds : Holds t n goals w′ m
+  cell-holds = record {
+    ready = ready-same few (H .ready) size (λ i k. rest (4 + i) (omega arith)) (λ l k. rest (4 + (6051 + l)) (omega arith));
+    numbered = subst (Numbered t goals) (sym same) (H .numbered);
+    units = H .units;
+    entered = subst (λ (r : ℕ → ℕ). (q : ℕ) → q < r 0 → Entered t (held r) r (conflictOf w′) m q) (sym same)
+        (subst (λ (c : ℕ). (q : ℕ) → q < tail w 0 → Entered t (gOf w) (tail w) c m q) (sym conflict) (H .entered));
+    clear = subst (λ (r : ℕ → ℕ). (q : ℕ) → r 0 ≤ q → q < 2048 → member m q ≡ 0) (sym same) (H .clear);
+    closed = subst (λ (r : ℕ → ℕ). Closed t (held r) r (conflictOf w′)) (sym same) (subst (Closed t (gOf w) (tail w)) (sym conflict) (H .closed));
+    cursor = omega (arith, low, ap (λ (r : ℕ → ℕ). r 0) same);
+    met-before = subst (λ (r : ℕ → ℕ). AllMet t (held r) r (cursorOf w′)) (sym same) before;
+    cursors = subst (λ (r : ℕ → ℕ). (h : ℕ) → h < r 0 → (cursorAt r h ≤ h) × AllMet t (trail h r) r (cursorAt r h)) (sym same) (H .cursors);
+    waiting = subst (λ (r : ℕ → ℕ). Waiting goals (held r) (waitingOf w′)) (sym same) (subst (Waiting goals (gOf w)) (sym waits) (H .waiting));
+  }
+
+-- the place of the move's clause
+module _ {t : ℕ → Node} {n place : ℕ} {goals w w′ m : List ℕ} (few : n ≤ 2016) (H : Holds t n goals w m) (z : CellSet 3 place w w′) where
+  cell : (i : ℕ) → i < 3 → getD w′ i 0 ≡ getD w i 0
+  cell i b = z .other i (λ e. omega (arith, e, b))
+
+  rest : (i : ℕ) → 4 ≤ i → getD w′ i 0 ≡ getD w i 0
+  rest i b = z .other i (λ e. omega (arith, e, b))
+
+  before : AllMet t (gOf w) (tail w) (cursorOf w′)
+  before = subst (AllMet t (gOf w) (tail w)) (sym (cell 0 (omega arith))) (H .met-before)
+
+  keeps : Holds t n goals w′ m
+  keeps = cell-holds w′ few H (z .size) rest (cell 1 (omega arith)) (cell 2 (omega arith)) (omega (arith, cell 0 (omega arith), H .cursor)) before
+
+  keeps-list : gOf w′ ≡ gOf w
+  keeps-list = cell-list w′ few H (z .size) rest (cell 1 (omega arith)) (cell 2 (omega arith)) (omega (arith, cell 0 (omega arith), H .cursor)) before
+
+  -- a goal's
+  placed-goal : (k : ℕ) → place ≡ 8064 + k → k < length goals → Placed t goals w′ k
+  unfolding placeNumber
+  placed-goal k e b =
+      let p : placeOf w′ ≡ 8064 + k = z .cell ∙ e in
+      record {
+        number = rw (p, le-ltb (8064 + k) 8064 (omega arith)) (omega arith);
+        goal = λ i. omega (arith, p, b);
+        held = λ i. absurd (omega (arith, i, p));
+        column = λ i. absurd (omega (arith, i, p));
+      }
+
+  -- that of a position's clause
+  placed-at : (q j : ℕ) → place ≡ 4 * q + j → j < 4 → q < tail w 0 → q < 2016 → j < length (expand t (litAt (tail w) q)) → Placed t goals w′ (baseOf (tail w) q + j)
+  unfolding placeNumber
+  placed-at q j e c b o l =
+      let p : placeOf w′ ≡ 4 * q + j = z .cell ∙ e in
+      let d : (4 * q + j) / 4 ≡ q = omega (arith, c) in
+      let f : (4 * q + j) % 4 ≡ j = omega (arith, c) in
+      record {
+        number = rw (p, lt-ltb (4 * q + j) 8064 (omega (arith, c, o)), d, f) (ap (_+ j) (rest (4 + (4034 + q)) (omega arith)));
+        goal = λ i. absurd (omega (arith, i, p, c, o));
+        held = λ i. rw (p, d) (omega (arith, b, rest 4 (omega arith)));
+        column = λ i. rw (p, d, f, rest (4 + (1 + q)) (omega arith)) l;
+      }
+
+-- ---- the moves
+
+module _ {t : ℕ → Node} {n : ℕ} {goals w m : List ℕ} (few : n ≤ 2016) (gs : Goals n goals) (H : Holds t n goals w m) where
+  abbrev G : List ℕ
+  G = gOf w
+
+  abbrev r : ℕ → ℕ
+  r = tail w
+
+  abbrev C : ℕ → List State
+  C k = sofar t goals G r k
+
+  abbrev S : ℕ → List State
+  S q = statesAt t G r q
+
+  most : r 0 ≤ 2016
+  most = omega (arith, count-most (H .ready), few)
+
+  pub base-low : (q : ℕ) → q ≤ r 0 → baseOf r q ≤ 8192
+  base-low q i = base-most (H .ready) t few gs (H .numbered) q i
+
+  base-is : (q : ℕ) → q ≤ r 0 → length (C q) ≡ baseOf r q
+  base-is q i = sofar-length t goals G r q ∙ sym (H .numbered q i)
+
+  move-is : moveOf (C (r 0)) ≡ move (expand t) goals G
+  unfolding move
+  move-is = refl
+
+  -- a goal's clause by its value
+  goal-at : (p : State → Bool) (b : Bool) (k : ℕ) → k < length goals → p (joined (valueOf G (getD goals k 0)) (getD goals k 0) empty) ≡ b → p (getD (C 0) k met) ≡ b
+  goal-at p b k i e = ap p (goal-state t goals G r k i) ∙ e
+
+  no-goal : (p : State → Bool) → ((k : ℕ) → k < length goals → p (joined (valueOf G (getD goals k 0)) (getD goals k 0) empty) ≡ false) → some p (C 0) ≡ false
+  no-goal p f = none-by p (C 0) (λ k i. let b : k < length goals = omega (arith, i, goals-length t goals G r) in goal-at p false k b (f k b))
+
+  none-false : Without 2 goals G → some isEmpty (C 0) ≡ false
+  none-false f = no-goal isEmpty (λ k i. goal-unfalse (valueOf G (getD goals k 0)) (getD goals k 0) (f k i))
+
+  true-goal : waitingOf w ≡ 0 → (k : ℕ) → k < length goals → valueCode (valueOf G (getD goals k 0)) ≡ 1
+  true-goal z k i = ap valueCode (H .waiting .over z k i)
+
+  pub without : waitingOf w ≡ 0 → Without 2 goals G
+  without z k i e = omega (arith, e, true-goal z k i)
+
+  -- ---- a conflict
+
+  -- on a goal
+  pub conflict-goal : {k : ℕ} {w′ : List ℕ} → FirstGoal goals G 2 k → k < length goals → CellSet 3 (8064 + k) w w′ → Moved t n goals w w′ m (Conflict k)
+  conflict-goal {k} f i z =
+      let b : k < length (C 0) = omega (arith, i, goals-length t goals G r) in
+      let a = first-at isEmpty (C 0) k b (goal-at isEmpty true k i (goal-false (valueOf G (getD goals k 0)) (getD goals k 0) (f .here i)))
+      (λ j y. goal-at isEmpty false j (omega (arith, y, i)) (goal-unfalse (valueOf G (getD goals j 0)) (getD goals j 0) (f .before j y))) in
+      let o = found-goal t goals G r isEmpty (r 0) (a .0) in
+      record {
+        is = ap Conflict (sym (o .1 ∙ a .1)) ∙ sym (move-conflict (C (r 0)) (o .0)) ∙ move-is;
+        holds-on = keeps few H z;
+        list = keeps-list few H z;
+        kept = placed-goal few H z k refl i;
+      }
+
+  -- on the first position that has one
+  module _ {q : ℕ} (e : q ≡ conflictOf w) (i : q < 2016) where
+    conflict-there : (q < r 0) × (some isEmpty (S q) ≡ true)
+    conflict-there = subst (Closed t G r) (sym e) (H .closed) i
+
+    pub conflict-low : q < r 0
+    conflict-low = conflict-there .0
+
+    pub conflict-position : {code : ℕ} {w′ : List ℕ} → Without 2 goals G → Coded (t (litAt r q / 2)) (S q) code → CellSet 3 (4 * q + code / 256 % 4) w w′
+        → {k : ℕ} → k ≡ baseOf r q → Moved t n goals w w′ m (Conflict (k + code / 256 % 4))
+    conflict-position {code} f c z {k} y =
+        let (b, s) = conflict-there in
+        let n = none-sofar t goals G r isEmpty q (none-false f) (λ p a. is-false (some isEmpty (S p)) (λ u. omega (arith, e, a, H .entered p (omega (arith, a, b)) .conflict u))) in
+        let o = found-position t goals G r isEmpty q (r 0) b n s in
+        let j : code / 256 % 4 ≡ firstOf isEmpty (S q) = c .conflict-clause s in
+        let l : code / 256 % 4 < length (expand t (litAt r q)) = omega (arith, j, first-low isEmpty (S q) s, length-map (expand t (litAt r q)) (stateOf G)) in
+        record {
+          is =
+              ap Conflict (ap (_+ code / 256 % 4) (y ∙ sym (base-is q (omega (arith, b)))) ∙ ap (length (C q) +_) j ∙ sym (o .1))
+              ∙ sym (move-conflict (C (r 0)) (o .0)) ∙ move-is;
+          holds-on = keeps few H z;
+          list = keeps-list few H z;
+          kept = rw y (placed-at few H z q (code / 256 % 4) refl (omega arith) b i l);
+        }
+
+  -- ---- no conflict
+
+  module _ (free : 2016 ≤ conflictOf w) where
+    position-free : (q : ℕ) → q < r 0 → some isEmpty (S q) ≡ false
+    position-free q i = is-false (some isEmpty (S q)) (λ u. omega (arith, free, i, most, H .entered q i .conflict u))
+
+    all-free : Without 2 goals G → some isEmpty (C (r 0)) ≡ false
+    all-free f = none-sofar t goals G r isEmpty (r 0) (none-false f) position-free
+
+    -- a goal that is undecided
+    pub unit-goal-low : {k : ℕ} → Without 2 goals G → (waitingOf w ≡ 0 → ⊥) → FirstGoal goals G 0 k → k < length goals
+    unit-goal-low {k} f z u = go (decLt k (length goals))
+      where
+        go : Dec (k < length goals) → k < length goals
+        go (yes i) = i
+        go (no i) =
+            let (j, b, d) = H .waiting .on z in
+            absurd (u .before j (omega (arith, i, b)) (value-else (valueOf G (getD goals j 0)) (f j b) d))
+
+    pub unit-goal : {k : ℕ} {w′ : List ℕ} → Without 2 goals G → FirstGoal goals G 0 k → k < length goals → CellSet 3 (8064 + k) w w′
+        → Moved t n goals w w′ m (Single k (getD goals k 0))
+    unit-goal {k} f u i z =
+        let b : k < length (C 0) = omega (arith, i, goals-length t goals G r) in
+        let v = goal-unit (valueOf G (getD goals k 0)) (getD goals k 0) (u .here i) in
+        let a = first-at isOne (C 0) k b (goal-at isOne true k i (v .0))
+        (λ j y. goal-at isOne false j (omega (arith, y, i)) (goal-ununit (valueOf G (getD goals j 0)) (getD goals j 0) (u .before j y))) in
+        let o = found-goal t goals G r isOne (r 0) (a .0) in
+        let l : literalAt (C (r 0)) (firstOf isOne (C (r 0))) ≡ getD goals k 0 =
+        o .2 ∙ ap (literalAt (C 0)) (a .1) ∙ ap literalOf (goal-state t goals G r k i) ∙ v .1 in
+        record {
+          is = single-same (sym (o .1 ∙ a .1)) (sym l) ∙ sym (move-unit (C (r 0)) (all-free f) (o .0)) ∙ move-is;
+          holds-on = keeps few H z;
+          list = keeps-list few H z;
+          kept = placed-goal few H z k refl i;
+        }
+
+    -- ---- every goal is true
+
+    module _ (z₀ : waitingOf w ≡ 0) where
+      no-unit-goal : some isOne (C 0) ≡ false
+      no-unit-goal = no-goal isOne (λ k i. goal-ununit (valueOf G (getD goals k 0)) (getD goals k 0) (λ e. omega (arith, e, true-goal z₀ k i)))
+
+      -- the first position that has a unit
+      module _ {q : ℕ} (f : First m q) where
+        pub unit-low : q < r 0
+        unit-low = go (decLt q (r 0))
+          where
+            go : Dec (q < r 0) → q < r 0
+            go (yes i) = i
+            go (no i) = absurd (omega (arith, H .clear q (omega (arith, i)) (f .low), f .here))
+
+        unit-there : some isOne (S q) ≡ true
+        unit-there = bit-true (some isOne (S q)) (sym (H .entered q unit-low .unit) ∙ f .here)
+
+        pub unit-choice : {code : ℕ} → Coded (t (litAt r q / 2)) (S q) code → Choice (t (litAt r q / 2)) (code / 32 % 8) (literalAt (S q) (firstOf isOne (S q)))
+        unit-choice c = c .unit-literal unit-there
+
+        pub unit-position : {code l k : ℕ} {w′ : List ℕ} → Coded (t (litAt r q / 2)) (S q) code → CellSet 3 (4 * q + code / 8 % 4) w w′
+            → k ≡ baseOf r q → l ≡ chosen (t (litAt r q / 2)) (code / 32 % 8) → Moved t n goals w w′ m (Single (k + code / 8 % 4) l)
+        unit-position {code} {l} {k} c z y e =
+            let n = none-sofar t goals G r isOne q no-unit-goal (λ p a. bit-false (some isOne (S p)) (sym (H .entered p (omega (arith, a, unit-low)) .unit) ∙ f .before p a)) in
+            let o = found-position t goals G r isOne q (r 0) unit-low n unit-there in
+            let j : code / 8 % 4 ≡ firstOf isOne (S q) = c .unit-clause unit-there in
+            let b : code / 8 % 4 < length (expand t (litAt r q)) =
+            omega (arith, j, first-low isOne (S q) unit-there, length-map (expand t (litAt r q)) (stateOf G)) in
+            record {
+              is =
+                  single-same (ap (_+ code / 8 % 4) (y ∙ sym (base-is q (omega (arith, unit-low)))) ∙ ap (length (C q) +_) j ∙ sym (o .1))
+                  (e ∙ unit-choice c .1 ∙ sym (o .2))
+                  ∙ sym (move-unit (C (r 0)) (all-free (without z₀)) (o .0)) ∙ move-is;
+              holds-on = keeps few H z;
+              list = keeps-list few H z;
+              kept = rw y (placed-at few H z q (code / 8 % 4) refl (omega arith) unit-low (omega (arith, unit-low, most)) b);
+            }
+
+      -- no unit: a split at the first position that has an open clause, or none
+      module _ {q : ℕ} {w′ : List ℕ} (none : Empty m) (f : FirstOpen t w q) (z : CellSet 0 q w w′) where
+        no-unit : some isOne (C (r 0)) ≡ false
+        no-unit =
+            none-sofar t goals G r isOne (r 0) no-unit-goal
+            (λ p a. bit-false (some isOne (S p)) (sym (H .entered p a .unit) ∙ none p (omega (arith, a, most))))
+
+        no-open-goal : some isOpen (C 0) ≡ false
+        no-open-goal = no-goal isOpen (λ k i. rw (H .waiting .over z₀ k i))
+
+        -- none before q is open
+        closed-before : (p : ℕ) → p < q → some isOpen (S p) ≡ false
+        closed-before p a = go (decLt p (cursorOf w))
+          where
+            go : Dec (p < cursorOf w) → some isOpen (S p) ≡ false
+            go (yes i) = met-closed (S p) (H .met-before p i)
+            go (no i) = is-false (some isOpen (S p)) (f .before p (omega (arith, i)) a)
+
+        rest₀ : (i : ℕ) → 0 < i → getD w′ i 0 ≡ getD w i 0
+        rest₀ i b = z .other i (λ e. omega (arith, e, b))
+
+        before₀ : AllMet t G r (cursorOf w′)
+        before₀ =
+            subst (AllMet t G r) (sym (z .cell))
+            (λ p a. all-met (S p) (position-free p (omega (arith, a, f .low))) (closed-before p a))
+
+        pub on : Holds t n goals w′ m
+        on = cell-holds w′ few H (z .size) (λ i b. rest₀ i (omega arith)) (rest₀ 1 (omega arith)) (rest₀ 2 (omega arith)) (omega (arith, z .cell, f .low)) before₀
+
+        pub on-list : gOf w′ ≡ G
+        on-list = cell-list w′ few H (z .size) (λ i b. rest₀ i (omega arith)) (rest₀ 1 (omega arith)) (rest₀ 2 (omega arith)) (omega (arith, z .cell, f .low)) before₀
+
+        count-is : {c : ℕ} → c ≡ length (gOf w′) → c ≡ r 0
+        count-is e = e ∙ ap length on-list ∙ trail-length (r 0) r
+
+        pub done : {c : ℕ} → c ≡ length (gOf w′) → c ≤ q → Moved t n goals w w′ m Done
+        done e i = record {
+          is =
+              sym (move-done (C (r 0)) (all-free (without z₀)) no-unit
+              (none-sofar t goals G r isOpen (r 0) no-open-goal (λ p a. closed-before p (omega (arith, a, count-is e, i))))) ∙ move-is;
+          holds-on = on;
+          list = on-list;
+          kept = tt;
+        }
+
+        module _ {c : ℕ} (e : c ≡ length (gOf w′)) (i : q < c) where
+          pub split-low : q < tail w′ 0
+          split-low = omega (arith, i, count-is e, rest₀ 4 (omega arith))
+
+          -- of the codes and literals that are read after the cursor has moved on
+          pub split : {l y code : ℕ} → y ≡ litAt (tail w′) q → Coded (t (litAt (tail w′) q / 2)) (statesAt t (gOf w′) (tail w′) q) code
+              → (code / 1024 % 8 / 2 < length (operands (t (y / 2)))) × (l ≡ chosen (t (y / 2)) (code / 1024 % 8) → Moved t n goals w w′ m (Split l))
+          split {l} {y} {code} u v =
+              let same : tail w′ ≡ r = fun-ext (λ j. rest₀ (4 + j) (omega arith)) in
+              let b : q < r 0 = omega (arith, i, count-is e) in
+              let s = f .here b in
+              let v′ : Coded (t (litAt r q / 2)) (S q) code = subst (λ (h : ℕ → ℕ). Coded (t (litAt h q / 2)) (statesAt t (held h) h q) code) same v in
+              let y′ : y ≡ litAt r q = u ∙ rest₀ (4 + (1 + q)) (omega arith) in
+              let d = v′ .unmet-literal s in
+              let n = none-sofar t goals G r isOpen q no-open-goal closed-before in
+              let o = found-position t goals G r isOpen q (r 0) b n s in (
+                rw y′ (d .0),
+                λ k. record {
+                  is =
+                      ap Split (k ∙ ap (λ (a : ℕ). chosen (t (a / 2)) (code / 1024 % 8)) y′ ∙ d .1 ∙ sym (o .2))
+                      ∙ sym (move-split (C (r 0)) (all-free (without z₀)) no-unit (o .0)) ∙ move-is;
+                  holds-on = on;
+                  list = on-list;
+                  kept = tt;
+                },
+              )

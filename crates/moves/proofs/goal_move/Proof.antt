@@ -1,0 +1,98 @@
+-- `moves::goal_move` meets its contract. Assumes nothing.
+use mathlib.Core.Path.{refl}
+use Rattle.moves.proofs.Moves.{without-by, conflict-goal, unit-goal-low, unit-goal}
+use native.Mathlib.Omega.{arith}
+use borrow.Author.Needs.{needs}
+use Rattle.moves.proofs.goal_move.Statement.{statement}
+use Rattle.moves.proofs.goal_move.Tie as tie
+
+goal-of-requires : tie.Need-goal-of-requires
+goal-of-requires c κs = search needs
+
+add-keep : tie.Need-add-keep
+add-keep c = search needs
+
+keep-requires : tie.Need-keep-requires
+keep-requires c κs = search needs
+
+cast-t17 : tie.Need-cast-t17
+cast-t17 c = search needs
+
+same-length : tie.Need-same-length
+same-length c = search needs
+
+returns : tie.Need-returns
+returns c =
+    let s = c .before .before .before .before .before .before .before .before .before .before .before in
+    conflict-goal (s .pre .0 .few) (s .pre .1 .0) (s .pre .1 .1 .0) (c .before .before .before .before .before .goal-of .ensures) (c .before .before .before .before .if1 .taken) (c .before .before .keep .ensures)
+
+slice-read-c : tie.Need-slice-read-c
+slice-read-c c = search needs
+
+cast-c : tie.Need-cast-c
+cast-c c = omega (arith, c .slice-known3 .given 1)
+
+conflict-at-requires : tie.Need-conflict-at-requires
+conflict-at-requires c κs =
+    let s = c .before .before .before .before .before .before .before .before .before .before in
+    (s .pre .0, (s .pre .1 .0, (s .pre .1 .1 .0, (refl, c .before .if2 .taken, without-by (c .before .before .before .before .goal-of .ensures) (c .before .before .before .if1 .left)))))
+
+same-length-2 : tie.Need-same-length-2
+same-length-2 c = search needs
+
+returns-2 : tie.Need-returns-2
+returns-2 c = search needs
+
+goal-of-requires-2 : tie.Need-goal-of-requires-2
+goal-of-requires-2 c κs = search needs
+
+add-keep-2 : tie.Need-add-keep-2
+add-keep-2 c = search needs
+
+keep-requires-2 : tie.Need-keep-requires-2
+keep-requires-2 c κs = search needs
+
+cast-t19 : tie.Need-cast-t19
+cast-t19 c = search needs
+
+mul-t11 : tie.Need-mul-t11
+mul-t11 c = search needs
+
+shared-slice-read-t28 : tie.Need-shared-slice-read-t28
+shared-slice-read-t28 c =
+    let s = c .before .before .before .before .before .before .before .before .before .before .before .before .before .before .before .before in
+    unit-goal-low (s .pre .0 .few) (s .pre .1 .0) (s .pre .1 .1 .0) (c .before .before .before .before .before .before .before .if2 .left) (without-by (c .before .before .before .before .before .before .before .before .before .before .goal-of .ensures) (c .before .before .before .before .before .before .before .before .before .if1 .left)) (s .pre .1 .1 .1) (c .before .before .before .before .before .goal-of2 .ensures)
+
+same-length-3 : tie.Need-same-length-3
+same-length-3 c = search needs
+
+returns-3 : tie.Need-returns-3
+returns-3 c =
+    let s = c .before .before .before .before .before .before .before .before .before .before .before .before .before .before .before .before in
+    let f = without-by (c .before .before .before .before .before .before .before .before .before .before .goal-of .ensures) (c .before .before .before .before .before .before .before .before .before .if1 .left) in
+    let i = unit-goal-low (s .pre .0 .few) (s .pre .1 .0) (s .pre .1 .1 .0) (c .before .before .before .before .before .before .before .if2 .left) f (s .pre .1 .1 .1) (c .before .before .before .before .before .goal-of2 .ensures) in
+    unit-goal (s .pre .0 .few) (s .pre .1 .0) (s .pre .1 .1 .0) (c .before .before .before .before .before .before .before .if2 .left) f (c .before .before .before .before .before .goal-of2 .ensures) i (c .before .before .before .keep2 .ensures)
+
+pub goal-move-spec : {M : Type 1} → statement M
+goal-move-spec =
+    tie.close
+    (tie.spec
+    goal-of-requires
+    add-keep
+    keep-requires
+    cast-t17
+    same-length
+    returns
+    slice-read-c
+    cast-c
+    conflict-at-requires
+    same-length-2
+    returns-2
+    goal-of-requires-2
+    add-keep-2
+    keep-requires-2
+    cast-t19
+    mul-t11
+    shared-slice-read-t28
+    same-length-3
+    returns-3)
