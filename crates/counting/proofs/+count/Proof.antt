@@ -31,8 +31,18 @@ count-below t = and 5 count-kinds.ps (falls 5 count-kinds.ps _<_ μ-count t) cou
 
 abbrev count-claims : ℕ → count-lts.Claims
 count-claims t = (
-  units-reads.Asked, units-reads.Learnt, count-reads.Asked, count-reads.Learnt, assume-reads.Asked, assume-reads.Learnt,
-  count-below t, count.Post, undo-to-reads.Asked, undo-to-reads.Learnt, negated-reads.Asked, negated-reads.Learnt,
+  units-reads.Asked,
+  units-reads.Learnt,
+  count-reads.Asked,
+  count-reads.Learnt,
+  assume-reads.Asked,
+  assume-reads.Learnt,
+  count-below t,
+  count.Post,
+  undo-to-reads.Asked,
+  undo-to-reads.Learnt,
+  negated-reads.Asked,
+  negated-reads.Learnt,
 )
 
 count-units-requires : (t : ℕ) → count-lts.Need-units-requires (count-claims t) (count-at t) count.Post
@@ -92,7 +102,8 @@ count-undo-to-requires t c κs =
 
 count-negated-requires : (t : ℕ) → count-lts.Need-negated-requires (count-claims t) (count-at t) count.Post
 count-negated-requires t c κs =
-    let at-stop = c .before .before .before .before .before .before .before .before .before .before .before .before .before .before .before .before .before .before .before .before .before .before .before .before .before .before .before .before .before in
+    let far-0 = c .before .before .before .before .before .before .before .before .before .before .before .before .before .before .before .before .before .before .before .before in
+    let at-stop = far-0 .before .before .before .before .before .before .before .before .before in
     let at-units = at-stop .before .before .before .before .before .before in
     let s = at-units .before .before .before .before .before .before .before in
     let p = s .pre .1 .1 in
@@ -129,8 +140,10 @@ count-count-requires-3 t c κs =
     let p = s .pre .1 .1 in
     let f = forked (at-units .units .ensures .settled) (p .0 .table) (p .1 .0 .below) (at-stop .stop .given .1) in
     let x = at-count .count2 .ensures .searched .grows in
-    let d = right-list f (at-count′ .count .ensures) (at-assume′ .assume .ensures .1) x (at-undo-to .undo-to .ensures .1) (at-negated .negated .ensures) (at-assume .assume2 .ensures .1) in
-    let low = left-low (at-units .units .ensures) (p .0 .table) (p .1 .0 .below) (at-stop .stop .given .1) (at-assume′ .assume .ensures .1) (at-count .count2 .ensures) (at-left .left .given .1) in
+    let d = right-list f (at-count′ .count .ensures) (at-assume′ .assume .ensures .1) x (at-undo-to .undo-to .ensures .1) (at-negated .negated .ensures)
+    (at-assume .assume2 .ensures .1) in
+    let low = left-low (at-units .units .ensures) (p .0 .table) (p .1 .0 .below) (at-stop .stop .given .1) (at-assume′ .assume .ensures .1) (at-count .count2 .ensures)
+    (at-left .left .given .1) in
     (omega (arith, s .pre .0, fork-less f d), (s .pre .1 .0, (p .0, (p .1 .0, (at-assume .assume2 .ensures .0, low)))))
 
 count-same-length : (t : ℕ) → count-lts.Need-same-length (count-claims t) (count-at t) count.Post
@@ -175,7 +188,15 @@ count-same-length-7 t c =
     let at-count′ = at-undo-to .before .before .before .before .before .before .before .before .before .before in
     let at-assume′ = at-count′ .before .before .before .before .before .before .before in
     let at-units = at-assume′ .before .before .before .before .before .before .before .before .before .before .before .before in
-    omega (arith, at-count .count3 .kept .1 .1 .1 .1 .0, at-assume .assume2 .kept .1 .1 .1 .0, at-undo-to .undo-to .kept .1 .1 .1 .0, at-count′ .count2 .kept .1 .1 .1 .1 .0, at-assume′ .assume .kept .1 .1 .1 .0, at-units .units .kept .1 .1 .1 .1 .0)
+    omega (
+      arith,
+      at-count .count3 .kept .1 .1 .1 .1 .0,
+      at-assume .assume2 .kept .1 .1 .1 .0,
+      at-undo-to .undo-to .kept .1 .1 .1 .0,
+      at-count′ .count2 .kept .1 .1 .1 .1 .0,
+      at-assume′ .assume .kept .1 .1 .1 .0,
+      at-units .units .kept .1 .1 .1 .1 .0,
+    )
 
 count-same-length-8 : (t : ℕ) → count-lts.Need-same-length-8 (count-claims t) (count-at t) count.Post
 count-same-length-8 t c =
@@ -185,7 +206,15 @@ count-same-length-8 t c =
     let at-count′ = at-undo-to .before .before .before .before .before .before .before .before .before .before in
     let at-assume′ = at-count′ .before .before .before .before .before .before .before in
     let at-units = at-assume′ .before .before .before .before .before .before .before .before .before .before .before .before in
-    omega (arith, at-count .count3 .kept .1 .1 .1 .1 .1 .0, at-assume .assume2 .kept .1 .1 .1 .1 .0, at-undo-to .undo-to .kept .1 .1 .1 .1 .0, at-count′ .count2 .kept .1 .1 .1 .1 .1 .0, at-assume′ .assume .kept .1 .1 .1 .1 .0, at-units .units .kept .1 .1 .1 .1 .1 .0)
+    omega (
+      arith,
+      at-count .count3 .kept .1 .1 .1 .1 .1 .0,
+      at-assume .assume2 .kept .1 .1 .1 .1 .0,
+      at-undo-to .undo-to .kept .1 .1 .1 .1 .0,
+      at-count′ .count2 .kept .1 .1 .1 .1 .1 .0,
+      at-assume′ .assume .kept .1 .1 .1 .1 .0,
+      at-units .units .kept .1 .1 .1 .1 .1 .0,
+    )
 
 count-returns-4 : (t : ℕ) → count-lts.Need-returns-4 (count-claims t) (count-at t) count.Post
 count-returns-4 t c =
@@ -203,7 +232,8 @@ count-returns-4 t c =
     let p = s .pre .1 .1 in
     let f = forked (at-units .units .ensures .settled) (p .0 .table) (p .1 .0 .below) (at-stop .stop .given .1) in
     let x = at-count′ .count2 .ensures .searched .grows in
-    let d = right-list f (at-count′′ .count .ensures) (at-assume′ .assume .ensures .1) x (at-undo-to .undo-to .ensures .1) (at-negated .negated .ensures) (at-assume .assume2 .ensures .1) in
+    let d = right-list f (at-count′′ .count .ensures) (at-assume′ .assume .ensures .1) x (at-undo-to .undo-to .ensures .1) (at-negated .negated .ensures)
+    (at-assume .assume2 .ensures .1) in
     let a = at-units .units .ensures in
     let e = at-stop .stop .given .1 in
     right-tallied a (p .0 .table) (p .1 .0 .below) e (at-assume′ .assume .ensures .1) (at-count′ .count2 .ensures) (at-left .left .given .1) d (at-count .count3 .ensures)

@@ -124,7 +124,8 @@ loop-again c =
     let k = rw (at-m .m .given .1) at (v .ensures .1 .1 .1) in
     let p = s .pre .1 in
     let a = at-assume .assume in
-    counting-unit r (p .0 .table) (p .1 .0 .below) e (sized-on k (at-clause-size .clause-size2 .ensures)) (at-capped .capped2 .ensures) (a .ensures .0) (a .ensures .1) (a .kept .1 .1 .1 .0) (a .kept .1 .1 .1 .1 .0)
+    counting-unit r (p .0 .table) (p .1 .0 .below) e (sized-on k (at-clause-size .clause-size2 .ensures)) (at-capped .capped2 .ensures) (a .ensures .0) (a .ensures .1)
+    (a .kept .1 .1 .1 .0) (a .kept .1 .1 .1 .1 .0)
 
 enum-told-2 : tie.Need-enum-told-2 Inv-loop μ-loop
 enum-told-2 c = search needs

@@ -14,6 +14,9 @@ start-requires c κs = search needs
 room-requires : tie.Need-room-requires
 room-requires c κs = search needs
 
+templates-requires : tie.Need-templates-requires
+templates-requires c κs = search needs
+
 slice-aggregate-count : tie.Need-slice-aggregate-count
 slice-aggregate-count c = search needs
 
@@ -22,9 +25,11 @@ add-count c = search needs
 
 count-requires : tie.Need-count-requires
 count-requires c κs =
-    let a = c .before .before .before .before .before .before in
-    let s = a .before .before .before .before .before .before .before in
-    (s .pre .0, (s .pre .1 .0, (a .start .ensures .0, omega arith)))
+    let at-templates = c .before .before .before in
+    let at-start = at-templates .before .before .before .before .before in
+    let s = at-start .before .before .before .before .before .before .before in
+    let p = s .pre in
+    (at-templates .templates .ensures, (p .0, (p .1 .0, (at-start .start .ensures .0, omega arith))))
 
 enum-told : tie.Need-enum-told
 enum-told c = search needs
@@ -37,57 +42,77 @@ same-length c = search needs
 
 returns : tie.Need-returns
 returns c =
-    let b = c .before .before .before .before .before .before .before in
-    produced-over _ _ _ _ (b .before .before .before .before .before .before .before .start .ensures .1) (b .before .before .before .room .ensures)
-    (b .count .ensures) (c .before .before .tally .given .1) (omega arith)
+    let at-tally = c .before .before in
+    let at-count = at-tally .before .before .before .before .before in
+    let at-room = at-count .before .before .before .before .before in
+    let at-start = at-room .before .before .before .before in
+    produced-over _ _ _ _ (at-start .start .ensures .1) (at-room .room .ensures) (at-count .count .ensures) (at-tally .tally .given .1) (omega arith)
 
 slice-aggregate-start-2 : tie.Need-slice-aggregate-start-2
 slice-aggregate-start-2 c = search needs
 
 start-requires-2 : tie.Need-start-requires-2
-start-requires-2 c κs = search needs
+start-requires-2 c κs =
+    let at-count = c .before .before .before .before .before .before .before .before .before in
+    let at-start = at-count .before .before .before .before .before .before .before .before .before in
+    let s = at-start .before .before .before .before .before .before .before in
+    let p = s .pre in
+    (p .0, (p .1 .0, (omega (arith, p .1 .1, at-count .count .kept .1 .1 .1 .1 .0, at-start .start .kept .1 .1 .1 .0), omega (arith, at-count .count .kept .1 .1 .1 .1 .1 .0, at-start .start .kept .1 .1 .1 .1 .0))))
 
 slice-aggregate-write : tie.Need-slice-aggregate-write
 slice-aggregate-write c = search needs
 
 write-requires : tie.Need-write-requires
 write-requires c κs =
-    let a = c .before .before .before .before .before .before in
-    let b = a .before .before .before .before .before .before .before .before .before .before in
-    let s = b .before .before .before .before .before .before .before .before .before .before .before .before .before .before in (
-      s .pre .0,
-      (
-        s .pre .1 .0,
-        (
-          a .start2 .ensures .0,
-          fits _ _ _ _ (b .before .before .before .before .before .before .before .start .ensures .1) (b .before .before .before .room .ensures)
-              (b .count .ensures) (a .before .before .before .before .before .tally .given .1)
-              (omega (arith, a .before .before .before .if1 .left)) (a .start2 .last .1 .1 .1 .0) (a .start2 .ensures .1),
-        ),
-      ),
-    )
+    let at-start = c .before .before .before .before .before .before .before in
+    let at-if = at-start .before .before .before in
+    let at-tally = at-if .before .before in
+    let at-count = at-tally .before .before .before .before .before in
+    let at-templates = at-count .before .before .before .before in
+    let at-room = at-templates .before in
+    let at-start′ = at-room .before .before .before .before in
+    let s = at-start′ .before .before .before .before .before .before .before in
+    let p = s .pre in
+    let f = fits _ _ _ _ (at-start′ .start .ensures .1) (at-room .room .ensures) (at-count .count .ensures) (at-tally .tally .given .1) (omega (arith, at-if .if1 .left)) (at-start .start2 .last .1 .1 .1 .0) (at-start .start2 .ensures .1) in
+    (at-templates .templates .ensures, (p .0, (p .1 .0, (at-start .start2 .ensures .0, f))))
 
 same-length-2 : tie.Need-same-length-2
 same-length-2 c = search needs
 
 returns-2 : tie.Need-returns-2
 returns-2 c =
-    let b = c .before .before .before .before .before in
-    produced-open _ _ _ _ (b .before .before .before .before .before .before .before .start .ensures .1) (b .before .before .before .room .ensures) (b .count .ensures) (c .enum-told .given .1)
+    let at-count = c .before .before .before .before .before in
+    let at-room = at-count .before .before .before .before .before in
+    let at-start = at-room .before .before .before .before in
+    produced-open _ _ _ _ (at-start .start .ensures .1) (at-room .room .ensures) (at-count .count .ensures) (c .enum-told .given .1)
 
 same-length-3 : tie.Need-same-length-3
-same-length-3 c = search needs
+same-length-3 c =
+    let at-write = c .before .before .before .before .before in
+    let at-start = at-write .before .before .before .before .before .before .before .before in
+    let at-count = at-start .before .before .before .before .before .before .before .before .before .before in
+    let at-start′ = at-count .before .before .before .before .before .before .before .before .before in
+    omega (
+      arith,
+      at-write .write .kept .1 .1 .1 .1 .0,
+      at-start .start2 .kept .1 .1 .1 .0,
+      at-count .count .kept .1 .1 .1 .1 .0,
+      at-start′ .start .kept .1 .1 .1 .0,
+    )
 
 same-length-4 : tie.Need-same-length-4
 same-length-4 c = search needs
 
 returns-3 : tie.Need-returns-3
 returns-3 c =
-    let a = c .before .before .before .before .before .before .before .before .before .before .before .before in
-    let b = a .before .before .before .before .before .before .before .before .before .before in
-    produced-steps _ _ _ _ (b .before .before .before .before .before .before .before .start .ensures .1) (b .before .before .before .room .ensures)
-    (b .count .ensures) (a .before .before .before .before .before .tally .given .1)
-    (omega (arith, a .before .before .before .if1 .left)) (a .start2 .last .1 .1 .1 .0) (a .start2 .ensures .1) (c .before .before .before .before .before .write .ensures)
+    let at-write = c .before .before .before .before .before in
+    let at-start = at-write .before .before .before .before .before .before .before .before in
+    let at-if = at-start .before .before .before in
+    let at-tally = at-if .before .before in
+    let at-count = at-tally .before .before .before .before .before in
+    let at-room = at-count .before .before .before .before .before in
+    let at-start′ = at-room .before .before .before .before in
+    produced-steps _ _ _ _ (at-start′ .start .ensures .1) (at-room .room .ensures) (at-count .count .ensures) (at-tally .tally .given .1) (omega (arith, at-if .if1 .left)) (at-start .start2 .last .1 .1 .1 .0) (at-start .start2 .ensures .1) (at-write .write .ensures)
 
 pub produce-spec : {M : Type 1} → statement M
 produce-spec =
@@ -96,6 +121,7 @@ produce-spec =
     slice-aggregate-start
     start-requires
     room-requires
+    templates-requires
     slice-aggregate-count
     add-count
     count-requires

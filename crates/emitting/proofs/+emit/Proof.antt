@@ -31,8 +31,18 @@ emit-below t = and 7 emit-kinds.ps (falls 7 emit-kinds.ps _<_ μ-emit t) emit.Pr
 
 abbrev emit-claims : ℕ → emit-lts.Claims
 emit-claims t = (
-  settle-reads.Asked, settle-reads.Learnt, count-reads.Asked, count-reads.Learnt, assume-reads.Asked, assume-reads.Learnt,
-  emit-below t, emit.Post, undo-to-reads.Asked, undo-to-reads.Learnt, negated-reads.Asked, negated-reads.Learnt,
+  settle-reads.Asked,
+  settle-reads.Learnt,
+  count-reads.Asked,
+  count-reads.Learnt,
+  assume-reads.Asked,
+  assume-reads.Learnt,
+  emit-below t,
+  emit.Post,
+  undo-to-reads.Asked,
+  undo-to-reads.Learnt,
+  negated-reads.Asked,
+  negated-reads.Learnt,
 )
 
 emit-settle-requires : (t : ℕ) → emit-lts.Need-settle-requires (emit-claims t) (emit-at t) emit.Post
@@ -91,7 +101,8 @@ emit-undo-to-requires t c κs =
 
 emit-negated-requires : (t : ℕ) → emit-lts.Need-negated-requires (emit-claims t) (emit-at t) emit.Post
 emit-negated-requires t c κs =
-    let at-turn = c .before .before .before .before .before .before .before .before .before .before .before .before .before .before .before .before .before .before .before .before .before .before .before .before .before .before .before .before .before .before in
+    let far-0 = c .before .before .before .before .before .before .before .before .before .before .before .before .before .before .before .before .before .before .before .before in
+    let at-turn = far-0 .before .before .before .before .before .before .before .before .before .before in
     let at-settle = at-turn .before .before .before .before .before .before .before .before .before in
     let s = at-settle .before .before .before .before .before .before .before .before .before .before in
     let p = s .pre .1 .1 in
@@ -157,7 +168,15 @@ emit-same-length-4 t c =
     let at-emit′ = at-undo-to .before .before .before .before .before .before .before .before .before in
     let at-assume′ = at-emit′ .before .before .before .before .before .before .before .before .before in
     let at-settle = at-assume′ .before .before .before .before .before .before .before .before .before .before .before .before .before .before .before in
-    omega (arith, at-emit .emit2 .kept .1 .1 .1 .1 .0, at-assume .assume2 .kept .1 .1 .1 .0, at-undo-to .undo-to .kept .1 .1 .1 .0, at-emit′ .emit .kept .1 .1 .1 .1 .0, at-assume′ .assume .kept .1 .1 .1 .0, at-settle .settle .kept .1 .1 .1 .1 .0)
+    omega (
+      arith,
+      at-emit .emit2 .kept .1 .1 .1 .1 .0,
+      at-assume .assume2 .kept .1 .1 .1 .0,
+      at-undo-to .undo-to .kept .1 .1 .1 .0,
+      at-emit′ .emit .kept .1 .1 .1 .1 .0,
+      at-assume′ .assume .kept .1 .1 .1 .0,
+      at-settle .settle .kept .1 .1 .1 .1 .0,
+    )
 
 emit-same-length-5 : (t : ℕ) → emit-lts.Need-same-length-5 (emit-claims t) (emit-at t) emit.Post
 emit-same-length-5 t c =
@@ -167,13 +186,23 @@ emit-same-length-5 t c =
     let at-emit′ = at-undo-to .before .before .before .before .before .before .before .before .before in
     let at-assume′ = at-emit′ .before .before .before .before .before .before .before .before .before in
     let at-settle = at-assume′ .before .before .before .before .before .before .before .before .before .before .before .before .before .before .before in
-    omega (arith, at-emit .emit2 .kept .1 .1 .1 .1 .1 .0, at-assume .assume2 .kept .1 .1 .1 .1 .0, at-undo-to .undo-to .kept .1 .1 .1 .1 .0, at-emit′ .emit .kept .1 .1 .1 .1 .1 .0, at-assume′ .assume .kept .1 .1 .1 .1 .0, at-settle .settle .kept .1 .1 .1 .1 .1 .0)
+    omega (
+      arith,
+      at-emit .emit2 .kept .1 .1 .1 .1 .1 .0,
+      at-assume .assume2 .kept .1 .1 .1 .1 .0,
+      at-undo-to .undo-to .kept .1 .1 .1 .1 .0,
+      at-emit′ .emit .kept .1 .1 .1 .1 .1 .0,
+      at-assume′ .assume .kept .1 .1 .1 .1 .0,
+      at-settle .settle .kept .1 .1 .1 .1 .1 .0,
+    )
 
 emit-same-length-6 : (t : ℕ) → emit-lts.Need-same-length-6 (emit-claims t) (emit-at t) emit.Post
 emit-same-length-6 t c =
     let at-emit = c .before .before .before .before .before .before in
-    let at-emit′ = at-emit .before .before .before .before .before .before .before .before .before .before .before .before .before .before .before .before .before .before .before .before .before .before .before .before .before .before in
-    let at-settle = at-emit′ .before .before .before .before .before .before .before .before .before .before .before .before .before .before .before .before .before .before .before .before .before .before .before .before in
+    let far-0 = at-emit .before .before .before .before .before .before .before .before .before .before .before .before .before .before .before .before .before .before .before .before in
+    let at-emit′ = far-0 .before .before .before .before .before .before in
+    let far-0 = at-emit′ .before .before .before .before .before .before .before .before .before .before .before .before .before .before .before .before .before .before .before .before in
+    let at-settle = far-0 .before .before .before .before in
     omega (arith, at-emit .emit2 .kept .1 .1 .1 .1 .1 .1 .0, at-emit′ .emit .kept .1 .1 .1 .1 .1 .1 .0, at-settle .settle .kept .1 .1 .1 .1 .1 .1 .0)
 
 emit-returns-2 : (t : ℕ) → emit-lts.Need-returns-2 (emit-claims t) (emit-at t) emit.Post

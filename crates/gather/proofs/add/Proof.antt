@@ -7,7 +7,9 @@ use Rattle.gather.proofs.add.Statement.{statement}
 use Rattle.gather.proofs.add.Tie as tie
 
 put-requires : tie.Need-put-requires
-put-requires c κs = (c .before .before .pre .gathers .few, c .before .before .pre .gathers .whole)
+put-requires c κs =
+    let s = c .before .before in
+    (s .pre .gathers .few, s .pre .gathers .whole)
 
 add-t10 : tie.Need-add-t10
 add-t10 c = search needs
@@ -31,10 +33,14 @@ same-length c = search needs
 
 returns-2 : tie.Need-returns-2
 returns-2 c =
-    let s = c .before .before .before .before .before .before .before .before .before .before in
+    let at-flush = c .before .before in
+    let at-if = at-flush .before .before .before .before in
+    let at-put = at-if .before in
+    let s = at-put .before .before .before in
     let a = s .args in
-    let f = c .before .before .flush in
-    push-full (a .out .now) (lent (a .block .now) (a .at)) (a .s) (s .pre) (c .before .before .before .before .before .before .before .put .last .0) (f .last .0) (c .before .before .before .before .before .before .before .put .ensures) (omega (arith, c .before .before .before .before .before .before .if1 .left)) (f .ensures) (f .kept .0)
+    let f = at-flush .flush in
+    push-full (a .out .now) (lent (a .block .now) (a .at)) (a .s) (s .pre) (at-put .put .last .0) (f .last .0) (at-put .put .ensures) (omega (arith, at-if .if1 .left))
+    (f .ensures) (f .kept .0)
 
 pub add-spec : {M : Type 1} → statement M
 add-spec =

@@ -8,8 +8,10 @@ use Rattle.gather.proofs.close.Tie as tie
 
 flush-requires : tie.Need-flush-requires
 flush-requires c κs =
-    let r = c .before .before .before .before .pre in
-    let p = place-for r (omega (arith, c .before .before .if1 .taken)) in
+    let at-if = c .before .before in
+    let s = at-if .before .before in
+    let r = s .pre in
+    let p = place-for r (omega (arith, at-if .if1 .taken)) in
     (r .gathers .whole, omega (arith, r .gathers .few), p .0, p .1)
 
 same-length : tie.Need-same-length
@@ -17,12 +19,16 @@ same-length c = search needs
 
 returns : tie.Need-returns
 returns c =
-    let a = c .before .before .before .before .before .before .before .args in
-    close-some (a .out .now) (gathered (a .block .now) (a .count) (a .blocks)) (c .before .before .flush .last .0) (omega (arith, c .before .before .before .before .before .if1 .taken)) (c .before .before .flush .ensures)
+    let at-flush = c .before .before in
+    let at-if = at-flush .before .before .before in
+    let s = at-if .before .before in
+    let a = s .args in
+    close-some (a .out .now) (gathered (a .block .now) (a .count) (a .blocks)) (at-flush .flush .last .0) (omega (arith, at-if .if1 .taken)) (at-flush .flush .ensures)
 
 returns-2 : tie.Need-returns-2
 returns-2 c =
-    let a = c .before .before .args in
+    let s = c .before .before in
+    let a = s .args in
     close-none (a .out .now) (gathered (a .block .now) (a .count) (a .blocks)) (λ h. omega (arith, c .if1 .left))
 
 pub close-spec : {M : Type 1} → statement M

@@ -19,25 +19,46 @@ loop-holds c =
     removing-starts (a .k) (a .removed) (a .out .now) _ (c .before .pre .gathers) (search needs)
 
 add-removal-requires : tie.Need-add-removal-requires Inv-loop μ-loop
-add-removal-requires c κs = removing-space (c .before .before .before .loop .inv) (c .before .before .before .before .before .pre) (omega (arith, c .before .before .loop-test .taken))
+add-removal-requires c κs =
+    let at-loop-test = c .before .before in
+    let at-loop = at-loop-test .before in
+    let s = at-loop .before .before in
+    removing-space (at-loop .loop .inv) (s .pre) (omega (arith, at-loop-test .loop-test .taken))
 
 add-i : tie.Need-add-i Inv-loop μ-loop
-add-i c = omega (arith, c .before .before .before .before .before .before .loop .inv .room, c .before .before .before .before .before .loop-test .taken)
+add-i c =
+    let at-loop-test = c .before .before .before .before .before in
+    let at-loop = at-loop-test .before in
+    omega (arith, at-loop .loop .inv .room, at-loop-test .loop-test .taken)
 
 loop-less : tie.Need-loop-less Inv-loop μ-loop
 loop-less c = omega (arith, c .before .before .before .before .before .loop-test .taken)
 
 loop-again : tie.Need-loop-again Inv-loop μ-loop
-loop-again c = removing-goes (c .before .before .before .before .before .before .loop .inv) (c .before .before .before .before .before .before .before .before .pre) (omega (arith, c .before .before .before .before .before .loop-test .taken)) (c .before .before .add-removal .ensures)
+loop-again c =
+    let at-add-removal = c .before .before in
+    let at-loop-test = at-add-removal .before .before .before in
+    let at-loop = at-loop-test .before in
+    let s = at-loop .before .before in
+    removing-goes (at-loop .loop .inv) (s .pre) (omega (arith, at-loop-test .loop-test .taken)) (at-add-removal .add-removal .ensures)
 
 add-requires : tie.Need-add-requires Inv-loop μ-loop
-add-requires c κs = last-space (c .before .before .before .loop .inv) (c .before .before .before .before .before .pre) (λ h. omega (arith, h, c .before .before .loop-test .left))
+add-requires c κs =
+    let at-loop-test = c .before .before in
+    let at-loop = at-loop-test .before in
+    let s = at-loop .before .before in
+    last-space (at-loop .loop .inv) (s .pre) (λ h. omega (arith, h, at-loop-test .loop-test .left))
 
 same-length : tie.Need-same-length Inv-loop μ-loop
 same-length c = search needs
 
 returns : tie.Need-returns Inv-loop μ-loop
-returns c = removing-ends (c .before .before .before .before .before .before .loop .inv) (c .before .before .before .before .before .before .before .before .pre) (λ h. omega (arith, h, c .before .before .before .before .before .loop-test .left)) (c .before .before .add .ensures)
+returns c =
+    let at-add = c .before .before in
+    let at-loop-test = at-add .before .before .before in
+    let at-loop = at-loop-test .before in
+    let s = at-loop .before .before in
+    removing-ends (at-loop .loop .inv) (s .pre) (λ h. omega (arith, h, at-loop-test .loop-test .left)) (at-add .add .ensures)
 
 pub push-move-spec : {M : Type 1} → statement M
 push-move-spec =

@@ -29,7 +29,20 @@ abbrev search-below : ℕ → In 4 search-kinds.ps
 search-below t = and 4 search-kinds.ps (falls 4 search-kinds.ps _<_ μ-search t) search′.Pre
 
 abbrev search-claims : ℕ → search-lts.Claims
-search-claims t = (propagate-reads.Asked, propagate-reads.Learnt, count-reads.Asked, count-reads.Learnt, assume-reads.Asked, assume-reads.Learnt, search-below t, search′.Post, undo-to-reads.Asked, undo-to-reads.Learnt, negated-reads.Asked, negated-reads.Learnt)
+search-claims t = (
+  propagate-reads.Asked,
+  propagate-reads.Learnt,
+  count-reads.Asked,
+  count-reads.Learnt,
+  assume-reads.Asked,
+  assume-reads.Learnt,
+  search-below t,
+  search′.Post,
+  undo-to-reads.Asked,
+  undo-to-reads.Learnt,
+  negated-reads.Asked,
+  negated-reads.Learnt,
+)
 
 search-propagate-requires : (t : ℕ) → search-lts.Need-propagate-requires (search-claims t) (search-at t) search′.Post
 search-propagate-requires t c κs = c .before .before .before .before .before .before .pre .1
@@ -91,7 +104,8 @@ search-undo-to-requires t c κs =
 
 search-negated-requires : (t : ℕ) → search-lts.Need-negated-requires (search-claims t) (search-at t) search′.Post
 search-negated-requires t c κs =
-    let at-place = c .before .before .before .before .before .before .before .before .before .before .before .before .before .before .before .before .before .before .before .before .before .before .before .before .before .before .before .before in
+    let far-0 = c .before .before .before .before .before .before .before .before .before .before .before .before .before .before .before .before .before .before .before .before in
+    let at-place = far-0 .before .before .before .before .before .before .before .before in
     let at-stop = at-place in
     let at-propagate = at-stop .before .before .before .before .before .before in
     let s = at-propagate .before .before .before .before .before .before .before in
@@ -128,7 +142,8 @@ search-search-requires-2 t c κs =
     let s = at-propagate .before .before .before .before .before .before .before in
     let p = s .pre .1 in
     let f = forked (at-propagate .propagate .ensures) (p .0 .table) (p .1 .0 .below) (at-stop .stop .given .1) in
-    let d = right-list f (at-count .count .ensures) (at-assume′ .assume .ensures .1) (at-search .search .ensures .grows) (at-undo-to .undo-to .ensures .1) (at-negated .negated .ensures) (at-assume .assume2 .ensures .1) in
+    let d = right-list f (at-count .count .ensures) (at-assume′ .assume .ensures .1) (at-search .search .ensures .grows) (at-undo-to .undo-to .ensures .1)
+    (at-negated .negated .ensures) (at-assume .assume2 .ensures .1) in
     (omega (arith, s .pre .0, fork-less f d), (p .0, (p .1 .0, at-assume .assume2 .ensures .0)))
 
 search-same-length : (t : ℕ) → search-lts.Need-same-length (search-claims t) (search-at t) search′.Post
@@ -164,7 +179,8 @@ search-returns-3 t c =
     let at-propagate = at-stop .before .before .before .before .before .before in
     let s = at-propagate .before .before .before .before .before .before .before in
     let p = s .pre .1 in
-    left-model (at-propagate .propagate .ensures) (p .0 .table) (p .1 .0 .below) (at-stop .stop .given .1) (at-assume .assume .ensures .1) (at-search .search .ensures) (c .enum-told3 .given .1)
+    left-model (at-propagate .propagate .ensures) (p .0 .table) (p .1 .0 .below) (at-stop .stop .given .1) (at-assume .assume .ensures .1) (at-search .search .ensures)
+    (c .enum-told3 .given .1)
 
 search-same-length-7 : (t : ℕ) → search-lts.Need-same-length-7 (search-claims t) (search-at t) search′.Post
 search-same-length-7 t c =
@@ -174,7 +190,15 @@ search-same-length-7 t c =
     let at-search′ = at-undo-to .before .before .before .before .before .before .before .before .before in
     let at-assume′ = at-search′ .before .before .before .before .before .before .before in
     let at-propagate = at-assume′ .before .before .before .before .before .before .before .before .before .before .before .before in
-    omega (arith, at-search .search2 .kept .1 .1 .1 .0, at-assume .assume2 .kept .1 .1 .1 .0, at-undo-to .undo-to .kept .1 .1 .1 .0, at-search′ .search .kept .1 .1 .1 .0, at-assume′ .assume .kept .1 .1 .1 .0, at-propagate .propagate .kept .1 .1 .1 .0)
+    omega (
+      arith,
+      at-search .search2 .kept .1 .1 .1 .0,
+      at-assume .assume2 .kept .1 .1 .1 .0,
+      at-undo-to .undo-to .kept .1 .1 .1 .0,
+      at-search′ .search .kept .1 .1 .1 .0,
+      at-assume′ .assume .kept .1 .1 .1 .0,
+      at-propagate .propagate .kept .1 .1 .1 .0,
+    )
 
 search-same-length-8 : (t : ℕ) → search-lts.Need-same-length-8 (search-claims t) (search-at t) search′.Post
 search-same-length-8 t c =
@@ -184,7 +208,15 @@ search-same-length-8 t c =
     let at-search′ = at-undo-to .before .before .before .before .before .before .before .before .before in
     let at-assume′ = at-search′ .before .before .before .before .before .before .before in
     let at-propagate = at-assume′ .before .before .before .before .before .before .before .before .before .before .before .before in
-    omega (arith, at-search .search2 .kept .1 .1 .1 .1 .0, at-assume .assume2 .kept .1 .1 .1 .1 .0, at-undo-to .undo-to .kept .1 .1 .1 .1 .0, at-search′ .search .kept .1 .1 .1 .1 .0, at-assume′ .assume .kept .1 .1 .1 .1 .0, at-propagate .propagate .kept .1 .1 .1 .1 .0)
+    omega (
+      arith,
+      at-search .search2 .kept .1 .1 .1 .1 .0,
+      at-assume .assume2 .kept .1 .1 .1 .1 .0,
+      at-undo-to .undo-to .kept .1 .1 .1 .1 .0,
+      at-search′ .search .kept .1 .1 .1 .1 .0,
+      at-assume′ .assume .kept .1 .1 .1 .1 .0,
+      at-propagate .propagate .kept .1 .1 .1 .1 .0,
+    )
 
 search-returns-4 : (t : ℕ) → search-lts.Need-returns-4 (search-claims t) (search-at t) search′.Post
 search-returns-4 t c =
