@@ -7,19 +7,13 @@ use lib.ListN.{getD, length}
 use Rattle.scope.specs.declared.Node.{Node}
 use Rattle.calculus.specs.Expansion.{neg, expand}
 use Rattle.calculus.specs.Order.{clauses}
-use Rattle.calculus.specs.Model.{All, Table, Fresh}
+use Rattle.calculus.specs.Model.{All, Fresh}
 pub use Rattle.calculus.specs.Model.{Goals}
+pub use Rattle.index.specs.Indexed.{Indexed}
 use Rattle.rules.specs.Rules.{Place, Branch, join}
-use Rattle.index.specs.Index.{indexSize, mostNodes, indexNode}
 use Rattle.area.specs.Area.{areaSize, mostClauses, mostSlots, strikesFrom, trailFrom, depth, newest, isWhole, splitCount, splitSize, splitHead, trailAt, trail, gOf, Trail, Same}
 use Rattle.area.specs.Strikes.{headOf, Strikes}
 use Rattle.branch.specs.Clauses.{flat, offset, Listed}
-
--- an index of n nodes
-pub record Indexed (x : List ℕ) (n : ℕ) : Type 0 where
-  pub size : length x ≡ indexSize
-  pub few : n ≤ mostNodes
-  pub table : Table n (indexNode x)
 
 -- ---- strikes
 

@@ -9,7 +9,7 @@ use area::SLOTS;
 use area::TRAIL;
 ghost use mathlib.Core.Path.{_≡_};
 ghost use mathlib.Core.List.{[]};
-ghost use Prim.Native.Nat.{suc, _+_, _-_, _*_, _/_, _%_, _≤_, _<_};
+ghost use Prim.Native.Nat.{suc, _+_, _*_, _/_, _%_, _≤_, _<_};
 ghost use lib.ListN.{length, getD, replicate};
 ghost use Rattle.calculus.specs.Expansion.{neg, chosen, expand};
 ghost use Rattle.calculus.specs.Model.{Fresh};

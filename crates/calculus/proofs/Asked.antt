@@ -1,7 +1,7 @@
 -- Laws of `asked`: when the rows before a search refuse nothing, and what is then known. Assumes nothing.
 use mathlib.Core.Path.{_≡_, ap, _∙_}
 use mathlib.Core.List.{List}
-use Prim.Native.Nat.{ℕ, _*_, _<_, _≤_}
+use Prim.Native.Nat.{ℕ, _*_, _<_}
 use native.Mathlib.Omega.{arith}
 use lib.Dec.{leb}
 use lib.ListN.{length, getD}
@@ -11,7 +11,6 @@ use Rattle.scope.specs.Outcome.{answer, fine, require, _>>_}
 use Rattle.scope.specs.Table.{decode}
 use Rattle.scope.proofs.Tests.{met, required, then-first, then-next, bound}
 use Rattle.scope.proofs.First.{all-fine, fine-each}
-use Rattle.calculus.specs.Model.{Below}
 use Rattle.calculus.specs.Decide.{goalRow, goalsTest, rowsTest, Admitted, asked}
 use Rattle.calculus.proofs.Lists.{all-at, all-index}
 

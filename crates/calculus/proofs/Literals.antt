@@ -91,6 +91,10 @@ module _ (G : List ℕ) (l : ℕ) where
   undecided-mem e = value-says undecided e
 
   -- a negation's value
+  pub fails-neg : valueOf G l ≡ fails → valueOf G (neg l) ≡ holds
+  unfolding valueOf
+  fails-neg e = rw (fails-mem e .1)
+
   pub undecided-neg : valueOf G l ≡ undecided → valueOf G (neg l) ≡ undecided
   unfolding valueOf
   undecided-neg e = rw (undecided-mem e .1, neg-neg l, undecided-mem e .0)
@@ -132,3 +136,10 @@ consistent n (x ∷ G) l g p q = go (mem-cases G x l p) (mem-cases G x (neg l) q
         let back : l ≡ neg x = sym (neg-neg l) ∙ ap neg q in
         true≢false (sym p ∙ ap (λ (k : ℕ). mem k G) back ∙ undecided-mem G x (g .0 .1) .1)
     go (inr p) (inr q) r = r p q
+
+pub holds-neg : (n : ℕ) (G : List ℕ) (l : ℕ) → Good n G → valueOf G l ≡ holds → valueOf G (neg l) ≡ fails
+unfolding valueOf
+holds-neg n G l g e =
+    let m : mem l G ≡ true = holds-mem G l e in
+    let o : mem (neg l) G ≡ false = is-false (mem (neg l) G) (consistent n G l g m) in
+    rw (o, neg-neg l, m)

@@ -1,7 +1,7 @@
 -- Laws of the count of the numbers that pass a test. Assumes nothing.
 use mathlib.Core.Path.{_≡_, refl, ap}
 use mathlib.Core.Bool.{Bool, true, false}
-use Prim.Native.Nat.{ℕ, zero, suc, _+_, _<_, _≤_}
+use Prim.Native.Nat.{ℕ, zero, suc, _+_, _<_}
 use native.Mathlib.Omega.{arith}
 use native.Mathlib.Decide.{ℕ-discrete}
 use Rattle.calculus.specs.Count.{one, tally}
@@ -40,29 +40,11 @@ tally-less p q k m i h a b =
     let y : one (q k) ≡ 0 = ap one b in
     omega (arith, tally-change p q k m i (λ j l n. h j n), x, y)
 
-one-most : (b : Bool) → one b ≤ 1
-one-most true = omega arith
-one-most false = omega arith
-
--- no more than all pass
-pub tally-most : (p : ℕ → Bool) (m : ℕ) → tally p m ≤ m
-unfolding tally
-tally-most p zero = omega arith
-tally-most p (suc m) = omega (arith, one-most (p m), tally-most p m)
-
--- all pass, or none does
+-- all pass
 pub tally-all : (p : ℕ → Bool) (m : ℕ) → ((j : ℕ) → j < m → p j ≡ true) → tally p m ≡ m
 unfolding tally
 tally-all p zero h = refl
 tally-all p (suc m) h =
     let a : one (p m) ≡ 1 = ap one (h m (omega arith)) in
     let b = tally-all p m (λ j k. h j (omega arith)) in
-    omega (arith, a, b)
-
-pub tally-none : (p : ℕ → Bool) (m : ℕ) → ((j : ℕ) → j < m → p j ≡ false) → tally p m ≡ 0
-unfolding tally
-tally-none p zero h = refl
-tally-none p (suc m) h =
-    let a : one (p m) ≡ 0 = ap one (h m (omega arith)) in
-    let b = tally-none p m (λ j k. h j (omega arith)) in
     omega (arith, a, b)

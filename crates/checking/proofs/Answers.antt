@@ -20,7 +20,6 @@ use Rattle.rules.specs.Derive.{checked, check}
 use Rattle.published.proofs.Calls.{check-derives}
 use Rattle.steps.specs.Opened.{placeOf, stepCount}
 use Rattle.steps.proofs.Form.{read-fine, read-steps, read-length, step-within}
-use Rattle.branch.specs.Holds.{Indexed}
 use Rattle.asking.specs.Asks.{Prepared}
 use Rattle.asking.proofs.Answers.{literal-small, asked-same}
 use Rattle.meaning.proofs.Derivations.{check-never, own-accepted}
@@ -75,10 +74,6 @@ module _ (d : List ℕ) {count : ℕ} (e : stepCount d ≡ answer count) where
         answered = q ∙ z ∙ ap (_>>= accepts (expand t) goals n) (sym steps-read);
         work = λ g s h. absurd (omega (arith, run-number (expand t) goals n (listFrom (stepAt d) 0 count) 0 (running root []) (sym (q ∙ z) ∙ ap checkedOf s)));
       }
-
--- an index as replay takes it
-pub index : {t goals : List ℕ} {needed lent area : ℕ} {x : List ℕ} {n : ℕ} → Prepared t goals needed lent area x n → Indexed x n
-index p = record { size = p .indexed .size; few = p .indexed .few; table = p .indexed .table }
 
 -- ---- the answer, and what it means
 

@@ -1,7 +1,7 @@
 // The clauses of a literal by TEMPLATES, and its code: what the clauses come to under the values of its node's operands.
 ghost use mathlib.Core.Path.{_≡_};
 ghost use mathlib.Core.List.{[]};
-ghost use Prim.Native.Nat.{_+_, _*_, _/_, _%_, _≤_, _<_};
+ghost use Prim.Native.Nat.{_+_, _*_, _/_, _≤_, _<_};
 ghost use lib.ListN.{length, getD};
 ghost use Rattle.calculus.specs.Expansion.{neg, chosen, expand};
 ghost use Rattle.calculus.specs.Model.{Good};

@@ -2,14 +2,13 @@
 -- its bytes. Assumes nothing.
 use mathlib.Core.Path.{_≡_, refl, ap}
 use mathlib.Core.List.{List, [], _∷_}
-use mathlib.Core.Bool.{Bool, true, false, _&&_, _||_}
-use Prim.Native.Nat.{ℕ, zero, suc, _+_, _*_, _/_, _%_, _<_, _≤_}
+use mathlib.Core.Bool.{Bool, true, false, _||_}
+use Prim.Native.Nat.{ℕ, suc, _+_, _*_, _/_, _%_, _<_, _≤_}
 use native.Mathlib.Omega.{arith}
-use lib.Dec.{eqb, lit<}
+use lib.Dec.{eqb}
 use lib.ListN.{length, getD}
-use borrow.Author.Tests.{eqb-true, leb-true, le-leb}
+use borrow.Author.Tests.{le-leb}
 use Rattle.scope.specs.declared.Node.{Node}
-use Rattle.scope.proofs.Tests.{and-left, and-right}
 use Rattle.calculus.specs.Expansion.{neg, expand}
 use Rattle.calculus.specs.Order.{valueOf, clauses, Tree, tree}
 use Rattle.calculus.specs.Model.{All, Table, Below, Good}
@@ -60,33 +59,6 @@ plain r = eqb r 85 || (eqb r 69 || (eqb r 67 || eqb r 83))
 or-cases : {A : Type 0} (a b : Bool) → (a || b) ≡ true → (a ≡ true → A) → (b ≡ true → A) → A
 or-cases true b e f g = f refl
 or-cases false b e f g = g e
-
-plain-small : (r : ℕ) → plain r ≡ true → r < 256
-plain-small r e =
-    or-cases (eqb r 85) (eqb r 69 || (eqb r 67 || eqb r 83)) e (λ q. omega (arith, eqb-true r 85 q))
-    (λ e. or-cases (eqb r 69) (eqb r 67 || eqb r 83) e (λ q. omega (arith, eqb-true r 69 q))
-    (λ e. or-cases (eqb r 67) (eqb r 83) e (λ q. omega (arith, eqb-true r 67 q)) (λ q. omega (arith, eqb-true r 83 q))))
-
--- a formed step's rule and position are bytes
-step-small : (s : Step) → stepOk s ≡ true → (s .rule < 256) × (s .position < 256)
-unfolding stepOk
-step-small s e =
-    by-test (eqb (s .rule) 82)
-    (λ q. (omega (arith, eqb-true (s .rule) 82 q), omega (arith, leb-true (s .position) _ (rw q at e))))
-    (λ q.
-    let f : (plain (s .rule) && eqb (s .position) 0) ≡ true = rw q at e in (
-      plain-small (s .rule) (and-left (plain (s .rule)) (eqb (s .position) 0) f),
-      omega (arith, eqb-true (s .position) 0 (and-right (plain (s .rule)) (eqb (s .position) 0) f)),
-    ))
-
--- and so are all its bytes
-pub step-bytes : (s : Step) → Formed s → (i : ℕ) → getD (stepBytes s) i 0 < 256
-unfolding stepBytes
-step-bytes s f zero = step-small s (f .ok) .0
-step-bytes s f (suc zero) = step-small s (f .ok) .1
-step-bytes s f (suc (suc zero)) = omega arith
-step-bytes s f (suc (suc (suc zero))) = omega (arith, f .small)
-step-bytes s f (suc (suc (suc (suc i)))) = lit< tt
 
 -- ---- the steps of a search
 

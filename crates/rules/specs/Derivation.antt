@@ -1,6 +1,6 @@
 -- 01, 'Derivations', third part: the one derivation in the solver's order. Assumes nothing.
 use mathlib.Core.List.{List, [], _∷_, _++_}
-use Prim.Native.Nat.{ℕ, zero, suc}
+use Prim.Native.Nat.{ℕ, suc}
 use lib.ListN.{getD}
 use mathlib.Core.Bool.{cond}
 use Rattle.calculus.specs.Expansion.{neg}

@@ -1,8 +1,8 @@
 -- 01, 'Derivations', first part: steps and their bytes. Assumes nothing.
-use mathlib.Core.List.{List, [], _∷_, _++_}
-use mathlib.Core.Bool.{Bool, true, false, cond, not, _&&_, _||_}
-use Prim.Native.Nat.{ℕ, _+_, _*_, _/_, _%_, suc}
-use lib.Dec.{eqb, leb, ltb}
+use mathlib.Core.List.{List, _∷_}
+use mathlib.Core.Bool.{Bool, cond, not, _&&_, _||_}
+use Prim.Native.Nat.{ℕ, _/_, _%_, suc}
+use lib.Dec.{eqb, leb}
 use lib.ListN.{length, getD}
 use Rattle.scope.specs.declared.Format.{Format}
 use Rattle.scope.specs.Outcome.{Outcome, answer, require, first, _>>_}

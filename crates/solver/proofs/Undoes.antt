@@ -1,7 +1,7 @@
 -- What undo_to and start leave. Assumes nothing.
 use Rattle.index.specs.Index.{mostNodes}
 use mathlib.Core.Path.{_≡_, refl, sym, ap, _∙_, subst}
-use mathlib.Core.Bool.{true, false, false≢true}
+use mathlib.Core.Bool.{false, false≢true}
 use mathlib.Core.List.{List, []}
 use Prim.Native.Nat.{ℕ, zero, suc, _+_, _-_, _<_, _≤_}
 use native.Mathlib.Omega.{arith}
@@ -89,10 +89,6 @@ module _ {t : ℕ → Node} {n to : ℕ} {goals w m w₁ : List ℕ} (few : n �
           (λ q i. (none-position t goals (gOf w₁) (tail w₁) isEmpty q (tail w₁ 0) i (none .0), none-position t goals (gOf w₁) (tail w₁) isOne q (tail w₁ 0) i (none .1))),
       settled-list few (k .ready) z ∙ list,
     )
-
-  -- what `leave` and `cursor_at` ask
-  pub leave-low : to < tail w 0
-  leave-low = under
 
   pub cursor-low : to < mostNodes
   cursor-low = omega (arith, under, most)

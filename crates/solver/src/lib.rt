@@ -3,7 +3,7 @@
 // The work area's layout is in crate state, specs/Work.antt, the index's in crate index.
 ghost use mathlib.Core.Path.{_≡_};
 ghost use mathlib.Core.List.{[], _∷_};
-ghost use Prim.Native.Nat.{_+_, _-_, _*_, _/_, _%_, _≤_, _<_};
+ghost use Prim.Native.Nat.{_+_, _-_, _*_, _%_, _≤_, _<_};
 ghost use lib.ListN.{length, drop};
 ghost use Rattle.calculus.specs.Expansion.{expand};
 ghost use Rattle.calculus.specs.Model.{Goals, Fresh};

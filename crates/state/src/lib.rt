@@ -1,6 +1,6 @@
 // The trail in the work area: a literal joins or the newest leaves, with their values. The layout is in specs/Work.antt.
 ghost use mathlib.Core.Path.{_≡_};
-ghost use Prim.Native.Nat.{_+_, _-_, _*_, _/_, _≤_, _<_};
+ghost use Prim.Native.Nat.{_+_, _-_, _*_, _≤_, _<_};
 ghost use lib.ListN.{length};
 ghost use Rattle.calculus.specs.Model.{Fresh};
 ghost use Rattle.calculus.specs.Order.{valueOf};

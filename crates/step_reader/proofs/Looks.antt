@@ -37,9 +37,6 @@ module _ (d e : List ℕ) where
 
 -- bytes of the same length whose block of the index is the same
 module _ (d e : List ℕ) (at : ℕ) (size : length d ≡ length e) (block : blockAt d (blockOf d at) ≡ blockAt e (blockOf d at)) where
-  same-of : blockOf d at ≡ blockOf e at
-  same-of = ap (λ (n : ℕ). min (at / 126) (n / 512 - 1)) size
-
   same-row : blockRow d (blockOf d at) ≡ blockRow e (blockOf e at)
   same-row = rw (block, size)
 

@@ -2,7 +2,7 @@
 use borrow.Author.Needs.{needs}
 use Rattle.codec.specs.Valid.{Bytes}
 use Rattle.asking.proofs.Answers.{ask-refused}
-use Rattle.checking.proofs.Answers.{index, refuses, ends}
+use Rattle.checking.proofs.Answers.{refuses, ends}
 use Rattle.checking.proofs.check.Statement.{statement}
 use Rattle.checking.proofs.check.Tie as tie
 
@@ -37,7 +37,7 @@ slice-aggregate-replayed-2 c = search needs
 replayed-requires : tie.Need-replayed-requires
 replayed-requires c κs =
     let p = c .before .before .before .before .before .before .before .ask .ensures .prepared _ (c .before .before .before .before .a2 .given .1) in
-    (index p, (p .literals, p .admitted .work))
+    (p .indexed, (p .literals, p .admitted .work))
 
 returns : tie.Need-returns
 returns c =

@@ -5,9 +5,6 @@ use native.Mathlib.Omega.{arith}
 use borrow.Author.Needs.{needs}
 use Rattle.clause.proofs.clause_of.Statement.{statement}
 use Rattle.clause.proofs.clause_of.Tie as tie
-use Rattle.clause.proofs.choose.Reads as choose-reads
-use Rattle.clause.proofs.row_of.Reads as row-of-reads
-use Rattle.clause.proofs.template.Reads as template-reads
 
 cast-node : tie.Need-cast-node
 cast-node c = search needs

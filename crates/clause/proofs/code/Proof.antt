@@ -8,8 +8,6 @@ use native.Mathlib.Omega.{arith}
 use borrow.Author.Needs.{needs}
 use Rattle.clause.proofs.code.Statement.{statement}
 use Rattle.clause.proofs.code.Tie as tie
-use Rattle.clause.proofs.row_of.Reads as row-of-reads
-use Rattle.clause.proofs.value.Reads as value-reads
 
 mul-value : tie.Need-mul-value
 mul-value c = search needs

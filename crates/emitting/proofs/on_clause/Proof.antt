@@ -1,5 +1,4 @@
 -- `emitting::on_clause` meets its contract: the clause is that of the move looked up. Assumes nothing.
-use native.Mathlib.Omega.{arith}
 use borrow.Author.Needs.{needs}
 use Rattle.counting.proofs.Counts.{placed-there}
 use Rattle.emitting.proofs.Steps.{removed-is}

@@ -1,5 +1,4 @@
 -- `gather::add_removal` meets its contract: a step where the bit says so, else none. Assumes nothing.
-use mathlib.Core.Path.{_≡_}
 use Rattle.gather.specs.Kept.{lent}
 use Rattle.gather.proofs.Pushes.{pushed-none}
 use Rattle.gather.proofs.Removes.{removal-some, removal-none}

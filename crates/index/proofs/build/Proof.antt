@@ -3,9 +3,6 @@ use Rattle.index.proofs.Cells.{linked-none, built}
 use borrow.Author.Needs.{needs}
 use Rattle.index.proofs.build.Statement.{statement}
 use Rattle.index.proofs.build.Tie as tie
-use Rattle.index.proofs.copy_codes.Reads as copy-codes-reads
-use Rattle.index.proofs.link.Reads as link-reads
-use Rattle.index.proofs.load.Reads as load-reads
 
 load-requires : tie.Need-load-requires
 load-requires c κs = search needs

@@ -6,7 +6,6 @@ use native.Mathlib.Omega.{arith}
 use borrow.Author.Needs.{needs}
 use Rattle.index.proofs.enter_node.Statement.{statement}
 use Rattle.index.proofs.enter_node.Tie as tie
-use Rattle.index.proofs.enter.Reads as enter-reads
 
 mul-s : tie.Need-mul-s
 mul-s c = search needs

@@ -8,8 +8,6 @@ use native.Mathlib.Omega.{arith}
 use borrow.Author.Needs.{needs}
 use Rattle.index.proofs.load_node.Statement.{statement}
 use Rattle.index.proofs.load_node.Tie as tie
-use Rattle.record.proofs.fields.Reads as fields-reads
-use Rattle.record.proofs.place.Reads as place-reads
 
 place-requires : tie.Need-place-requires
 place-requires c κs = search needs

@@ -5,8 +5,6 @@ use native.Mathlib.Omega.{arith}
 use borrow.Author.Needs.{needs}
 use Rattle.units.proofs.put.Statement.{statement}
 use Rattle.units.proofs.put.Tie as tie
-use Rattle.units.proofs.join.Reads as join-reads
-use Rattle.units.proofs.leave.Reads as leave-reads
 
 mul-old : tie.Need-mul-old
 mul-old c = search needs
