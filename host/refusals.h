@@ -30,7 +30,7 @@ static const struct refusal refusals[] = {
     { 17, ABOUT_TABLE, "the record repeats an earlier one", "node", READS_TABLE },
     { 20, ABOUT_GOAL, "the literal is not below twice the node count", "0", "record, evaluate, decide, derive, check" },
     { 21, ABOUT_FILE, "the settings are under 1,024 bytes", "0", "evaluate, decide" },
-    { 22, ABOUT_FILE, "the setting is not 0 or 1", "point", "evaluate" },
+    { 22, ABOUT_FILE, "the setting is above 2", "point", "evaluate" },
     { 23, ABOUT_TABLE, "the work area is under 32,768 numbers", "0", "decide, derive, check" },
     { 30, ABOUT_GOAL, "the goal is possible", "0", "derive" },
     { 31, ABOUT_GOAL, "the derivation needs more bytes than were lent, or more than 65,536 blocks", "0", "derive" },

@@ -26,7 +26,7 @@ extern "C" {
 #define BEV_VERSION_MAJOR 1
 #define BEV_VERSION_MINOR 1
 
-#define BEV_POINTS 1024             /* points of a setting, a byte each: 0 no, 1 yes */
+#define BEV_POINTS 1024             /* points of a setting, a byte each: 0 no, 1 yes, 2 either way */
 #define BEV_RECORD 8                /* bytes of a record */
 #define BEV_STEP 4                  /* bytes of a step */
 #define BEV_BLOCK 512               /* bytes of a block */
@@ -57,16 +57,17 @@ bev_counted bev_count(const uint8_t *table, size_t table_len);
 /* The record of a literal's node. Refusals: 10 to 17, 20. */
 bev_node bev_record(const uint8_t *table, size_t table_len, size_t literal);
 
-/* The truth (1 yes, 0 no) of a literal under the first 1,024 settings bytes; later bytes are not read. Refusals: 10 to 17, 20, 21, 22
- * at the point. */
+/* The truth (0 no, 1 yes, 2 unknown) of a literal under the first 1,024 settings bytes, by strong Kleene tables: a yes or no holds for
+ * every way of filling the 2s, and where no byte is 2 nothing is unknown. Later bytes are not read. Refusals: 10 to 17, 20, 21, 22 a
+ * byte above 2, at the point. */
 bev_truth bev_evaluate(const uint8_t *table, size_t table_len, size_t literal, const uint8_t *settings, size_t settings_len);
 
 /* Adds a record to the table in the first `used` bytes of a buffer; used 0 is an empty table. Answers the record's literal and the used
  * length; a record that is there already is found, and no byte changes. Refusals: 9, 10 to 17, then 14 to 16, 51, 52 at the node count. */
 bev_added bev_add(uint8_t *buffer, size_t buffer_len, size_t used, const uint8_t record[BEV_RECORD]);
 
-/* Whether some setting makes the goal true (1 possible, 0 impossible); if so the first 1,024 settings bytes become such a one, the one
- * that the solver's order ends on. Needs a work area of BEV_WORK numbers; every refusal leaves it as it was. Refusals: 10 to 17, 20,
+/* Whether some setting makes the goal true (1 possible, 0 impossible); if so the first 1,024 settings bytes become the setting that the
+ * solver's order ends on, with 2 for each point that may go either way: bev_evaluate says yes of the goal. Needs a work area of BEV_WORK numbers; every refusal leaves it as it was. Refusals: 10 to 17, 20,
  * 21, 23. */
 bev_decided bev_decide(const uint8_t *table, size_t table_len, size_t goal, uint8_t *settings, size_t settings_len, uint16_t *work, size_t work_len);
 

@@ -1,4 +1,4 @@
-/* bev_decide as a host calls it: against truth tables by brute force, against the solver's order in plain C (verdict and every
+/* bev_decide, and bev_evaluate where points may go either way, as a host calls them: against truth tables by brute force, against the solver's order in plain C (verdict and every
  * settings byte), every refusal with its place, canaries round each buffer, and the deepest table in a thread of 1 MiB. */
 #include "../include/bevaridhom.h"
 #include "order.h"
@@ -18,6 +18,20 @@ static int by_truth_table(const uint8_t *t, unsigned points, size_t goal)
     return 0;
 }
 
+/* Whether every way of filling the 2s of the first points gives literal l the truth. */
+static int filled(const uint8_t *t, const uint8_t *s, unsigned points, size_t l, int truth)
+{
+    static uint8_t f[1024];
+    memcpy(f, s, 1024);
+    for (unsigned w = 0; w < 1u << points; w++) {
+        for (unsigned p = 0; p < points; p++)
+            f[p] = s[p] == 2 ? w >> p & 1 : s[p];
+        if (o_truth(t, f, l) != truth)
+            return 0;
+    }
+    return 1;
+}
+
 static void goal_is(const uint8_t *t, size_t len, size_t goal, unsigned points)
 {
     static uint8_t s[1100], old[1100], right[1024];
@@ -30,7 +44,7 @@ static void goal_is(const uint8_t *t, size_t len, size_t goal, unsigned points)
     if (points)
         EXPECT(possible == by_truth_table(t, points, goal));
     if (possible)
-        EXPECT(o_truth(t, s, goal) && bev_evaluate(t, len, goal, s, 1024).truth == 1);
+        EXPECT(filled(t, s, points, goal, 1) && bev_evaluate(t, len, goal, s, 1024).truth == 1);
 }
 
 static void random_goals(void)
@@ -50,6 +64,28 @@ static void random_goals(void)
     }
     printf("random goals: %lu possible, %lu impossible\n", verdicts[1], verdicts[0]);
     EXPECT(verdicts[0] > 3000 && verdicts[1] > 3000);
+}
+
+/* Points that may go either way: strong Kleene tables, and a yes or no holds for every way of filling the 2s. */
+static void unknowns(void)
+{
+    static uint8_t t[16896], s[1024];
+    unsigned long seen[3] = { 0, 0, 0 };
+    for (int round = 0; round < 600; round++) {
+        unsigned points = 2 + pick(5);
+        size_t n = points + 1 + pick(24), len = random_table(t, points, n);
+        memset(s, 2, 1024);
+        for (unsigned p = 0; p < points; p++)
+            s[p] = (uint8_t)pick(3);
+        for (size_t l = 0; l < 2 * n; l++) {
+            bev_truth v = bev_evaluate(t, len, l, s, 1024);
+            EXPECT(v.number == 0 && v.truth == o_kleene(t, s, l));
+            EXPECT(v.truth == 2 || filled(t, s, points, l, v.truth));
+            seen[v.truth]++;
+        }
+    }
+    printf("unknowns: %lu no, %lu yes, %lu unknown\n", seen[0], seen[1], seen[2]);
+    EXPECT(seen[0] > 3000 && seen[1] > 3000 && seen[2] > 3000);
 }
 
 static void refusals(void)
@@ -114,6 +150,7 @@ int main(void)
     guard();
     refusals();
     random_goals();
+    unknowns();
     deepest();
     EXPECT(whole());
     printf("%lu checks, %lu failed\n", checks, failed);

@@ -5,7 +5,7 @@ import random
 import re
 
 from command import ANSWERED, IMPOSSIBLE, POSSIBLE, REFUSED, get, put
-from tables import A, ATOM, TRUE, by_truth_table, checked, derivation, edited, expansion, full_table, parity, search, some_table, table, truths, yes_points
+from tables import A, ATOM, TRUE, by_truth_table, checked, derivation, edited, expansion, full_table, parity, search, some_table, table, truths, setting_of
 
 def decision(records, goal, answers=None):
     """Status, output and settings that decide gives."""
@@ -14,10 +14,10 @@ def decision(records, goal, answers=None):
         assert (model is not None) == answers[goal // 2][goal % 2], "the order differs from the truth table"
     if model is None:
         return IMPOSSIBLE, "impossible\n", None
-    yes = set(yes_points(records, model))
-    assert truths(records, yes)[goal // 2] != (goal % 2 == 1)
+    setting = setting_of(records, model)
+    assert truths(records, {p for p in range(1024) if setting[p] == 1})[goal // 2] != (goal % 2 == 1)
     points = sorted(a for kind, a, _ in records if kind == ATOM)
-    return POSSIBLE, "possible\n" + "".join(f"{'yes' if p in yes else 'no'} {p}\n" for p in points), bytes(p in yes for p in range(1024))
+    return POSSIBLE, "possible\n" + "".join(f"{('no', 'yes', 'either')[setting[p]]} {p}\n" for p in points), setting
 
 def deciding(bev, folder, rounds):
     name, out = os.path.join(folder, "t"), os.path.join(folder, "s")

@@ -293,6 +293,8 @@ static void truths(void)
     EXPECT(bev_evaluate(t, len, 0, NULL, 0).number == 21);
     EXPECT(bev_evaluate(t, len, 0, c.p, 1024).number == 0);
     c.p[1023] = 2;
+    EXPECT(bev_evaluate(t, len, 0, c.p, 1024).number == 0);
+    c.p[1023] = 3;
     EXPECT(bev_evaluate(t, len, 0, c.p, 1024).number == 22 && bev_evaluate(t, len, 0, c.p, 1024).place == 1023);
     c.p[700] = 255;
     EXPECT(bev_evaluate(t, len, 0, c.p, 1024).place == 700);

@@ -116,6 +116,22 @@ static inline int o_truth(const uint8_t *t, const uint8_t *s, size_t literal)
     return literal % 2 ? !v : v;
 }
 
+/* The same where a point's 2 is unknown: 0 no, 1 yes, 2 unknown. A join is known where each way the unknown may go gives the same. */
+static inline int o_kleene(const uint8_t *t, const uint8_t *s, size_t literal)
+{
+    o_node x = o_get(o_at(t, literal / 2));
+    int v = x.kind == 2 ? s[x.a] : 1;
+    if (x.kind > 2) {
+        int a = o_kleene(t, s, x.a), b = o_kleene(t, s, x.b), seen = 0;
+        for (int way = 0; way < 4; way++) {
+            int p = a == 2 ? way & 1 : a, q = b == 2 ? way >> 1 : b;
+            seen |= 1 << (x.kind == 3 ? p && q : x.kind == 4 ? p || q : x.kind == 5 ? !p || q : p == q);
+        }
+        v = seen == 3 ? 2 : seen == 2;
+    }
+    return v == 2 ? 2 : literal % 2 ? !v : v;
+}
+
 /* The table that holds n records, written to a cleared buffer; its length. */
 static inline size_t o_build(uint8_t *t, const uint8_t (*records)[8], size_t n)
 {

@@ -137,7 +137,7 @@ static inline int o_search(o_state *s, const uint8_t *t, o_steps *d)
     }
 }
 
-/* Decide of a readable table and a goal in it: 1 possible with the settings, or 0. */
+/* Decide of a readable table and a goal in it: 1 possible with the settings (2 for a point of neither sign), or 0. */
 static inline int o_decide(const uint8_t *t, int goal, uint8_t *settings, o_steps *d)
 {
     static o_state s;
@@ -146,11 +146,11 @@ static inline int o_decide(const uint8_t *t, int goal, uint8_t *settings, o_step
     o_clause_of(&s, 1, goal, 0);
     if (!o_search(&s, t, d))
         return 0;
-    memset(settings, 0, 1024);
+    memset(settings, 2, 1024);
     for (int i = 0; i < s.count; i++) {
         o_node x = o_get(o_at(t, (size_t)s.held[i] / 2));
-        if (x.kind == 2 && s.held[i] % 2 == 0)
-            settings[x.a] = 1;
+        if (x.kind == 2)
+            settings[x.a] = s.held[i] % 2 == 0;
     }
     return 1;
 }

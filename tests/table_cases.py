@@ -51,14 +51,15 @@ def read(t):
             nodes.append(x)
     return nodes
 
-def truth(nodes, s, l):
+def truths(nodes, s, l):
+    """The truths that a literal may have, as strong Kleene tables join them: a point's 2 has both, and operands go their ways apart."""
     kind, a, b = nodes[l // 2]
     if kind <= 2:
-        v = kind == 1 or s[a] == 1
+        v = {True} if kind == 1 else {True, False} if s[a] == 2 else {s[a] == 1}
     else:
-        x, y = truth(nodes, s, a), truth(nodes, s, b)
-        v = {3: x and y, 4: x or y, 5: not x or y, 6: x == y}[kind]
-    return v != (l % 2 == 1)
+        join = {3: lambda x, y: x and y, 4: lambda x, y: x or y, 5: lambda x, y: not x or y, 6: lambda x, y: x == y}[kind]
+        v = {join(x, y) for x in truths(nodes, s, a) for y in truths(nodes, s, b)}
+    return {x != (l % 2 == 1) for x in v}
 
 def add(t, used, r):
     if used > len(t):
@@ -112,9 +113,10 @@ def evaluate(t, l, s):
     if len(s) < 1024:
         no(21)
     for p in range(1024):
-        if s[p] > 1:
+        if s[p] > 2:
             no(22, p)
-    return "yes" if truth(nodes, s, l) else "no"
+    may = truths(nodes, s, l)
+    return "unknown" if len(may) == 2 else "yes" if True in may else "no"
 
 def record_of(t, l):
     nodes = read(t)

@@ -119,8 +119,13 @@ def search(records, goal):
     model = branch([], [[goal]])
     return (model, None) if model is not None else (None, steps)
 
-def yes_points(records, model):
-    return sorted(records[l // 2][1] for l in model if l % 2 == 0 and records[l // 2][0] == ATOM)
+def setting_of(records, model):
+    """The settings bytes of a model: 1 and 0 for the held signs of points, 2 for the others."""
+    setting = bytearray([2] * 1024)
+    for l in model:
+        if records[l // 2][0] == ATOM:
+            setting[records[l // 2][1]] = 1 - l % 2
+    return bytes(setting)
 
 def checked(records, goal, steps):
     """What check says of steps: None, or a refusal's number and place."""

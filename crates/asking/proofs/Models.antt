@@ -1,18 +1,20 @@
 -- From the search to the truth of goals: a readable table's nodes are a Table, the truths under a setting are a Model, and so the
 -- calculus' theorems speak of settings, as evaluate takes them. Assumes nothing.
 use mathlib.Core.Path.{_≡_, refl, sym, ap, _∙_}
-use mathlib.Core.List.{List, [], _∷_, _++_}
-use mathlib.Core.Bool.{Bool, true, false, false≢true}
-use Prim.Native.Nat.{ℕ, _+_, _*_, _<_, _≤_}
+use mathlib.Core.List.{List, [], _∷_, _++_, map, append-nil}
+use mathlib.Core.Bool.{Bool, true, cond, false≢true}
+use Prim.Native.Nat.{ℕ, _+_, _-_, _*_, _/_, _%_, _<_, _≤_}
 use native.Mathlib.Omega.{arith}
-use native.Mathlib.Decide.{decLt}
+use native.Mathlib.Decide.{decLt, ℕ-discrete}
 use lib.Dec.{eqb, ltb}
-use lib.ListN.{length, getD, length-append, List·getD-append}
+use lib.ListN.{length, getD, length-append, length-map, List·getD-append, List·getD-map}
 use borrow.Author.Tests.{eq-eqb, eqb-true, lt-ltb, le-leb}
 use Rattle.scope.specs.declared.Node.{Node}
+use Rattle.scope.specs.declared.Truth.the-variants.{Yes}
 use Rattle.scope.specs.Outcome.{answer, fine, require}
 use Rattle.scope.specs.Table.{nodeBytes, formOk, sameNode, decode}
-use Rattle.scope.specs.Truth.{litTruth, truth}
+use Rattle.scope.specs.Truth.{Logic, litTruth, truthIn, classical, truth}
+use Rattle.scope.specs.Kleene.{opposite, pointTruth, kleene, truth₃, sure, NoTwo, Fills}
 use Rattle.scope.specs.Calls.{settingsTest, evaluate}
 use Rattle.scope.proofs.Tests.{and-right, met, then-next}
 use Rattle.scope.proofs.First.{all-fine}
@@ -21,15 +23,17 @@ use Rattle.codec.proofs.Records.{reads, Small, small}
 use Rattle.codec.proofs.Tables.{read-valid}
 use Rattle.truth.specs.Evaluated.{Low}
 use Rattle.truth.proofs.Low.{readable-low}
-use Rattle.truth.proofs.Truths.{lit-even, true-true, atom-point, node-joins}
-use Rattle.calculus.specs.Order.{mem, bit, settingOf, Answer, possible, impossible, unfinished, answerOf}
-use Rattle.calculus.specs.Model.{All, Table, litTrue, Model, ByAtoms, Below}
+use Rattle.truth.proofs.Truths.{lit-even, true-yes, atom-truth, truths-join}
+use Rattle.truth.proofs.Says.{Points, two-valued, sure-filled}
+use Rattle.calculus.specs.Order.{settingOf, Answer, possible, impossible, unfinished, answerOf}
+use Rattle.calculus.specs.Model.{All, Table, litIn, litTrue, Model, HeldAtoms, Below, Good}
 use Rattle.calculus.specs.Decide.{nodesOf, searchOf, Satisfies, Unsatisfiable, _⇔_}
 use Rattle.calculus.proofs.Lists.{all-imply}
+use Rattle.calculus.proofs.Literals.{all-member, good-below}
 use Rattle.calculus.proofs.Search.{never-cut}
 use Rattle.calculus.proofs.Sound.{sound}
 use Rattle.calculus.proofs.Complete.{complete}
-use Rattle.calculus.proofs.Setting.{setting-atom, setting-length, setting-bits}
+use Rattle.calculus.proofs.Setting.{setting-held, setting-length, setting-small}
 use Rattle.index.specs.Index.{always}
 
 -- ---- a readable table's nodes
@@ -81,34 +85,49 @@ module _ (t : List ℕ) (rs : List Node) (all : Bytes t) (e : decode t ≡ answe
   pub cells-of : (i : ℕ) → i < length rs → (nodesOf rs i .a < always + 2) × (nodesOf rs i .b < always + 2)
   cells-of i h = (omega (arith, small-of i h .a), omega (arith, small-of i h .b))
 
--- ---- the truths under a setting
+-- ---- the truths under a setting, in any logic
 
 -- the nodes' truths give the literals'
-pub literal-truth : (s : List ℕ) (rs : List Node) (l : ℕ) → litTrue (λ i. truth s rs (2 * i)) l ≡ truth s rs l
-unfolding litTrue truth litTruth
-literal-truth s rs l = simp lit-even
+literal-in : {A : Type 0} (L : Logic A) (s : List ℕ) (rs : List Node) (l : ℕ) → litIn L (λ i. truthIn L s rs (2 * i)) l ≡ truthIn L s rs l
+unfolding litIn truthIn litTruth
+literal-in L s rs l = simp (lit-even L)
 
-bit-test : (b : Bool) → eqb (bit b) 1 ≡ b
-bit-test true = refl
-bit-test false = refl
+pub literal-truth : (s : List ℕ) (rs : List Node) (l : ℕ) → litTrue (λ i. truth s rs (2 * i)) l ≡ truth s rs l
+literal-truth = literal-in classical
 
 module _ (t : List ℕ) (rs : List Node) (all : Bytes t) (e : decode t ≡ answer rs) where
   -- they agree with the nodes
-  pub model-of : (s : List ℕ) → Model (length rs) (nodesOf rs) (λ i. truth s rs (2 * i))
-  model-of s = record {
-    top = λ i h k. true-true s rs i (nodesOf rs i) h refl k;
+  model-in : {A : Type 0} (L : Logic A) (s : List ℕ) → Model L (length rs) (nodesOf rs) (λ i. truthIn L s rs (2 * i))
+  model-in L s = record {
+    top = λ i h k. true-yes L s rs i (nodesOf rs i) h refl k;
     join = λ i h k.
         let b = low t rs all e i h in
-        rw (literal-truth s rs (nodesOf rs i .a), literal-truth s rs (nodesOf rs i .b)) (node-joins s rs i (nodesOf rs i) h refl (b .left k) (b .right k) k);
+        rw (literal-in L s rs (nodesOf rs i .a), literal-in L s rs (nodesOf rs i .b)) (truths-join L s rs i (nodesOf rs i) h refl (b .left k) (b .right k) k);
   }
 
-  -- a final list's setting makes an ATOM true where its positive literal is held
-  pub atoms-of : (G rest : List ℕ) → ByAtoms (length rs) (nodesOf rs) G (λ i. truth (settingOf rs G ++ rest) rs (2 * i))
-  atoms-of G rest i h k =
-      let b : nodesOf rs i .a < 1024 = low t rs all e i h .point k in
-      atom-point (settingOf rs G ++ rest) rs i (nodesOf rs i) h refl k
-      ∙ ap (λ (x : ℕ). eqb x 1) (List·getD-append (settingOf rs G) rest 0 (nodesOf rs i .a) (omega (arith, setting-length rs G)) ∙ setting-atom rs G (table-of t rs all e) i h k b)
-      ∙ bit-test (mem (2 * i) G)
+  pub model-of : (s : List ℕ) → Model classical (length rs) (nodesOf rs) (λ i. truth s rs (2 * i))
+  model-of = model-in classical
+
+  pub points-of : Points rs
+  points-of i h k = low t rs all e i h .point k
+
+  -- under a final list's setting each literal of an ATOM that it holds is yes
+  held-atoms : (G rest : List ℕ) → Good (length rs) G → HeldAtoms (nodesOf rs) G (λ i. truth₃ (settingOf rs G ++ rest) rs (2 * i))
+  unfolding litIn
+  held-atoms G rest g l m k =
+      let below : l < 2 * length rs = all-member (λ m. m < 2 * length rs) G l (good-below (length rs) G g) m in
+      let h : l / 2 < length rs = omega arith in
+      let b : nodesOf rs (l / 2) .a < 1024 = points-of (l / 2) h k in
+      let byte : getD (settingOf rs G ++ rest) (nodesOf rs (l / 2) .a) 0 ≡ 1 - l % 2 =
+      List·getD-append (settingOf rs G) rest 0 (nodesOf rs (l / 2) .a) (omega (arith, setting-length rs G))
+      ∙ setting-held rs G (table-of t rs all e) (l / 2) h k b g l refl m in
+      rw (atom-truth kleene (settingOf rs G ++ rest) rs (l / 2) (nodesOf rs (l / 2)) h refl k, byte) (go (ℕ-discrete (l % 2) 0))
+    where
+      go : Dec (l % 2 ≡ 0) → cond (eqb (l % 2) 0) (pointTruth (1 - l % 2)) (opposite (pointTruth (1 - l % 2))) ≡ Yes
+      go (yes z) = rw z
+      go (no z) =
+          let one : l % 2 ≡ 1 = omega arith in
+          rw one
 
   module _ (goals : List ℕ) (B : Below (length rs) goals) where
     -- impossible: no setting makes all goals true
@@ -117,48 +136,86 @@ module _ (t : List ℕ) (rs : List Node) (all : Bytes t) (e : decode t ≡ answe
         sound (length rs) (nodesOf rs) goals (table-of t rs all e) B q (λ i. truth s rs (2 * i)) (model-of s)
         (all-imply (λ g. truth s rs g ≡ true) _ (λ g z. literal-truth s rs g ∙ z) goals h)
 
-    -- possible: the final list's setting does
-    pub made-true : {G : List ℕ} → answerOf (searchOf rs goals) ≡ possible G → (rest : List ℕ) → All (λ g. truth (settingOf rs G ++ rest) rs g ≡ true) goals
-    made-true {G} q rest =
-        let s : List ℕ = settingOf rs G ++ rest in
-        all-imply _ (λ g. truth s rs g ≡ true) (λ g z. sym (literal-truth s rs g) ∙ z) goals
-        (complete (length rs) (nodesOf rs) goals (table-of t rs all e) B G q .1 (λ i. truth s rs (2 * i)) (model-of s) (atoms-of G rest) .1)
+    module _ {G : List ℕ} (q : answerOf (searchOf rs goals) ≡ possible G) (rest : List ℕ) where
+      -- possible: under the final list's setting all goals are yes
+      pub made-yes : All (λ g. truth₃ (settingOf rs G ++ rest) rs g ≡ Yes) goals
+      made-yes =
+          let s : List ℕ = settingOf rs G ++ rest in
+          let c = complete (length rs) (nodesOf rs) goals (table-of t rs all e) B G q in
+          all-imply _ (λ g. truth₃ s rs g ≡ Yes) (λ g z. sym (literal-in kleene s rs g) ∙ z) goals
+          (c .1 (λ i. truth₃ s rs (2 * i)) (model-in kleene s) (held-atoms G rest (c .0)) .1)
+
+      -- so they are true for every way of filling its 2s
+      pub filled-true : (f : List ℕ) → Fills (settingOf rs G ++ rest) f → All (λ g. truth f rs g ≡ true) goals
+      filled-true f fills =
+          all-imply (λ g. truth₃ (settingOf rs G ++ rest) rs g ≡ Yes) (λ g. truth f rs g ≡ true)
+          (λ g z. sure-filled (settingOf rs G ++ rest) f rs g true fills points-of z) goals made-yes
 
 -- ---- one goal, and evaluate
 
--- the bytes of a setting are 0 and 1
-setting-taken : (rs : List Node) (G rest : List ℕ) → settingsTest (settingOf rs G ++ rest) ≡ fine
+-- the bytes of a setting that evaluate takes
+taken : (s : List ℕ) → 1024 ≤ length s → ((p : ℕ) → p < 1024 → getD s p 0 < 3) → settingsTest s ≡ fine
 unfolding settingsTest
+taken s long small =
+    rw (le-leb 1024 (length s) long)
+    (all-fine _ 1024 0 (λ p a h. met _ 22 p (lt-ltb (getD s p 0) 3 (small p (omega arith)))))
+
+setting-taken : (rs : List Node) (G rest : List ℕ) → settingsTest (settingOf rs G ++ rest) ≡ fine
 setting-taken rs G rest =
-    let long : 1024 ≤ length (settingOf rs G ++ rest) = omega (arith, length-append (settingOf rs G) rest, setting-length rs G) in
-    rw (le-leb 1024 (length (settingOf rs G ++ rest)) long)
-    (all-fine _ 1024 0 (λ p a h.
-    met _ 22 p (lt-ltb (getD (settingOf rs G ++ rest) p 0) 2
-    (rw (List·getD-append (settingOf rs G) rest 0 p (omega (arith, setting-length rs G))) (setting-bits rs G p)))))
+    taken (settingOf rs G ++ rest) (omega (arith, length-append (settingOf rs G) rest, setting-length rs G))
+    (λ p h. rw (List·getD-append (settingOf rs G) rest 0 p (omega (arith, setting-length rs G))) (setting-small rs G p))
+
+-- a way of filling the 2s: all no
+module _ (rs : List Node) (G : List ℕ) where
+  abbrev pub all-no : List ℕ
+  all-no = map (_% 2) (settingOf rs G)
+
+  no-byte : (p : ℕ) → getD all-no p 0 ≡ getD (settingOf rs G) p 0 % 2
+  no-byte p = List·getD-map (_% 2) (settingOf rs G) p 0
+
+  no-fills : Fills (settingOf rs G ++ []) all-no
+  no-fills p h k =
+      let e : getD (settingOf rs G ++ []) p 0 ≡ getD (settingOf rs G) p 0 = ap (λ (s : List ℕ). getD s p 0) (append-nil (settingOf rs G)) in
+      omega (arith, no-byte p, setting-small rs G p, e, k)
+
+  no-two : NoTwo all-no
+  no-two p h k = omega (arith, no-byte p)
+
+  no-taken : settingsTest all-no ≡ fine
+  no-taken = taken all-no (omega (arith, length-map (settingOf rs G) (_% 2), setting-length rs G)) (λ p h. omega (arith, no-byte p))
 
 module _ (t : List ℕ) (rs : List Node) (all : Bytes t) (e : decode t ≡ answer rs) (goal : ℕ) where
-  -- what evaluate calls true is
-  pub evaluated-true : (v : List ℕ) → Satisfies t goal v → truth v rs goal ≡ true
+  -- a yes or no of evaluate is the truth for every way of filling the 2s
+  pub evaluated-filled : (v : List ℕ) (b : Bool) → evaluate t goal v ≡ answer (sure b) → (f : List ℕ) → Fills v f → truth f rs goal ≡ b
   unfolding evaluate
-  evaluated-true v q =
+  evaluated-filled v b q f fills =
       let a = then-next (require (ltb goal (2 * length rs)) 20 0) _ (rw e at q) in
-      let z : answer (truth v rs goal) ≡ answer true = then-next (settingsTest v) _ a in
-      cc
+      let z : answer (truth₃ v rs goal) ≡ answer (sure b) = then-next (settingsTest v) _ a in
+      sure-filled v f rs goal b fills (points-of t rs all e) cc
 
   module _ (b : goal < 2 * length rs) where
-    pub none-satisfies : answerOf (searchOf rs (goal ∷ [])) ≡ impossible → Unsatisfiable t goal
-    none-satisfies q v h = never-true t rs all e (goal ∷ []) (b, tt) q v (evaluated-true v h, tt)
-
-    pub setting-satisfies : {G : List ℕ} → answerOf (searchOf rs (goal ∷ [])) ≡ possible G → (rest : List ℕ) → Satisfies t goal (settingOf rs G ++ rest)
+    evaluates : (v : List ℕ) → settingsTest v ≡ fine → truth₃ v rs goal ≡ Yes → evaluate t goal v ≡ answer Yes
     unfolding evaluate
-    setting-satisfies {G} q rest =
-        rw (e, lt-ltb goal (2 * length rs) b, setting-taken rs G rest) (ap answer (made-true t rs all e (goal ∷ []) (b, tt) q rest .0))
+    evaluates v ok y = rw (e, lt-ltb goal (2 * length rs) b, ok) (ap answer y)
+
+    pub none-satisfies : answerOf (searchOf rs (goal ∷ [])) ≡ impossible → Unsatisfiable t goal
+    none-satisfies q v h = never-true t rs all e (goal ∷ []) (b, tt) q v (evaluated-filled v true (h .1) v (λ p k z. refl), tt)
+
+    module _ {G : List ℕ} (q : answerOf (searchOf rs (goal ∷ [])) ≡ possible G) where
+      -- evaluate of the final list's setting answers yes
+      pub setting-yes : (rest : List ℕ) → evaluate t goal (settingOf rs G ++ rest) ≡ answer Yes
+      setting-yes rest = evaluates (settingOf rs G ++ rest) (setting-taken rs G rest) (made-yes t rs all e (goal ∷ []) (b, tt) q rest .0)
+
+      pub setting-satisfies : Satisfies t goal (all-no rs G)
+      setting-satisfies =
+          let z : truth (all-no rs G) rs goal ≡ true = filled-true t rs all e (goal ∷ []) (b, tt) q [] (all-no rs G) (no-fills rs G) .0 in
+          (no-two rs G, evaluates (all-no rs G) (no-taken rs G) (two-valued (all-no rs G) rs goal (no-two rs G) (points-of t rs all e) ∙ ap sure z))
 
     -- impossible exactly when no setting makes the goal true
     pub search-exact : (answerOf (searchOf rs (goal ∷ [])) ≡ impossible) ⇔ Unsatisfiable t goal
     search-exact = (none-satisfies, λ none. go none (answerOf (searchOf rs (goal ∷ []))) refl)
       where
         go : Unsatisfiable t goal → (a : Answer) → answerOf (searchOf rs (goal ∷ [])) ≡ a → a ≡ impossible
-        go none (possible G) q = absurd (none (settingOf rs G ++ []) (setting-satisfies q []))
+        go none (possible G) q = absurd (none (all-no rs G) (setting-satisfies q))
         go none impossible q = refl
         go none unfinished q = absurd (never-cut (length rs) (nodesOf rs) (goal ∷ []) (table-of t rs all e) (b, tt) q)

@@ -8,14 +8,20 @@ use native.Mathlib.Omega.{arith}
 use lib.Dec.{ltb}
 use lib.ListN.{length, take}
 use borrow.Author.Tests.{lt-ltb}
+use Rattle.scope.specs.declared.Node.{Node}
 use Rattle.scope.specs.declared.Refusal.{Refusal}
+use Rattle.scope.specs.declared.Truth.the-variants.{Yes}
 use Rattle.scope.specs.Outcome.{Outcome, answer, refused, require, _>>=_}
+use Rattle.scope.specs.Table.{decode}
 use Rattle.scope.specs.Truth.{truth}
+use Rattle.scope.specs.Kleene.{sure, Fills}
 use Rattle.scope.specs.Calls.{settingsTest, evaluate}
 use Rattle.scope.proofs.Tests.{refused-no, then-first, then-next}
 use Rattle.codec.specs.Valid.{Bytes}
 use Rattle.codec.proofs.Bytes.{bytes-take}
 use Rattle.calculus.specs.Decide.{decide, Unsatisfiable, _⇔_}
+use Rattle.truth.proofs.Says.{two-valued}
+use Rattle.asking.proofs.Models.{points-of, evaluated-filled}
 use Rattle.meaning.proofs.Decisions.{decide-exact}
 use Rattle.meaning.proofs.Numbers.{decide-numbered, derive-numbered, check-numbered}
 use Rattle.deciding.specs.declared.Decided.{Decided}
@@ -62,10 +68,16 @@ module _ (t : List ℕ) (goal : ℕ) (s w s′ w′ : List ℕ) where
   exact-by Impossible h z = (λ e. h .exact cannot refl .0 refl, λ none. refl)
   exact-by (Refused f) h z = absurd (omega (arith, decide-numbered t goal s w .positive (f .number) (f .place) (decide-refused f h)))
 
-  satisfied-by : (d : Decided) → Decides t goal s w s′ w′ d → decideAnswer (decidedOf d) .possible ≡ 1 → evaluate t goal s′ ≡ answer true
+  satisfied-by : (d : Decided) → Decides t goal s w s′ w′ d → decideAnswer (decidedOf d) .possible ≡ 1 → evaluate t goal s′ ≡ answer Yes
   satisfied-by Possible h e = h .satisfied refl
   satisfied-by Impossible h e = absurd (omega arith)
   satisfied-by (Refused f) h e = absurd (omega arith)
+
+  filled-by : (d : Decided) → Decides t goal s w s′ w′ d → decideAnswer (decidedOf d) .possible ≡ 1
+      → (rs : List Node) → decode t ≡ answer rs → (f : List ℕ) → Fills s′ f → truth f rs goal ≡ true
+  filled-by Possible h e = h .filled refl
+  filled-by Impossible h e = absurd (omega arith)
+  filled-by (Refused f) h e = absurd (omega arith)
 
   pub told : (d : Decided) {d′ : Decided} → Decides t goal s w s′ w′ d → d ≡ d′ → HostDecides t goal s w s′ w′ (decideAnswer (decidedOf d′))
   told d {d′} k e =
@@ -76,6 +88,7 @@ module _ (t : List ℕ) (goal : ℕ) (s w s′ w′ : List ℕ) where
         work = decide-kept d′ h;
         exact = exact-by d′ h;
         satisfied = satisfied-by d′ h;
+        filled = filled-by d′ h;
       }
 
 -- ---- derive
@@ -132,16 +145,17 @@ module _ (t : List ℕ) (goal : ℕ) (w d w′ : List ℕ) where
 -- ---- the DIMACS reader
 
 -- a table whose goal means the file: no setting makes the one true exactly when none makes the other
-module _ (f : File) (goal used : ℕ) (after : List ℕ) (m : Means f goal used after) where
+module _ (f : File) (goal used : ℕ) (after : List ℕ) (all : Bytes (take used after)) (m : Means f goal used after) where
   unmet : Unsatisfiable (take used after) goal ⇔ Unmet f
   unfolding evaluate
   unmet = (
-    λ none v test e. none v (rw (m .readable, lt-ltb goal (2 * length (m .nodes)) (m .inside), test) (ap answer (m .truths v ∙ e))),
+    λ none v two test e.
+        let sure-of = two-valued v (m .nodes) goal two (points-of (take used after) (m .nodes) all (m .readable)) in
+        none v (two, rw (m .readable, lt-ltb goal (2 * length (m .nodes)) (m .inside), test) (ap answer (sure-of ∙ ap sure (m .truths v ∙ e)))),
     λ none v e.
-        let a = then-next (require (ltb goal (2 * length (m .nodes))) 20 0) _ (rw (m .readable) at e) in
-        let z : answer (truth v (m .nodes) goal) ≡ answer true = then-next (settingsTest v) _ a in
-        let q : truth v (m .nodes) goal ≡ true = cc in
-        none v (then-first (settingsTest v) _ a) (sym (m .truths v) ∙ q),
+        let a = then-next (require (ltb goal (2 * length (m .nodes))) 20 0) _ (rw (m .readable) at (e .1)) in
+        let q = evaluated-filled (take used after) (m .nodes) all (m .readable) goal v true (e .1) v (λ p h k. refl) in
+        none v (e .0) (then-first (settingsTest v) _ a) (sym (m .truths v) ∙ q),
   )
 
 same-file : (text : List ℕ) (f g : File) → fileOf text ≡ answer f → fileOf text ≡ answer g → f ≡ g
@@ -170,7 +184,7 @@ module _ (text buf after : List ℕ) (all : Bytes after) where
         means = means-by v′ h;
         exact = λ z f q s w d y.
             let b = means-by v′ h z in
-            let u = unmet (b .0) (a .literal) (a .used) after (b .2) in
+            let u = unmet (b .0) (a .literal) (a .used) after (bytes-take (a .used) after all) (b .2) in
             let x = decide-exact (take (a .used) after) (a .literal) s w (bytes-take (a .used) after all) y in
             let g : b .0 ≡ f = same-file text (b .0) f (b .1) q in
             rw (← g) (λ c. u .0 (x .0 c), λ none. x .1 (u .1 none));

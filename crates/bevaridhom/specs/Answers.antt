@@ -1,11 +1,16 @@
 -- The answers for a host in C: number 0 and the values, or the refusal's number and place and every value 0. Assumes nothing.
 use mathlib.Core.Path.{_≡_}
-use mathlib.Core.Bool.{Bool, true, false}
+use mathlib.Core.Bool.{true}
 use mathlib.Core.List.{List, [], _∷_}
 use Prim.Native.Nat.{ℕ, _≤_, _<_}
 use lib.ListN.{length, take}
 use Rattle.scope.specs.declared.Node.{Node}
+use Rattle.scope.specs.declared.Truth.{Truth}
+use Rattle.scope.specs.declared.Truth.the-variants.{Yes, No, Unknown}
 use Rattle.scope.specs.Outcome.{Outcome, answer, refused, fine, _>>=_}
+use Rattle.scope.specs.Table.{decode}
+use Rattle.scope.specs.Truth.{truth}
+use Rattle.scope.specs.Kleene.{NoTwo, Fills}
 use Rattle.scope.specs.Calls.{Added, settingsTest, evaluate}
 use Rattle.calculus.specs.Order.{impossible, answerOf}
 use Rattle.calculus.specs.Decide.{searchOf, Decided, asked, decide, settingsAfter, Unsatisfiable, _⇔_}
@@ -37,13 +42,14 @@ abbrev pub recordAnswer : Outcome Node → BevRecord
 recordAnswer (answer x) = record { number = 0; place = 0; kind = x .kind; a = x .a; b = x .b }
 recordAnswer (refused n p) = record { number = n; place = p; kind = 0; a = 0; b = 0 }
 
--- 'yes' is 1, 'no' is 0
-abbrev pub bit : Bool → ℕ
-bit true = 1
-bit false = 0
+-- 'no' is 0, 'yes' is 1, 'unknown' is 2
+abbrev pub truthNumber : Truth → ℕ
+truthNumber No = 0
+truthNumber Yes = 1
+truthNumber Unknown = 2
 
-abbrev pub truthAnswer : Outcome Bool → BevTruth
-truthAnswer (answer b) = record { number = 0; place = 0; truth = bit b }
+abbrev pub truthAnswer : Outcome Truth → BevTruth
+truthAnswer (answer v) = record { number = 0; place = 0; truth = truthNumber v }
 truthAnswer (refused n p) = record { number = n; place = p; truth = 0 }
 
 abbrev pub markAnswer : Outcome Mark → BevAdded
@@ -64,13 +70,15 @@ decideAnswer (answer x) = record { number = 0; place = 0; possible = wordBit x }
 decideAnswer (refused n p) = record { number = n; place = p; possible = 0 }
 
 -- decide for a host: its answer, the settings bytes, a work area that a refusal leaves as it was, and what the answer means: possible 0
--- exactly when no setting makes the goal true, and with 1 bev_evaluate of the settings answers yes
+-- exactly when no setting makes the goal true, and with 1 bev_evaluate of the settings answers yes, and the goal is true for every way of
+-- filling their 2s
 pub record HostDecides (t : List ℕ) (goal : ℕ) (s w s′ w′ : List ℕ) (r : BevDecided) : Type 0 where
   pub answered : r ≡ decideAnswer (decide t goal s w >>= λ d. answer (wordOf (d .verdict)))
   pub settings : s′ ≡ settingsAfter s (decide t goal s w)
   pub work : (number place : ℕ) → decide t goal s w ≡ refused number place → w′ ≡ w
   pub exact : r .number ≡ 0 → (r .possible ≡ 0) ⇔ Unsatisfiable t goal
-  pub satisfied : r .possible ≡ 1 → evaluate t goal s′ ≡ answer true
+  pub satisfied : r .possible ≡ 1 → evaluate t goal s′ ≡ answer Yes
+  pub filled : r .possible ≡ 1 → (rs : List Node) → decode t ≡ answer rs → (f : List ℕ) → Fills s′ f → truth f rs goal ≡ true
 
 abbrev pub deriveAnswer : Outcome ℕ → BevDerived
 deriveAnswer (answer n) = record { number = 0; place = 0; steps = n }
@@ -111,9 +119,9 @@ stepAnswer (answer (one s)) = record { number = 0; place = 0; left = 1; rule = s
 stepAnswer (answer none) = record { number = 0; place = 0; left = 0; rule = 0; position = 0; value = 0 }
 stepAnswer (refused n p) = record { number = n; place = p; left = 0; rule = 0; position = 0; value = 0 }
 
--- no setting makes the file true
+-- no setting, of 0 and 1, makes the file true
 abbrev pub Unmet : File → Type 0
-Unmet f = (v : List ℕ) → settingsTest v ≡ fine → clausesTrue v (f .clauses) ≡ true → ⊥
+Unmet f = (v : List ℕ) → NoTwo v → settingsTest v ≡ fine → clausesTrue v (f .clauses) ≡ true → ⊥
 
 -- the DIMACS reader for a host: the goal literal and the used length; the table's bytes; 60 and 61 change no byte, and after 51 or 52
 -- the buffer is free; with number 0 the table reads, 'The goal's truth equals the file's under every setting', and so decide calls the

@@ -3,12 +3,13 @@ ghost use mathlib.Core.Path.{_≡_};
 ghost use Rattle.scope.specs.Calls.{tableCount, tableRecord, evaluate, add, bytesAfter};
 ghost use Rattle.steps.specs.Opened.{stepCount};
 ghost use Rattle.step_reader.specs.Handed.{stepHanded};
-ghost use Rattle.bevaridhom.specs.Answers.{countAnswer, recordAnswer, truthAnswer, addAnswer, openAnswer, stepAnswer, HostDecides, HostDerives, HostChecks, HostReads};
+ghost use Rattle.bevaridhom.specs.Answers.{countAnswer, recordAnswer, truthNumber, truthAnswer, addAnswer, openAnswer, stepAnswer, HostDecides, HostDerives, HostChecks, HostReads};
 use adding::Added;
 use checking::Checked;
 use deciding::Decided;
 use deriving::Derived;
 use record::NodeRead;
+use scope::Truth;
 use step_reader::Handed;
 use steps::Opened;
 use table::Counted;
@@ -90,17 +91,28 @@ pub extern "C" fn bev_record(t: &[u8], literal: usize) -> BevRecord
     }
 }
 
-// The truth of a literal under a setting: 1 yes, 0 no.
+// The number of a truth.
+fn truth_number(v: Truth) -> u8
+    ensures { λ r. ⌜ r ≡ truthNumber v ⌝ }
+{
+    match v {
+        Truth::No => 0,
+        Truth::Yes => 1,
+        Truth::Unknown => 2,
+    }
+}
+
+// The truth of a literal under a setting: 0 no, 1 yes, 2 unknown.
 #[no_mangle]
 pub extern "C" fn bev_evaluate(t: &[u8], literal: usize, s: &[u8]) -> BevTruth
     ensures { λ r. ⌜ r ≡ truthAnswer (evaluate (now (t .entry)) literal (now (s .entry))) ⌝ }
 {
     let c = truth::evaluate(t, literal, s);
     match c {
-        Evaluated::Truth(yes) => BevTruth {
+        Evaluated::Told(v) => BevTruth {
             number: 0,
             place: 0,
-            truth: yes as u8,
+            truth: truth_number(v),
         },
         Evaluated::Refused(f) => BevTruth {
             number: f.number,

@@ -1,23 +1,27 @@
--- Possible: truths that agree with the table, and with the final list on the atoms, make all of that list and all goals true. Assumes nothing.
-use mathlib.Core.Path.{_≡_, refl, sym, ap, _∙_}
+-- Possible: where truths by Kleene's tables agree with the table, and with the final list on the ATOMs that it holds, all of that list
+-- and all goals are yes. Assumes nothing.
+use mathlib.Core.Path.{_≡_, refl, sym, ap}
 use mathlib.Core.Logic.{_⊎_, inl, inr}
 use mathlib.Core.List.{List, [], _∷_}
-use mathlib.Core.Bool.{Bool, true, not, _||_, or-true, or-false}
-use Prim.Native.Nat.{ℕ, zero, suc, _*_, _/_, _%_, _<_}
+use mathlib.Core.Bool.{true, _||_, or-true, or-false}
+use Prim.Native.Nat.{ℕ, zero, suc, _*_, _/_, _<_}
 use native.Mathlib.Omega.{arith}
 use native.Mathlib.Decide.{ℕ-discrete}
-use borrow.Author.Tests.{eq-eqb, ne-eqb}
 use Rattle.scope.specs.declared.Node.{Node}
-use Rattle.calculus.specs.Expansion.{neg, expand}
+use Rattle.scope.specs.declared.Truth.{Truth}
+use Rattle.scope.specs.declared.Truth.the-variants.{Yes}
+use Rattle.scope.specs.Kleene.{kleene}
+use Rattle.calculus.specs.Expansion.{expand}
 use Rattle.calculus.specs.Order.{mem, Value, holds, fails, undecided, valueOf, State, met, empty, one, many, opened, joined, stateOf, clauses, move, tree, Tree, Answer, possible, impossible, unfinished, orElse, answerOf}
-use Rattle.calculus.specs.Model.{All, Table, litTrue, Model, ByAtoms, AllTrue, Below, Good}
+use Rattle.calculus.specs.Model.{All, Table, litIn, Model, AllYes, HeldAtoms, Below, Good}
 use Rattle.calculus.specs.declared.Move.the-variants.{Done}
 use Rattle.calculus.proofs.Lists.{any, all-left, all-right, all-imply, all-zip, map-all, any-imply}
-use Rattle.calculus.proofs.Literals.{is-false, all-member, member-all, holds-mem, good-below, consistent}
+use Rattle.calculus.proofs.Literals.{all-member, member-all, holds-mem, good-below}
 use Rattle.calculus.proofs.Moves.{done-clauses}
 use Rattle.calculus.proofs.Fresh.{expand-under}
 use Rattle.calculus.proofs.Search.{Grown, closes, joins, ends, parts, grown-whole, possible-closed, possible-cut}
-use Rattle.calculus.proofs.Truth.{clauseTrue, true-expand}
+use Rattle.calculus.proofs.Truth.{clauseYes, yes-expand}
+use Rattle.calculus.proofs.Rows.{isYes}
 
 -- ---- a met clause has a literal in G
 
@@ -58,47 +62,34 @@ module _ (P : List ℕ → Type 0) (expand : ℕ → List (List ℕ)) (goals : L
 -- ---- truths by the atoms of a list whose clauses are met
 
 module _ (n : ℕ) (t : ℕ → Node) (goals : List ℕ) (T : Table n t) (G : List ℕ) (g : Good n G) (d : move (expand t) goals G ≡ Done)
-    (v : ℕ → Bool) (M : Model n t v) (A : ByAtoms n t G v) where
-  -- a literal of an atom
-  atom-true : (l : ℕ) → mem l G ≡ true → v (l / 2) ≡ mem (2 * (l / 2)) G → litTrue v l ≡ true
-  unfolding litTrue
-  atom-true l e q = go (ℕ-discrete (l % 2) 0)
-    where
-      go : Dec (l % 2 ≡ 0) → litTrue v l ≡ true
-      go (yes z) =
-          let s : 2 * (l / 2) ≡ l = omega arith in
-          rw (eq-eqb (l % 2) 0 z) (q ∙ ap (λ (x : ℕ). mem x G) s ∙ e)
-      go (no z) =
-          let s : neg l ≡ 2 * (l / 2) = omega arith in
-          rw (ne-eqb (l % 2) 0 z)
-          (ap not (q ∙ is-false (mem (2 * (l / 2)) G) (λ w. consistent n G l g e (ap (λ (x : ℕ). mem x G) s ∙ w))))
-
+    (v : ℕ → Truth) (M : Model kleene n t v) (A : HeldAtoms t G v) where
   -- by the nodes' order: the clauses of an operation's literal are over earlier nodes
-  held-true : (k l : ℕ) → l / 2 < k → mem l G ≡ true → litTrue v l ≡ true
-  held-true zero l h e = absurd (omega arith)
-  held-true (suc k) l h e = go (ℕ-discrete (t (l / 2) .kind) 2) (λ m j. held-true k m (omega arith))
+  held-yes : (k l : ℕ) → l / 2 < k → mem l G ≡ true → litIn kleene v l ≡ Yes
+  held-yes zero l h e = absurd (omega arith)
+  held-yes (suc k) l h e = go (ℕ-discrete (t (l / 2) .kind) 2) (λ m j. held-yes k m (omega arith))
     where
       b : l < 2 * n
       b = all-member (λ m. m < 2 * n) G l (good-below n G g) e
 
-      go : Dec (t (l / 2) .kind ≡ 2) → ((m : ℕ) → m / 2 < l / 2 → mem m G ≡ true → litTrue v m ≡ true) → litTrue v l ≡ true
-      go (yes q) ih = atom-true l e (A (l / 2) (omega (arith, b)) q)
+      go : Dec (t (l / 2) .kind ≡ 2) → ((m : ℕ) → m / 2 < l / 2 → mem m G ≡ true → litIn kleene v m ≡ Yes) → litIn kleene v l ≡ Yes
+      go (yes q) ih = A l e q
       go (no q) ih =
-          true-expand n t v T M l b q
-          (all-zip (All (λ m. m / 2 < l / 2)) (λ c. stateOf G c ≡ met) (λ c. clauseTrue v c ≡ true)
-          (λ c u s. any-imply (λ m. mem m G) (litTrue v) c (all-imply (λ m. m / 2 < l / 2) (λ m. mem m G ≡ true → litTrue v m ≡ true) ih c u) (met-held G c s))
+          yes-expand n t v T M l b q
+          (all-zip (All (λ m. m / 2 < l / 2)) (λ c. stateOf G c ≡ met) (λ c. clauseYes v c ≡ true)
+          (λ c u s. any-imply (λ m. mem m G) (λ m. isYes (litIn kleene v m)) c
+          (all-imply (λ m. m / 2 < l / 2) (λ m. mem m G ≡ true → isYes (litIn kleene v m) ≡ true) (λ m j w. ap isYes (ih m j w)) c u) (met-held G c s))
           (expand t l) (expand-under n t T l b)
           (all-member (λ m. All (λ c. stateOf G c ≡ met) (expand t m)) G l
           (held-clauses (λ c. stateOf G c ≡ met) (expand t) goals G (done-clauses (expand t) goals G d)) e))
 
   -- all of the list, and all goals
-  pub list-true : AllTrue v G
-  list-true = member-all (λ l. litTrue v l ≡ true) G (λ l. held-true (suc (l / 2)) l (omega arith))
+  pub list-yes : AllYes v G
+  list-yes = member-all (λ l. litIn kleene v l ≡ Yes) G (λ l. held-yes (suc (l / 2)) l (omega arith))
 
-  pub goals-true : AllTrue v goals
-  goals-true =
-      all-imply (λ l. stateOf G (l ∷ []) ≡ met) (λ l. litTrue v l ≡ true)
-      (λ l s. held-true (suc (l / 2)) l (omega arith) (rw (or-false (mem l G)) at (met-held G (l ∷ []) s)))
+  pub goals-yes : AllYes v goals
+  goals-yes =
+      all-imply (λ l. stateOf G (l ∷ []) ≡ met) (λ l. litIn kleene v l ≡ Yes)
+      (λ l s. held-yes (suc (l / 2)) l (omega arith) (rw (or-false (mem l G)) at (met-held G (l ∷ []) s)))
       goals (goal-clauses (λ c. stateOf G c ≡ met) (expand t) goals G (done-clauses (expand t) goals G d))
 
 -- ---- where the search says possible, its list is good, and its move there is Done
@@ -126,10 +117,10 @@ module _ (n : ℕ) (t : ℕ → Node) (goals : List ℕ) where
       go (inl z) p q = p z
       go (inr z) p q = q z
 
--- the search says possible: its list is good, and truths by its atoms make the goals true
+-- the search says possible: its list is good, and truths by its atoms make the goals yes
 pub complete : (n : ℕ) (t : ℕ → Node) (goals : List ℕ) → Table n t → Below n goals
     → (G : List ℕ) → answerOf (tree (expand t) goals n []) ≡ possible G
-    → Good n G × ((v : ℕ → Bool) → Model n t v → ByAtoms n t G v → AllTrue v G × AllTrue v goals)
+    → Good n G × ((v : ℕ → Truth) → Model kleene n t v → HeldAtoms t G v → AllYes v G × AllYes v goals)
 complete n t goals T B G e =
     let q = grown-ends n t goals (grown-whole n t goals T B) e in
-    (q .0, λ v M A. (list-true n t goals T G (q .0) (q .1) v M A, goals-true n t goals T G (q .0) (q .1) v M A))
+    (q .0, λ v M A. (list-yes n t goals T G (q .0) (q .1) v M A, goals-yes n t goals T G (q .0) (q .1) v M A))

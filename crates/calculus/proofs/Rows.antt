@@ -8,7 +8,10 @@ use native.Mathlib.Decide.{ℕ-discrete}
 use lib.Dec.{eqb}
 use lib.ListN.{getD}
 use borrow.Author.Tests.{ne-eqb}
-use Rattle.scope.specs.Truth.{joined}
+use Rattle.scope.specs.declared.Truth.{Truth}
+use Rattle.scope.specs.declared.Truth.the-variants.{Yes, No, Unknown}
+use Rattle.scope.specs.Truth.{Logic, joined, classical}
+use Rattle.scope.specs.Kleene.{kleene}
 use Rattle.scope.proofs.Tests.{and-left, and-right}
 use Rattle.calculus.specs.Expansion.{templates}
 use Rattle.calculus.specs.Model.{All}
@@ -47,41 +50,91 @@ same false false e = refl
 abbrev pub rowOf : ℕ → ℕ → List (List ℕ)
 rowOf kind sign = getD templates (2 * kind + sign) []
 
--- an operand choice's truth, where the operands' are a and b; and whether it makes a row's clauses true
-abbrev pub choice : Bool → Bool → ℕ → Bool
-choice a b c = cond (eqb c 0) a (cond (eqb c 1) (not a) (cond (eqb c 2) b (not b)))
+module _ {A : Type 0} (L : Logic A) where
+  -- an operand choice's truth, where the operands' are a and b
+  abbrev pub choice : A → A → ℕ → A
+  choice a b c = cond (eqb c 0) a (cond (eqb c 1) (L .opposite a) (cond (eqb c 2) b (L .opposite b)))
+
+  -- whether each clause of a row has a choice that passes a test
+  abbrev pub rowHas : (A → Bool) → ℕ → ℕ → A → A → Bool
+  rowHas p kind sign a b = every (any (λ c. p (choice a b c))) (rowOf kind sign)
+
+  -- the truth of a node that is no ATOM, and that of its literal of a sign
+  abbrev pub demand : ℕ → A → A → A
+  demand kind a b = cond (eqb kind 1) (L .yes) (joined L kind a b)
+
+  abbrev pub signed : ℕ → A → A
+  signed sign x = cond (eqb sign 0) x (L .opposite x)
+
+-- a test of every kind and both signs. There is no kind 0, and an ATOM has no clauses
+abbrev kindsOk : (ℕ → ℕ → Bool) → Bool
+kindsOk p = everyBelow (λ kind. eqb kind 0 || (eqb kind 2 || everyBelow (p kind) 2)) 7
+
+kinds-at : (p : ℕ → ℕ → Bool) → kindsOk p ≡ true → (kind sign : ℕ) → (0 < kind) × (kind < 7) → (kind ≡ 2 → ⊥) → sign < 2 → p kind sign ≡ true
+kinds-at p e kind sign h k s =
+    let f : everyBelow (p kind) 2 ≡ true =
+    rw (ne-eqb kind 0 (λ q. omega arith), ne-eqb kind 2 k) at (below-at (λ kind. eqb kind 0 || (eqb kind 2 || everyBelow (p kind) 2)) 7 e kind (h .1)) in
+    below-at (p kind) 2 f sign s
+
+-- ---- two values: the clauses of a literal are true exactly where it is
 
 abbrev pub rowTrue : ℕ → ℕ → Bool → Bool → Bool
-rowTrue kind sign a b = every (any (choice a b)) (rowOf kind sign)
+rowTrue = rowHas classical (λ b. b)
 
--- the truth of a node that is no ATOM, and that of its literal of a sign
-abbrev pub demand : ℕ → Bool → Bool → Bool
-demand kind a b = cond (eqb kind 1) true (joined kind a b)
-
-abbrev pub signed : ℕ → Bool → Bool
-signed sign b = cond (eqb sign 0) b (not b)
-
--- the test of a kind: both signs, all truths of the operands. There is no kind 0, and an ATOM has no clauses
 abbrev rowSame : ℕ → ℕ → Bool → Bool → Bool
-rowSame kind sign a b = Bool·beq (rowTrue kind sign a b) (signed sign (demand kind a b))
+rowSame kind sign a b = Bool·beq (rowTrue kind sign a b) (signed classical sign (demand classical kind a b))
 
-abbrev rowOk : ℕ → ℕ → Bool
-rowOk kind sign = both (λ a. both (rowSame kind sign a))
-
-abbrev kindOk : ℕ → Bool
-kindOk kind = eqb kind 0 || (eqb kind 2 || everyBelow (rowOk kind) 2)
-
-kinds-ok : everyBelow kindOk 7 ≡ true
+rows-same : kindsOk (λ kind sign. both (λ a. both (rowSame kind sign a))) ≡ true
 unfolding templates joined
-kinds-ok = refl
+rows-same = refl
 
--- the clauses of a literal are true exactly where it is
-pub row-true : (kind sign : ℕ) → (0 < kind) × (kind < 7) → (kind ≡ 2 → ⊥) → sign < 2 → (a b : Bool) → rowTrue kind sign a b ≡ signed sign (demand kind a b)
+pub row-true : (kind sign : ℕ) → (0 < kind) × (kind < 7) → (kind ≡ 2 → ⊥) → sign < 2 → (a b : Bool)
+    → rowTrue kind sign a b ≡ signed classical sign (demand classical kind a b)
 row-true kind sign h k s a b =
-    let f : everyBelow (rowOk kind) 2 ≡ true =
-    rw (ne-eqb kind 0 (λ q. omega arith), ne-eqb kind 2 k) at (below-at kindOk 7 kinds-ok kind (h .1)) in
-    same (rowTrue kind sign a b) (signed sign (demand kind a b))
-    (both-at (rowSame kind sign a) (both-at (λ a. both (rowSame kind sign a)) (below-at (rowOk kind) 2 f sign s) a) b)
+    same (rowTrue kind sign a b) (signed classical sign (demand classical kind a b))
+    (both-at (rowSame kind sign a) (both-at (λ a. both (rowSame kind sign a))
+    (kinds-at (λ kind sign. both (λ a. both (rowSame kind sign a))) rows-same kind sign h k s) a) b)
+
+-- ---- Kleene's tables: where each clause of a literal has a literal that is yes, so is its own
+
+abbrev pub isYes : Truth → Bool
+isYes Yes = true
+isYes No = false
+isYes Unknown = false
+
+is-yes : (x : Truth) → isYes x ≡ true → x ≡ Yes
+is-yes Yes e = refl
+is-yes No e = absurd (false≢true e)
+is-yes Unknown e = absurd (false≢true e)
+
+abbrev each : (Truth → Bool) → Bool
+each p = p Yes && (p No && p Unknown)
+
+each-at : (p : Truth → Bool) → each p ≡ true → (x : Truth) → p x ≡ true
+each-at p e Yes = and-left (p Yes) (p No && p Unknown) e
+each-at p e No = and-left (p No) (p Unknown) (and-right (p Yes) (p No && p Unknown) e)
+each-at p e Unknown = and-right (p No) (p Unknown) (and-right (p Yes) (p No && p Unknown) e)
+
+abbrev rowSays : ℕ → ℕ → Truth → Truth → Bool
+rowSays kind sign x y = not (rowHas kleene isYes kind sign x y) || isYes (signed kleene sign (demand kleene kind x y))
+
+rows-say : kindsOk (λ kind sign. each (λ x. each (rowSays kind sign x))) ≡ true
+unfolding templates joined
+rows-say = refl
+
+then : (a b : Bool) → (not a || b) ≡ true → a ≡ true → b ≡ true
+then true b e q = e
+then false b e q = absurd (false≢true q)
+
+pub row-yes : (kind sign : ℕ) → (0 < kind) × (kind < 7) → (kind ≡ 2 → ⊥) → sign < 2 → (x y : Truth)
+    → rowHas kleene isYes kind sign x y ≡ true → signed kleene sign (demand kleene kind x y) ≡ Yes
+row-yes kind sign h k s x y e =
+    let z : Truth = signed kleene sign (demand kleene kind x y) in
+    is-yes z (then (rowHas kleene isYes kind sign x y) (isYes z)
+    (each-at (rowSays kind sign x) (each-at (λ x. each (rowSays kind sign x))
+    (kinds-at (λ kind sign. each (λ x. each (rowSays kind sign x))) rows-say kind sign h k s) x) y) e)
+
+-- ---- kinds that are no operations
 
 -- an ATOM's literals have no clauses
 pub row-atom : (sign : ℕ) → sign < 2 → rowOf 2 sign ≡ []

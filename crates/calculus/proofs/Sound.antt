@@ -6,6 +6,7 @@ use Prim.Native.Nat.{ℕ}
 use borrow.Author.Tests.{not-true}
 use lib.ListN.{getD}
 use Rattle.scope.specs.declared.Node.{Node}
+use Rattle.scope.specs.Truth.{classical}
 use Rattle.calculus.specs.Expansion.{neg, expand}
 use Rattle.calculus.specs.Order.{Value, holds, fails, undecided, valueOf, State, met, empty, one, many, opened, joined, stateOf, clauses, tree, Tree, Answer, possible, impossible, unfinished, orElse, answerOf}
 use Rattle.calculus.specs.Model.{All, Table, litTrue, Model, AllTrue, Below, Good}
@@ -55,7 +56,7 @@ or-closed (possible G) b e = absurd (possible-closed e)
 or-closed impossible b e = (refl, e)
 or-closed unfinished b e = absurd (closed-cut (sym e))
 
-module _ (n : ℕ) (t : ℕ → Node) (goals : List ℕ) (T : Table n t) (v : ℕ → Bool) (M : Model n t v) (a : AllTrue v goals) where
+module _ (n : ℕ) (t : ℕ → Node) (goals : List ℕ) (T : Table n t) (v : ℕ → Bool) (M : Model classical n t v) (a : AllTrue v goals) where
   clauses-true : (G : List ℕ) → Good n G → AllTrue v G → All (λ c. clauseTrue v c ≡ true) (clauses (expand t) goals G)
   unfolding clauses
   clauses-true [] g h =
@@ -87,5 +88,5 @@ module _ (n : ℕ) (t : ℕ → Node) (goals : List ℕ) (T : Table n t) (v : �
 
 -- the search says impossible: no truths make the goals true
 pub sound : (n : ℕ) (t : ℕ → Node) (goals : List ℕ) → Table n t → Below n goals → answerOf (tree (expand t) goals n []) ≡ impossible
-    → (v : ℕ → Bool) → Model n t v → AllTrue v goals → ⊥
+    → (v : ℕ → Bool) → Model classical n t v → AllTrue v goals → ⊥
 sound n t goals T B e v M a = grown-sound n t goals T v M a (grown-whole n t goals T B) tt e

@@ -1,14 +1,15 @@
 -- 01, 'The solver's order' and 'Where each call says no': what decide, derive and check ask of a table and a list of goals, and decide.
 -- Assumes nothing.
 use mathlib.Core.Path.{_≡_}
-use mathlib.Core.Bool.{true}
 use mathlib.Core.List.{List, [], _∷_, _++_}
 use Prim.Native.Nat.{ℕ, _*_, _≤_}
 use lib.Dec.{leb, ltb}
 use lib.ListN.{length, getD, drop}
 use Rattle.scope.specs.declared.Node.{Node}
+use Rattle.scope.specs.declared.Truth.the-variants.{Yes}
 use Rattle.scope.specs.Outcome.{Outcome, answer, refused, require, first, _>>_, _>>=_}
 use Rattle.scope.specs.Table.{decode}
+use Rattle.scope.specs.Kleene.{NoTwo}
 use Rattle.scope.specs.Calls.{noNode, evaluate}
 use Rattle.calculus.specs.Expansion.{expand}
 use Rattle.calculus.specs.Order.{Tree, tree, Answer, possible, impossible, unfinished, answerOf, settingOf}
@@ -72,9 +73,9 @@ abbrev pub settingsAfter : List ℕ → Outcome Decided → List ℕ
 settingsAfter s (answer d) = d .settings
 settingsAfter s (refused number place) = s
 
--- 'A setting makes a goal true when the goal's truth under it is true': one of 0 and 1 for the 1,024 points, which evaluate takes
+-- 'A setting makes a goal true when the goal's truth under it is true': one of 0 and 1 for the 1,024 points, for which evaluate says yes
 abbrev pub Satisfies : List ℕ → ℕ → List ℕ → Type 0
-Satisfies t goal v = evaluate t goal v ≡ answer true
+Satisfies t goal v = NoTwo v × (evaluate t goal v ≡ answer Yes)
 
 -- no setting does
 abbrev pub Unsatisfiable : List ℕ → ℕ → Type 0

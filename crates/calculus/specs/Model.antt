@@ -1,12 +1,15 @@
 -- What the solver's theorems speak of: readable tables' nodes, the truths that agree with them, and the lists that a search holds. Assumes nothing.
 use mathlib.Core.Path.{_≡_}
 use mathlib.Core.List.{List, [], _∷_}
-use mathlib.Core.Bool.{Bool, true, cond, not}
+use mathlib.Core.Bool.{Bool, true, cond}
 use Prim.Native.Nat.{ℕ, _*_, _/_, _%_, _<_, _≤_}
 use lib.Dec.{eqb}
 use lib.ListN.{length}
 use Rattle.scope.specs.declared.Node.{Node}
-use Rattle.scope.specs.Truth.{joined}
+use Rattle.scope.specs.declared.Truth.{Truth}
+use Rattle.scope.specs.declared.Truth.the-variants.{Yes}
+use Rattle.scope.specs.Truth.{Logic, joined, classical}
+use Rattle.scope.specs.Kleene.{kleene}
 use Rattle.calculus.specs.Order.{mem, valueOf, undecided}
 
 -- every element of a list has a property
@@ -22,21 +25,28 @@ pub record Table (n : ℕ) (t : ℕ → Node) : Type 0 where
   pub atoms : (i j : ℕ) → i < n → j < n → t i .kind ≡ 2 → t j .kind ≡ 2 → t i .a ≡ t j .a → i ≡ j
 
 -- 'a negation is the opposite': a literal's truth, where v gives the nodes'
-unfoldable pub litTrue : (ℕ → Bool) → ℕ → Bool
-litTrue v l = cond (eqb (l % 2) 0) (v (l / 2)) (not (v (l / 2)))
+unfoldable pub litIn : {A : Type 0} → Logic A → (ℕ → A) → ℕ → A
+litIn L v l = cond (eqb (l % 2) 0) (v (l / 2)) (L .opposite (v (l / 2)))
 
--- truths that agree with the nodes; an ATOM has either
-pub record Model (n : ℕ) (t : ℕ → Node) (v : ℕ → Bool) : Type 0 where
-  pub top : (i : ℕ) → i < n → t i .kind ≡ 1 → v i ≡ true
-  pub join : (i : ℕ) → i < n → 2 < t i .kind → v i ≡ joined (t i .kind) (litTrue v (t i .a)) (litTrue v (t i .b))
+-- truths that agree with the nodes; an ATOM has any
+pub record Model {A : Type 0} (L : Logic A) (n : ℕ) (t : ℕ → Node) (v : ℕ → A) : Type 0 where
+  pub top : (i : ℕ) → i < n → t i .kind ≡ 1 → v i ≡ L .yes
+  pub join : (i : ℕ) → i < n → 2 < t i .kind → v i ≡ joined L (t i .kind) (litIn L v (t i .a)) (litIn L v (t i .b))
 
--- truths in which an ATOM is true where its positive literal is in G
-abbrev pub ByAtoms : ℕ → (ℕ → Node) → List ℕ → (ℕ → Bool) → Type 0
-ByAtoms n t G v = (i : ℕ) → i < n → t i .kind ≡ 2 → v i ≡ mem (2 * i) G
+-- two-valued truths: all literals of a list are true
+abbrev pub litTrue : (ℕ → Bool) → ℕ → Bool
+litTrue v l = litIn classical v l
 
--- all literals of a list are true
 abbrev pub AllTrue : (ℕ → Bool) → List ℕ → Type 0
 AllTrue v ls = All (λ l. litTrue v l ≡ true) ls
+
+-- truths by Kleene's tables: all literals of a list are yes
+abbrev pub AllYes : (ℕ → Truth) → List ℕ → Type 0
+AllYes v ls = All (λ l. litIn kleene v l ≡ Yes) ls
+
+-- truths in which each literal of an ATOM that is in G is yes; other ATOMs have any
+abbrev pub HeldAtoms : (ℕ → Node) → List ℕ → (ℕ → Truth) → Type 0
+HeldAtoms t G v = (l : ℕ) → mem l G ≡ true → t (l / 2) .kind ≡ 2 → litIn kleene v l ≡ Yes
 
 -- all literals of a list are those of n nodes
 abbrev pub Below : ℕ → List ℕ → Type 0

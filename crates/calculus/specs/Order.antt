@@ -148,14 +148,27 @@ answerOf (split l left right) = orElse (answerOf left) (answerOf right)
 answerOf (model G) = possible G
 answerOf cut = unfinished
 
--- 'A point is yes if its positive ATOM literal is in the final G, otherwise no': the 1,024 settings bytes
-unfoldable pub atomHeld : List Node → ℕ → List ℕ → ℕ → Bool
-atomHeld [] n G p = false
-atomHeld (x ∷ rs) n G p = ((eqb (x .kind) 2 && eqb (x .a) p) && mem (2 * n) G) || atomHeld rs (suc n) G p
-
 abbrev pub bit : Bool → ℕ
 bit true = 1
 bit false = 0
 
+-- the literals of a node
+abbrev pub positive : ℕ → ℕ
+positive n = 2 * n
+
+abbrev pub negative : ℕ → ℕ
+negative n = 2 * n + 1
+
+-- the literal of a point's ATOM, of a sign, is in G
+unfoldable pub atomHeld : (ℕ → ℕ) → List Node → ℕ → List ℕ → ℕ → Bool
+atomHeld sign [] n G p = false
+atomHeld sign (x ∷ rs) n G p = ((eqb (x .kind) 2 && eqb (x .a) p) && mem (sign n) G) || atomHeld sign rs (suc n) G p
+
+-- a point is yes (1) if its positive ATOM literal is in the final G, no (0) if its negative one is; '2 for a point with neither sign
+-- in the final list'
+abbrev pub byteOf : Bool → Bool → ℕ
+byteOf held denied = cond held 1 (cond denied 0 2)
+
+-- the 1,024 settings bytes
 unfoldable pub settingOf : List Node → List ℕ → List ℕ
-settingOf rs G = listFrom (λ p. bit (atomHeld rs 0 G p)) 0 1024
+settingOf rs G = listFrom (λ p. byteOf (atomHeld positive rs 0 G p) (atomHeld negative rs 0 G p)) 0 1024

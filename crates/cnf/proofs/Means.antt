@@ -10,7 +10,7 @@ use borrow.Author.Tests.{eqb-true, eqb-false, eq-eqb, ltb-true, ltb-false}
 use Rattle.scope.specs.declared.Node.{Node}
 use Rattle.scope.specs.Outcome.{answer}
 use Rattle.scope.specs.Table.{nodeBytes}
-use Rattle.scope.specs.Truth.{truth, joined}
+use Rattle.scope.specs.Truth.{classical, truth, joined}
 use Rattle.scope.specs.Calls.{Added, add}
 use Rattle.codec.specs.Valid.{Bytes}
 use Rattle.codec.proofs.Rows.{by-test}
@@ -85,7 +85,7 @@ module _ {vars used : ℕ} {bytes : List ℕ} {rs : List Node} (h : Holds vars u
       put-true gives-false
 
 -- AND and OR go either way round
-joined-comm : (kind : ℕ) → 2 < kind → kind < 5 → (x y : Bool) → joined kind x y ≡ joined kind y x
+joined-comm : (kind : ℕ) → 2 < kind → kind < 5 → (x y : Bool) → joined classical kind x y ≡ joined classical kind y x
 unfolding joined
 joined-comm kind h i x y =
     by-test (eqb kind 3)
@@ -104,7 +104,7 @@ module _ (kind : ℕ) (above : 2 < kind) (below : kind < 5) {vars used : ℕ} {b
   ordered-kind = by-test (ltb (b / 2) (a / 2)) (λ e. rw e) (λ e. rw e)
 
   -- the operands' truths, in either order
-  either : (s : List ℕ) (qs : List Node) → joined kind (truth s qs (ordered kind a b .a)) (truth s qs (ordered kind a b .b)) ≡ joined kind (truth s qs a) (truth s qs b)
+  either : (s : List ℕ) (qs : List Node) → joined classical kind (truth s qs (ordered kind a b .a)) (truth s qs (ordered kind a b .b)) ≡ joined classical kind (truth s qs a) (truth s qs b)
   unfolding ordered
   either s qs =
       by-test (ltb (b / 2) (a / 2))
@@ -115,14 +115,14 @@ module _ (kind : ℕ) (above : 2 < kind) (below : kind < 5) {vars used : ℕ} {b
     earlier : Low (ordered kind a b) (u .literal / 2)
     earlier = rw (p .node) at (low (p .holds) (u .literal / 2) (p .inside))
 
-    join-truth : (s : List ℕ) → truth s (p .rs′) (u .literal) ≡ joined kind (truth s rs a) (truth s rs b)
+    join-truth : (s : List ℕ) → truth s (p .rs′) (u .literal) ≡ joined classical kind (truth s rs a) (truth s rs b)
     join-truth s =
         let k : 2 < ordered kind a b .kind = rw ordered-kind above in
         ap (truth s (p .rs′)) (p .even)
         ∙ node-joins s (p .rs′) (u .literal / 2) (ordered kind a b) (p .inside) (p .node) (earlier .left k) (earlier .right k) k
         ∙ rw ordered-kind (either s (p .rs′))
-        ∙ ap (λ (x : Bool). joined kind x (truth s (p .rs′) b)) (extends-truth s a (p .extends) left)
-        ∙ ap (joined kind (truth s rs a)) (extends-truth s b (p .extends) right)
+        ∙ ap (λ (x : Bool). joined classical kind x (truth s (p .rs′) b)) (extends-truth s a (p .extends) left)
+        ∙ ap (joined classical kind (truth s rs a)) (extends-truth s b (p .extends) right)
 
     -- it is no point: those are ATOMs
     no-point : vars ≤ u .literal / 2
@@ -133,7 +133,7 @@ module _ (kind : ℕ) (above : 2 < kind) (below : kind < 5) {vars used : ℕ} {b
         absurd (omega (arith, ap (λ (x : Node). x .kind) q, ordered-kind)))
         (λ e. ltb-false (u .literal / 2) vars e)
 
-    gives-join : Joins vars rs (λ s. joined kind (truth s rs a) (truth s rs b)) u
+    gives-join : Joins vars rs (λ s. joined classical kind (truth s rs a) (truth s rs b)) u
     gives-join = record {
       gives = record { rs′ = p .rs′; holds = p .holds; extends = p .extends; inside = p .inside; means = join-truth };
       beyond = no-point;
@@ -144,8 +144,8 @@ module _ (kind : ℕ) (above : 2 < kind) (below : kind < 5) {vars used : ℕ} {b
       let few = most h in
       bytes-node (node kind a b) (record { kind = omega arith; a = omega arith; b = omega arith })
 
-  pub join-runs : Runs (Joins vars rs (λ s. joined kind (truth s rs a) (truth s rs b))) (add bytes used (nodeBytes (node kind a b)))
+  pub join-runs : Runs (Joins vars rs (λ s. joined classical kind (truth s rs a) (truth s rs b))) (add bytes used (nodeBytes (node kind a b)))
   join-runs =
-      ends-as Full (PutAt vars rs (ordered kind a b)) (Joins vars rs (λ s. joined kind (truth s rs a) (truth s rs b))) (add bytes used (nodeBytes (node kind a b)))
+      ends-as Full (PutAt vars rs (ordered kind a b)) (Joins vars rs (λ s. joined classical kind (truth s rs a) (truth s rs b))) (add bytes used (nodeBytes (node kind a b)))
       gives-join
       (put-runs h (node kind a b) (ordered kind a b) small-join (join-reads kind above below a b (length rs) left right apart))

@@ -12,7 +12,7 @@ use borrow.Author.Tests.{leb-true, ltb-true, ltb-false}
 use Rattle.scope.specs.declared.Node.{Node}
 use Rattle.scope.specs.Outcome.{Outcome, answer, refused, require, _>>_}
 use Rattle.scope.specs.Table.{nodeBytes, readRecord, decode, encode}
-use Rattle.scope.specs.Truth.{truthsFrom, litTruth, truth}
+use Rattle.scope.specs.Truth.{truthsFrom, litTruth, truthIn, classical, truth}
 use Rattle.scope.specs.Calls.{noNode, decodeUsed, exchanged, indexOf, Added, addNew, addNode, add}
 use Rattle.scope.proofs.Tests.{refused-no}
 use Rattle.codec.specs.Valid.{Bytes, Valid, withNode, ReadsBack}
@@ -83,9 +83,9 @@ extends-node {rs} {rs′} n e h = sym (getD-take (length rs) rs′ n noNode h) �
 
 -- a literal's truth stays
 pub extends-truth : {rs rs′ : List Node} (s : List ℕ) (l : ℕ) → Extends rs rs′ → l / 2 < length rs → truth s rs′ l ≡ truth s rs l
-unfolding truth
+unfolding truthIn
 extends-truth {rs} {rs′} s l e h =
-    lit-prefix s rs′ (length rs) l (e .more) h ∙ ap (λ (qs : List Node). litTruth (truthsFrom s [] qs) l) (e .first)
+    lit-prefix classical s rs′ (length rs) l (e .more) h ∙ ap (λ (qs : List Node). litTruth classical (truthsFrom classical s [] qs) l) (e .first)
 
 -- after the node x was added to rs: it stands at the literal that was answered
 pub record PutAt (vars : ℕ) (rs : List Node) (x : Node) (u : Added) : Type 0 where

@@ -1,10 +1,12 @@
 -- Where decide ends: at the first row's refusal, or with what the search came to. Assumes nothing.
 use mathlib.Core.Path.{_≡_, refl, sym, ap, _∙_}
+use mathlib.Core.Bool.{true}
 use mathlib.Core.List.{List, [], _∷_}
 use Prim.Native.Nat.{ℕ, min}
 use native.Mathlib.Omega.{arith}
 use lib.ListN.{length}
 use Rattle.scope.specs.declared.Refusal.{Refusal}
+use Rattle.scope.specs.declared.Truth.the-variants.{Yes}
 use Rattle.scope.specs.Outcome.{answer, refused, _>>=_}
 use Rattle.scope.specs.Calls.{evaluate}
 use Rattle.scope.proofs.Tests.{refused-no, bound}
@@ -13,12 +15,13 @@ use Rattle.calculus.specs.Order.{Answer, possible, impossible, unfinished, answ
 use Rattle.calculus.specs.Decide.{Decided as Given, asked, decided, decide, settingsAfter, _⇔_}
 use Rattle.index.specs.Index.{indexNode}
 use Rattle.asking.specs.Asks.{Prepared}
+use Rattle.asking.proofs.Models.{evaluated-filled}
 use Rattle.asking.proofs.Nodes.{search-in, listed}
 use Rattle.asking.proofs.Answers.{literal-small, asked-same}
 use Rattle.meaning.proofs.Decisions.{decide-exact, decide-evaluates}
 use Rattle.deciding.specs.Decides.{Word, can, cannot, wordOf, decidedOf, Room, Solved, Decides}
 use Rattle.deciding.specs.declared.Decided.{Decided}
-use Rattle.deciding.specs.declared.Decided.the-variants.{Refused}
+use Rattle.deciding.specs.declared.Decided.the-variants.{Possible, Refused}
 
 -- ---- the contract, where its first three fields hold
 
@@ -38,6 +41,14 @@ module _ (t : List ℕ) (goal : ℕ) (s w : List ℕ) (all : Bytes t) (r : Decid
   said-by : {said : Word} → decidedOf r ≡ answer said → (d : Given) × (decide t goal s w ≡ answer d) × (answer (wordOf (d .verdict)) ≡ answer said)
   said-by q = bound (decide t goal s w) (λ d. answer (wordOf (d .verdict))) (sym answers ∙ q)
 
+  satisfies : r ≡ Possible → evaluate t goal s′ ≡ answer Yes
+  satisfies q =
+      let b = said-by (ap decidedOf q) in
+      let z : answer (wordOf (b .0 .verdict)) ≡ answer can = b .2 in
+      let v : wordOf (b .0 .verdict) ≡ can = cc in
+      word-possible (b .0 .verdict) v
+      (λ G g. ap (evaluate t goal) (bytes ∙ ap (settingsAfter s) (b .1)) ∙ decide-evaluates t goal s w all (b .1) g)
+
   pub decides : {w′ : List ℕ} → ((f : Refusal) → r ≡ Refused f → w′ ≡ w) → Decides t goal s w s′ w′ r
   decides kept = record {
     answered = answers;
@@ -50,12 +61,8 @@ module _ (t : List ℕ) (goal : ℕ) (s w : List ℕ) (all : Bytes t) (r : Decid
         let i = word-impossible (b .0 .verdict) in
         let x = decide-exact t goal s w all (b .1) in
         (λ c. x .0 (i .0 (v ∙ c)), λ none. sym v ∙ i .1 (x .1 none));
-    satisfied = λ q.
-        let b = said-by (ap decidedOf q) in
-        let z : answer (wordOf (b .0 .verdict)) ≡ answer can = b .2 in
-        let v : wordOf (b .0 .verdict) ≡ can = cc in
-        word-possible (b .0 .verdict) v
-        (λ G g. ap (evaluate t goal) (bytes ∙ ap (settingsAfter s) (b .1)) ∙ decide-evaluates t goal s w all (b .1) g);
+    satisfied = satisfies;
+    filled = λ q rs e. evaluated-filled t rs all e goal s′ true (satisfies q);
   }
 
 -- ---- where decide ends

@@ -6,8 +6,11 @@ use Prim.Native.Nat.{ℕ, _<_, _≤_}
 use lib.ListN.{length}
 use Rattle.scope.specs.declared.Node.{Node}
 use Rattle.scope.specs.declared.Refusal.{Refusal}
+use Rattle.scope.specs.declared.Truth.the-variants.{Yes}
 use Rattle.scope.specs.Outcome.{Outcome, answer, refused, _>>=_}
-use Rattle.scope.specs.Table.{listFrom}
+use Rattle.scope.specs.Table.{listFrom, decode}
+use Rattle.scope.specs.Truth.{truth}
+use Rattle.scope.specs.Kleene.{Fills}
 use Rattle.scope.specs.Calls.{evaluate}
 use Rattle.calculus.specs.Expansion.{expand}
 use Rattle.calculus.specs.Order.{tree, Answer, possible, impossible, unfinished, answerOf}
@@ -56,4 +59,6 @@ pub record Decides (t : List ℕ) (goal : ℕ) (s w s′ w′ : List ℕ) (r : D
   -- impossible is said exactly when no setting makes the goal true (demand 3)
   pub exact : (said : Word) → decidedOf r ≡ answer said → (said ≡ cannot) ⇔ Unsatisfiable t goal
   -- possible: evaluate of the settings that were written answers yes (demand 3)
-  pub satisfied : r ≡ Possible → evaluate t goal s′ ≡ answer true
+  pub satisfied : r ≡ Possible → evaluate t goal s′ ≡ answer Yes
+  -- .. 'for every way of filling the 2s'
+  pub filled : r ≡ Possible → (rs : List Node) → decode t ≡ answer rs → (f : List ℕ) → Fills s′ f → truth f rs goal ≡ true

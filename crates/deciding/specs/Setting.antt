@@ -2,19 +2,19 @@
 use mathlib.Core.Path.{_≡_}
 use mathlib.Core.Bool.{Bool, cond, _&&_}
 use mathlib.Core.List.{List}
-use Prim.Native.Nat.{ℕ, _*_, _<_, _≤_}
+use Prim.Native.Nat.{ℕ, _<_, _≤_}
 use lib.Dec.{eqb}
 use lib.ListN.{length, getD, drop}
 use Rattle.scope.specs.declared.Node.{Node}
-use Rattle.calculus.specs.Order.{mem}
+use Rattle.calculus.specs.Order.{mem, positive, negative}
 use Rattle.index.specs.Index.{indexNode}
 use Rattle.index.specs.Indexed.{Indexed}
 use Rattle.state.specs.Work.{Ready}
 
--- the points below k are no, and nothing from 1,024 on has changed
+-- the points below k may go either way, and nothing from 1,024 on has changed
 pub record Cleared (s : List ℕ) (k : ℕ) (s′ : List ℕ) : Type 0 where
   pub size : length s′ ≡ length s
-  pub none : (p : ℕ) → p < k → getD s′ p 0 ≡ 0
+  pub either : (p : ℕ) → p < k → getD s′ p 0 ≡ 2
   pub beyond : drop 1024 s′ ≡ drop 1024 s
 
 -- an index whose ATOMs have points, literals held, and a byte for each point
@@ -24,12 +24,12 @@ pub record Points (x : List ℕ) (n : ℕ) (w s : List ℕ) : Type 0 where
   pub ready : Ready n w
   pub room : 1024 ≤ length s
 
--- node i, called x, is the ATOM of the point p, and its positive literal is in G
-abbrev pub held : Node → ℕ → List ℕ → ℕ → Bool
-held x i G p = (eqb (x .kind) 2 && eqb (x .a) p) && mem (2 * i) G
+-- node i, called x, is the ATOM of the point p, and its literal of a sign is in G
+abbrev pub held : (ℕ → ℕ) → Node → ℕ → List ℕ → ℕ → Bool
+held sign x i G p = (eqb (x .kind) 2 && eqb (x .a) p) && mem (sign i) G
 
--- one node more: its point is yes where it is held, and no other byte has changed
+-- one node more: its point is yes where its positive literal is held, no where its negative one is; no other byte has changed
 pub record Marked (x : Node) (i : ℕ) (G s s′ : List ℕ) : Type 0 where
   pub size : length s′ ≡ length s
-  pub points : (p : ℕ) → p < 1024 → getD s′ p 0 ≡ cond (held x i G p) 1 (getD s p 0)
+  pub points : (p : ℕ) → p < 1024 → getD s′ p 0 ≡ cond (held positive x i G p) 1 (cond (held negative x i G p) 0 (getD s p 0))
   pub beyond : drop 1024 s′ ≡ drop 1024 s

@@ -22,19 +22,19 @@ pub enum Decided {
     Refused(Refusal),
 }
 
-// All points no.
+// All points may go either way.
 fn clear(settings: &mut [u8])
     requires { ⌜ 1024 ≤ length (now settings) ⌝ }
     ensures { λ _. ⌜ Cleared (now (settings .entry)) 1024 (now (settings .exit)) ⌝ }
 {
     let mut p = 0;
     while p < 1024 {
-        settings[p] = 0;
+        settings[p] = 2;
         p += 1;
     }
 }
 
-// The point of node i is yes if that is an ATOM whose positive literal is held.
+// The point of node i, if that is an ATOM, is yes where its positive literal is held, and no where its negative one is.
 fn set_point(x: &[u16], n: usize, work: &[u16], settings: &mut [u8], i: usize)
     requires { ⌜ Points (now x) n (now work) (now settings) ⌝ }
     requires { ⌜ i < n ⌝ }
@@ -44,9 +44,9 @@ fn set_point(x: &[u16], n: usize, work: &[u16], settings: &mut [u8], i: usize)
         return;
     }
     let v = state::value(n, work, (2 * i) as u16);
-    if v == 1 {
+    if v != 0 {
         let point = x[4 * i + 1] as usize;
-        settings[point] = 1;
+        settings[point] = (v % 2) as u8;
     }
 }
 

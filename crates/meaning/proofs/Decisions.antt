@@ -1,11 +1,11 @@
 -- What decide's answer means: impossible exactly when no setting makes the goal true (`decide-exact`), and the settings that it gives
 -- make it true, as evaluate says (`decide-evaluates`). Assumes nothing.
 use mathlib.Core.Path.{_≡_, sym, ap, _∙_}
-use mathlib.Core.Bool.{true}
 use mathlib.Core.List.{List, [], _∷_}
 use Prim.Native.Nat.{ℕ}
 use lib.ListN.{length, drop}
 use Rattle.scope.specs.declared.Node.{Node}
+use Rattle.scope.specs.declared.Truth.the-variants.{Yes}
 use Rattle.scope.specs.Outcome.{answer}
 use Rattle.scope.specs.Calls.{evaluate}
 use Rattle.scope.proofs.Tests.{bound}
@@ -13,7 +13,7 @@ use Rattle.codec.specs.Valid.{Bytes}
 use Rattle.calculus.specs.Order.{possible, impossible, answerOf}
 use Rattle.calculus.specs.Decide.{searchOf, settingsOn, Decided, asked, decided, decide, Unsatisfiable, _⇔_}
 use Rattle.calculus.proofs.Asked.{asked-read}
-use Rattle.asking.proofs.Models.{setting-satisfies, search-exact}
+use Rattle.asking.proofs.Models.{setting-yes, search-exact}
 
 module _ (t : List ℕ) (goal : ℕ) (s w : List ℕ) (all : Bytes t) {d : Decided} (e : decide t goal s w ≡ answer d) where
   -- it is of the nodes of a table that was asked
@@ -31,9 +31,9 @@ module _ (t : List ℕ) (goal : ℕ) (s w : List ℕ) (all : Bytes t) {d : Decid
       let a = asked-read t (goal ∷ []) 1024 (length s) (length w) (of-nodes .1) in
       rw (ap (λ (y : Decided). y .verdict) same-answer) (search-exact t (of-nodes .0) all (a .0) goal (a .1 .below .0))
 
-  pub decide-evaluates : {G : List ℕ} → d .verdict ≡ possible G → evaluate t goal (d .settings) ≡ answer true
+  pub decide-evaluates : {G : List ℕ} → d .verdict ≡ possible G → evaluate t goal (d .settings) ≡ answer Yes
   decide-evaluates {G} v =
       let a = asked-read t (goal ∷ []) 1024 (length s) (length w) (of-nodes .1) in
       let p : answerOf (searchOf (of-nodes .0) (goal ∷ [])) ≡ possible G = ap (λ (y : Decided). y .verdict) (sym same-answer) ∙ v in
       ap (evaluate t goal) (ap (λ (y : Decided). y .settings) same-answer ∙ ap (settingsOn (of-nodes .0) s) p)
-      ∙ setting-satisfies t (of-nodes .0) all (a .0) goal (a .1 .below .0) p (drop 1024 s)
+      ∙ setting-yes t (of-nodes .0) all (a .0) goal (a .1 .below .0) p (drop 1024 s)

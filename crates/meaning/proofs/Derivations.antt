@@ -19,7 +19,7 @@ use Rattle.codec.specs.Valid.{Bytes}
 use Rattle.codec.proofs.Rows.{row}
 use Rattle.codec.proofs.Tables.{read-valid}
 use Rattle.calculus.specs.Expansion.{expand}
-use Rattle.calculus.specs.Order.{Answer, possible, impossible, unfinished, answerOf, settingOf}
+use Rattle.calculus.specs.Order.{Answer, possible, impossible, unfinished, answerOf}
 use Rattle.calculus.specs.Model.{All, Table, Below}
 use Rattle.calculus.specs.Decide.{nodesOf, searchOf, asked, Satisfies, Unsatisfiable}
 use Rattle.calculus.proofs.Asked.{asked-read}
@@ -33,7 +33,7 @@ use Rattle.rules.proofs.Sound.{check-sound}
 use Rattle.rules.proofs.Accepts.{derivation-accepted}
 use Rattle.rules.proofs.Steps.{Formed, derivation-formed}
 use Rattle.steps.proofs.Encode.{length-encode-steps, encode-steps-read}
-use Rattle.asking.proofs.Models.{table-of, model-of, literal-truth, evaluated-true, none-satisfies, setting-satisfies}
+use Rattle.asking.proofs.Models.{table-of, model-of, literal-truth, evaluated-filled, none-satisfies, all-no, setting-satisfies}
 use Rattle.published.specs.Bytes.{PublishedBytes}
 use Rattle.published.proofs.Calls.{check-derives}
 
@@ -134,7 +134,7 @@ module _ (t : List ℕ) (all : Bytes t) (goal : ℕ) where
   check-never w d q v h =
       let b = bound (asked t (goal ∷ []) 0 0 (length w)) _ q in
       let a = asked-read t (goal ∷ []) 0 0 (length w) (b .1) in
-      accepted-never t (b .0) all (a .0) (goal ∷ []) (a .1 .below) d (b .2) v (evaluated-true t (b .0) all (a .0) goal v h, tt)
+      accepted-never t (b .0) all (a .0) (goal ∷ []) (a .1 .below) d (b .2) v (evaluated-filled t (b .0) all (a .0) goal v true (h .1) v (λ p k z. refl), tt)
 
   -- the derivation of a goal that is called impossible, where 65,536 blocks hold it
   pub own-accepted : (w : List ℕ) (rs : List Node) → asked t (goal ∷ []) 0 0 (length w) ≡ answer rs → answerOf (searchOf rs (goal ∷ [])) ≡ impossible
@@ -153,7 +153,7 @@ module _ (t : List ℕ) (all : Bytes t) (goal : ℕ) where
         let a = asked-read t (goal ∷ []) 0 0 (length w) e in
         open-or-cut (answerOf (searchOf rs (goal ∷ []))) (row-open rs (goal ∷ []) d (rw e at q))
         (never-cut (length rs) (nodesOf rs) (goal ∷ []) (table-of t rs all (a .0)) (a .1 .below))
-        (λ G z. (settingOf rs G ++ [], setting-satisfies t rs all (a .0) goal (a .1 .below .0) z []))
+        (λ G z. (all-no rs G, setting-satisfies t rs all (a .0) goal (a .1 .below .0) z))
 
     module _ (x : Derived) (q : derive t goal w d ≡ answer x) where
       of-nodes : (rs : List Node) × (asked t (goal ∷ []) 0 0 (length w) ≡ answer rs) × (derived rs (goal ∷ []) d ≡ answer x)

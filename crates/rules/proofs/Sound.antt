@@ -11,6 +11,7 @@ use lib.ListN.{length, getD}
 use borrow.Author.Tests.{ltb-true, eqb-true}
 use Rattle.scope.specs.Outcome.{Outcome, answer, refused, fine, _>>=_}
 use Rattle.scope.specs.declared.Node.{Node}
+use Rattle.scope.specs.Truth.{classical}
 use Rattle.scope.proofs.Tests.{and-left, refused-no}
 use Rattle.calculus.specs.Expansion.{neg, expand}
 use Rattle.calculus.specs.Order.{Value, holds, fails, undecided, valueOf, mem, clauses}
@@ -226,7 +227,7 @@ some-true n v [] h e = false≢true e
 some-true n v (l ∷ c) h e = by-test (litTrue v l) (λ q. inl (h .0, q)) (λ q. inr (some-true n v c (h .1) (rw q at e)))
 
 -- truths that agree with the nodes, and make the goals true, agree with the clauses
-pub model-agrees : (n : ℕ) (t : ℕ → Node) (goals : List ℕ) → Table n t → Below n goals → (v : ℕ → Bool) → Model n t v → AllTrue v goals
+pub model-agrees : (n : ℕ) (t : ℕ → Node) (goals : List ℕ) → Table n t → Below n goals → (v : ℕ → Bool) → Model classical n t v → AllTrue v goals
     → Agrees (expand t) goals n (TrueOf n v)
 model-agrees n t goals T B v M a = record {
   apart = λ l p q. true≢false (sym (q .1) ∙ neg-true v l ∙ ap not (p .1));
@@ -241,5 +242,5 @@ model-agrees n t goals T B v M a = record {
 
 -- where steps of any author are accepted, no truths that agree with the table make all goals true
 pub check-sound : (n : ℕ) (t : ℕ → Node) (goals : List ℕ) → Table n t → Below n goals
-    → (ss : List Step) → accepts (expand t) goals n ss ≡ fine → (v : ℕ → Bool) → Model n t v → AllTrue v goals → ⊥
+    → (ss : List Step) → accepts (expand t) goals n ss ≡ fine → (v : ℕ → Bool) → Model classical n t v → AllTrue v goals → ⊥
 check-sound n t goals T B ss e v M a = none-accepted (expand t) goals n (TrueOf n v) (model-agrees n t goals T B v M a) ss e

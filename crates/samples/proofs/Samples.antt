@@ -15,7 +15,7 @@ use Rattle.scope.specs.Table.{nodeBytes, nodeOf, formOk, rangeOk, orderOk, read
 use Rattle.codec.proofs.Rows.{both}
 use Rattle.codec.proofs.Tables.{encode-reads}
 use Rattle.calculus.specs.Expansion.{chosen, templates, expand}
-use Rattle.calculus.specs.Order.{Answer, mem, valueOf, stateOf, some, firstOf, moveOf, clauses, move, tree, possible as found, impossible, unfinished, answerOf, atomHeld, bit, settingOf}
+use Rattle.calculus.specs.Order.{Answer, mem, valueOf, stateOf, some, firstOf, moveOf, clauses, move, tree, possible as found, impossible, unfinished, answerOf, positive, negative, atomHeld, byteOf, settingOf}
 use Rattle.calculus.specs.Model.{All}
 use Rattle.calculus.proofs.Lists.{every, every-all, all-at, all-imply}
 use Rattle.calculus.specs.Decide.{nodesOf, searchOf, settingsOn, asked, decide}
@@ -47,7 +47,10 @@ rulesA goal ss = accepts (expand (nodesOf nodesA)) (goal ∷ []) 10 ss
 
 -- the settings of points 0 and 1
 abbrev points : Answer → List ℕ
-points (found G) = bit (atomHeld nodesA 0 G 0) ∷ bit (atomHeld nodesA 0 G 1) ∷ []
+points (found G) = point 0 ∷ point 1 ∷ []
+  where
+    point : ℕ → ℕ
+    point p = byteOf (atomHeld positive nodesA 0 G p) (atomHeld negative nodesA 0 G p)
 points impossible = []
 points unfinished = []
 

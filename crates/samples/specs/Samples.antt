@@ -53,6 +53,10 @@ yes = 1
 abbrev pub no : ℕ
 no = 0
 
+-- '2 for undecided points'
+abbrev pub either : ℕ
+either = 2
+
 -- an item of 'Samples'
 pub data Sample : Type 0 where
   -- 'One-block tables: .. alone has check ..'
@@ -101,13 +105,13 @@ rows =
     -- 'One-block tables: TRUE alone has check 154, ATOM 0 alone 235.'
     alone TRUE 154
     ∷ alone (ATOM 0) 235
-    -- '6, 9, 11: possible, yes no. 1, 5, 12: possible, no no.'
-    ∷ possible 6 yes no
+    -- '6, 9, 11: possible, yes no. 1, 5, 12: possible, no no.' 'Sample goals 1, 5, 6 and 12 show 2 for undecided points.'
+    ∷ possible 6 yes either
     ∷ possible 9 yes no
     ∷ possible 11 yes no
-    ∷ possible 1 no no
-    ∷ possible 5 no no
-    ∷ possible 12 no no
+    ∷ possible 1 no either
+    ∷ possible 5 no either
+    ∷ possible 12 either either
     -- '13: U0 C1. 14: U0 U1 U2 U3 R5.0 C5.'
     ∷ derived 13 (U 0 ∷ C 1 ∷ [])
     ∷ derived 14 (U 0 ∷ U 1 ∷ U 2 ∷ U 3 ∷ R 0 5 ∷ C 5 ∷ [])

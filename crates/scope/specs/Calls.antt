@@ -5,10 +5,11 @@ use Prim.Native.Nat.{ℕ, suc, _+_, _*_, _/_}
 use lib.Dec.{eqb, leb, ltb}
 use lib.ListN.{length, getD, take, drop}
 use Rattle.scope.specs.declared.Node.{Node}
+use Rattle.scope.specs.declared.Truth.{Truth}
 use Rattle.scope.specs.Outcome.{Outcome, answer, refused, require, first, _>>_, _>>=_}
 use Rattle.scope.specs.Block.{wordAt}
 use Rattle.scope.specs.Table.{decode, encode, readRecord, sameNode}
-use Rattle.scope.specs.Truth.{truth}
+use Rattle.scope.specs.Kleene.{truth₃}
 
 -- 'Table reading answers the node count'
 unfoldable pub tableCount : List ℕ → Outcome ℕ
@@ -24,19 +25,19 @@ tableRecord t l =
     >>= λ rs. require (ltb l (2 * length rs)) 20 0
     >> answer (getD rs (l / 2) noNode)
 
--- 21: 'under 1,024 bytes'; 22: 'byte not 0 or 1', at the point
+-- 21: 'under 1,024 bytes'; 22: a byte above 2, at the point
 unfoldable pub settingsTest : List ℕ → Outcome (Unit {0})
 settingsTest s =
     require (leb 1024 (length s)) 21 0
-    >> first (λ p. require (ltb (getD s p 0) 2) 22 p) 0 1024
+    >> first (λ p. require (ltb (getD s p 0) 3) 22 p) 0 1024
 
--- 'Evaluate answers a literal's truth'
-unfoldable pub evaluate : List ℕ → ℕ → List ℕ → Outcome Bool
+-- 'Evaluate accepts 2 and answers yes, no or unknown'
+unfoldable pub evaluate : List ℕ → ℕ → List ℕ → Outcome Truth
 evaluate t l s =
     decode t
     >>= λ rs. require (ltb l (2 * length rs)) 20 0
     >> (settingsTest s
-    >> answer (truth s rs l))
+    >> answer (truth₃ s rs l))
 
 -- 'Used 0 is an empty table.'
 unfoldable pub decodeUsed : List ℕ → Outcome (List Node)

@@ -3,4 +3,5 @@ pub mod Outcome
 pub mod Block
 pub mod Table
 pub mod Truth
+pub mod Kleene
 pub mod Calls

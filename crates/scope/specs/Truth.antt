@@ -6,30 +6,57 @@ use lib.Dec.{eqb}
 use lib.ListN.{getD}
 use Rattle.scope.specs.declared.Node.{Node}
 
--- 'a negation is the opposite': a literal's truth, where the nodes' truths are given
-unfoldable pub litTruth : List Bool → ℕ → Bool
-litTruth v l = cond (eqb (l % 2) 0) (getD v (l / 2) false) (not (getD v (l / 2) false))
+-- What truths are: of TRUE, of a point by its byte, of a negation, and of two that are joined. `none` is that of a node that is not
+-- there, which no readable table asks for.
+pub record Logic (A : Type 0) : Type 0 where
+  pub yes : A
+  pub none : A
+  pub point : ℕ → A
+  pub opposite : A → A
+  pub both : A → A → A
+  pub either : A → A → A
+  pub alike : A → A → A
 
--- 'kinds 3 to 6 join their operands' truths by and, or, implies, if and only if'
-unfoldable pub joined : ℕ → Bool → Bool → Bool
-joined kind x y =
-    cond (eqb kind 3) (x && y)
-    (cond (eqb kind 4) (x || y)
-    (cond (eqb kind 5) (not x || y)
-    (Bool·beq x y)))
+module _ {A : Type 0} (L : Logic A) where
+  -- 'a negation is the opposite': a literal's truth, where the nodes' truths are given
+  unfoldable pub litTruth : List A → ℕ → A
+  litTruth v l = cond (eqb (l % 2) 0) (getD v (l / 2) (L .none)) (L .opposite (getD v (l / 2) (L .none)))
 
--- 'TRUE is true, an ATOM is true where its point is 1'; the setting s gives a byte for each point
-unfoldable pub nodeTruth : List ℕ → List Bool → Node → Bool
-nodeTruth s v x =
-    cond (eqb (x .kind) 1) true
-    (cond (eqb (x .kind) 2) (eqb (getD s (x .a) 0) 1)
-    (joined (x .kind) (litTruth v (x .a)) (litTruth v (x .b))))
+  -- 'kinds 3 to 6 join their operands' truths by and, or, implies, if and only if'
+  unfoldable pub joined : ℕ → A → A → A
+  joined kind x y =
+      cond (eqb kind 3) (L .both x y)
+      (cond (eqb kind 4) (L .either x y)
+      (cond (eqb kind 5) (L .either (L .opposite x) y)
+      (L .alike x y)))
 
--- the truths of nodes one after another, each from those before it
-unfoldable pub truthsFrom : List ℕ → List Bool → List Node → List Bool
-truthsFrom s v [] = v
-truthsFrom s v (x ∷ xs) = truthsFrom s (v ++ nodeTruth s v x ∷ []) xs
+  -- 'TRUE is true, an ATOM is true where its point is 1'; the setting s gives a byte for each point
+  unfoldable pub nodeTruth : List ℕ → List A → Node → A
+  nodeTruth s v x =
+      cond (eqb (x .kind) 1) (L .yes)
+      (cond (eqb (x .kind) 2) (L .point (getD s (x .a) 0))
+      (joined (x .kind) (litTruth v (x .a)) (litTruth v (x .b))))
 
--- the truth of a literal of a table's nodes under a setting
-unfoldable pub truth : List ℕ → List Node → ℕ → Bool
-truth s rs l = litTruth (truthsFrom s [] rs) l
+  -- the truths of nodes one after another, each from those before it
+  unfoldable pub truthsFrom : List ℕ → List A → List Node → List A
+  truthsFrom s v [] = v
+  truthsFrom s v (x ∷ xs) = truthsFrom s (v ++ nodeTruth s v x ∷ []) xs
+
+  -- the truth of a literal of a table's nodes under a setting
+  unfoldable pub truthIn : List ℕ → List Node → ℕ → A
+  truthIn s rs l = litTruth (truthsFrom s [] rs) l
+
+-- 'Truth values are classical'
+abbrev pub classical : Logic Bool
+classical = record {
+  yes = true;
+  none = false;
+  point = λ b. eqb b 1;
+  opposite = not;
+  both = _&&_;
+  either = _||_;
+  alike = Bool·beq;
+}
+
+abbrev pub truth : List ℕ → List Node → ℕ → Bool
+truth s rs l = truthIn classical s rs l

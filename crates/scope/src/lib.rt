@@ -27,3 +27,10 @@ pub struct Node {
     pub a: u16,
     pub b: u16,
 }
+
+// A literal's truth under a setting in which points may go either way.
+pub enum Truth {
+    Yes,
+    No,
+    Unknown,
+}

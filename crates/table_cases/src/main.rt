@@ -2,6 +2,7 @@
 use adding::Added;
 use record::NodeRead;
 use scope::Refusal;
+use scope::Truth;
 use table::Counted;
 use truth::Evaluated;
 
@@ -47,16 +48,18 @@ fn show_record(t: &[u8], literal: usize) {
     }
 }
 
+fn say_truth(v: Truth) {
+    match v {
+        Truth::Yes => say(b"yes\n"),
+        Truth::No => say(b"no\n"),
+        Truth::Unknown => say(b"unknown\n"),
+    }
+}
+
 fn show_truth(t: &[u8], literal: usize, s: &[u8]) {
     let c = truth::evaluate(t, literal, s);
     match c {
-        Evaluated::Truth(yes) => {
-            if yes {
-                say(b"yes\n");
-            } else {
-                say(b"no\n");
-            }
-        }
+        Evaluated::Told(v) => say_truth(v),
         Evaluated::Refused(f) => refused(f),
     }
 }

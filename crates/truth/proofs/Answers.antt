@@ -1,22 +1,25 @@
 -- Where evaluation ends: at a refusal of the table, of the literal or of the setting, or with the literal's truth.
 -- Assumes nothing.
 use mathlib.Core.Path.{_≡_, _∙_, ap, sym}
-use mathlib.Core.List.{List, []}
-use mathlib.Core.Bool.{Bool}
+use mathlib.Core.List.{List, [], map}
 use Prim.Native.Nat.{ℕ, _+_, _-_, _*_, _/_, _<_, _≤_}
 use native.Mathlib.Omega.{arith}
 use lib.Dec.{ltb, leb}
 use lib.ListN.{length, getD, take}
 use borrow.Author.Tests.{lt-ltb, le-ltb, leb-true}
 use Rattle.scope.specs.declared.Node.{Node}
+use Rattle.scope.specs.declared.Truth.{Truth}
 use Rattle.scope.specs.Outcome.{answer, refused, fine, require, first, _>>_}
 use Rattle.scope.specs.Table.{nodeAt, listFrom, decode}
-use Rattle.scope.specs.Truth.{litTruth, truthsFrom, truth}
+use Rattle.scope.specs.Truth.{litTruth, truthsFrom, truthIn}
+use Rattle.scope.specs.Kleene.{kleene, truth₃}
 use Rattle.scope.specs.Calls.{tableCount, settingsTest, evaluate}
 use Rattle.scope.proofs.Lists.{length-listFrom, take-listFrom}
 use Rattle.scope.proofs.Tests.{required, then-first, passed-on}
 use Rattle.table.proofs.Rows.{counted}
+use Rattle.truth.specs.Evaluated.{level, truthOf}
 use Rattle.truth.proofs.Truths.{lit-take, lit-prefix}
+use Rattle.truth.proofs.Levels.{truth-of-level, take-map}
 
 -- the table is refused
 pub table-refused : (t s : List ℕ) (l number place : ℕ) → tableCount t ≡ refused number place → refused number place ≡ evaluate t l s
@@ -28,23 +31,23 @@ pub setting-long : (s : List ℕ) → settingsTest s ≡ fine → 1024 ≤ lengt
 unfolding settingsTest
 setting-long s e =
     leb-true 1024 (length s) (required (leb 1024 (length s)) 21 0
-    (then-first (require (leb 1024 (length s)) 21 0) (first (λ (p : ℕ). require (ltb (getD s p 0) 2) 22 p) 0 1024) e))
+    (then-first (require (leb 1024 (length s)) 21 0) (first (λ (p : ℕ). require (ltb (getD s p 0) 3) 22 p) 0 1024) e))
 
 -- the truths of the nodes up to a literal's give its truth among all n
 whole-truth : (t s : List ℕ) (l n : ℕ) → l < 2 * n
-    → litTruth (truthsFrom s [] (listFrom (nodeAt t) 0 (l / 2 + 1))) l ≡ truth s (listFrom (nodeAt t) 0 n) l
-unfolding truth
+    → litTruth kleene (truthsFrom kleene s [] (listFrom (nodeAt t) 0 (l / 2 + 1))) l ≡ truth₃ s (listFrom (nodeAt t) 0 n) l
+unfolding truthIn
 whole-truth t s l n h =
     let f : ℕ → Node = nodeAt t in
     let k : ℕ = l / 2 + 1 in
     let z : k + (n - k) ≡ n = omega arith in
     let first-k : take k (listFrom f 0 n) ≡ listFrom f 0 k = rw z at (take-listFrom f k (n - k) 0) in
     let i : k ≤ length (listFrom f 0 n) = rw length-listFrom (omega arith) in
-    sym (rw first-k at (lit-prefix s (listFrom f 0 n) k l i (omega arith)))
+    sym (rw first-k at (lit-prefix kleene s (listFrom f 0 n) k l i (omega arith)))
 
 -- the rows after a table of n nodes
 module _ (t s : List ℕ) (l n : ℕ) (e : tableCount t ≡ answer n) where
-  rows : evaluate t l s ≡ (require (ltb l (2 * n)) 20 0 >> (settingsTest s >> answer (truth s (listFrom (nodeAt t) 0 n) l)))
+  rows : evaluate t l s ≡ (require (ltb l (2 * n)) 20 0 >> (settingsTest s >> answer (truth₃ s (listFrom (nodeAt t) 0 n) l)))
   unfolding evaluate decode
   rows =
       let c = counted t e in
@@ -60,9 +63,12 @@ module _ (t s : List ℕ) (l n : ℕ) (e : tableCount t ≡ answer n) where
     pub setting-refused : (number place : ℕ) → settingsTest s ≡ refused number place → refused number place ≡ evaluate t l s
     setting-refused number place q = sym (rows ∙ simp (lt-ltb l (2 * n) h, q))
 
-    -- v has the truths of the nodes up to the literal's
-    pub truth-answered : (v : List Bool) (b : Bool) → settingsTest s ≡ fine → take (l / 2 + 1) v ≡ truthsFrom s [] (listFrom (nodeAt t) 0 (l / 2 + 1))
-        → b ≡ litTruth v l → answer b ≡ evaluate t l s
-    truth-answered v b q w p =
-        ap answer (p ∙ sym (lit-take v (l / 2 + 1) l (omega arith)) ∙ ap (λ (u : List Bool). litTruth u l) w ∙ whole-truth t s l n h)
+    -- v has the levels of the nodes up to the literal's
+    pub truth-answered : (v : List ℕ) (x : ℕ) → settingsTest s ≡ fine
+        → map truthOf (take (l / 2 + 1) v) ≡ truthsFrom kleene s [] (listFrom (nodeAt t) 0 (l / 2 + 1))
+        → x ≡ level (litTruth kleene (map truthOf v) l) → answer (truthOf x) ≡ evaluate t l s
+    truth-answered v x q w p =
+        let k : ℕ = l / 2 + 1 in
+        let u : take k (map truthOf v) ≡ truthsFrom kleene s [] (listFrom (nodeAt t) 0 k) = take-map truthOf k v ∙ w in
+        ap answer (ap truthOf p ∙ truth-of-level (litTruth kleene (map truthOf v) l) ∙ sym (lit-take kleene (map truthOf v) k l (omega arith)) ∙ ap (λ (z : List Truth). litTruth kleene z l) u ∙ whole-truth t s l n h)
         ∙ sym (rows ∙ simp (lt-ltb l (2 * n) h, q))

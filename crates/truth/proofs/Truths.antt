@@ -1,9 +1,9 @@
--- Truth under a setting: the truths of a list's nodes one after another, and what 01 says of a literal's truth by its
+-- Truth under a setting, in any logic: the truths of a list's nodes one after another, and what 01 says of a literal's truth by its
 -- node's kind. Assumes nothing.
 use mathlib.Core.Path.{_≡_, _∙_, ap, sym, refl}
 use mathlib.Core.List.{List, [], _∷_, _++_}
 use mathlib.Core.Logic.{⊎-elim}
-use mathlib.Core.Bool.{Bool, true, false, not, _&&_, _||_, Bool·beq, Bool·not-not}
+use mathlib.Core.Bool.{true, false, not, _&&_, _||_, Bool·beq, Bool·not-not}
 use Prim.Native.Nat.{ℕ, suc, _+_, _-_, _*_, _/_, _%_, _<_, _≤_}
 use native.Mathlib.Nat.{add-zero, zero-add, eq-zero-or-pos}
 use native.Mathlib.Omega.{arith}
@@ -13,76 +13,113 @@ use lib.Seq.{length-take-le, take-take, take-append-seam, take-length, take-suc,
 use borrow.Author.Tests.{ne-eqb}
 use Rattle.scope.specs.declared.Node.{Node}
 use Rattle.scope.specs.Calls.{noNode}
-use Rattle.scope.specs.Truth.{litTruth, joined, nodeTruth, truthsFrom, truth}
+use Rattle.scope.specs.Truth.{Logic, litTruth, joined, nodeTruth, truthsFrom, truthIn, classical, truth}
 
-module _ (s : List ℕ) where
-  -- the truths of more nodes start from those of the first
-  pub truths-append : (rs qs : List Node) (v : List Bool) → truthsFrom s v (rs ++ qs) ≡ truthsFrom s (truthsFrom s v rs) qs
-  unfolding truthsFrom
-  truths-append [] qs v = refl
-  truths-append (x ∷ rs) qs v = truths-append rs qs (v ++ nodeTruth s v x ∷ [])
+module _ {A : Type 0} (L : Logic A) where
+  module _ (s : List ℕ) where
+    -- the truths of more nodes start from those of the first
+    pub truths-append : (rs qs : List Node) (v : List A) → truthsFrom L s v (rs ++ qs) ≡ truthsFrom L s (truthsFrom L s v rs) qs
+    unfolding truthsFrom
+    truths-append [] qs v = refl
+    truths-append (x ∷ rs) qs v = truths-append rs qs (v ++ nodeTruth L s v x ∷ [])
 
-  -- one node more
-  pub truths-more : (rs : List Node) (x : Node) → truthsFrom s [] (rs ++ x ∷ []) ≡ truthsFrom s [] rs ++ nodeTruth s (truthsFrom s [] rs) x ∷ []
-  unfolding truthsFrom
-  truths-more rs x = truths-append rs (x ∷ []) []
+    -- one node more
+    pub truths-more : (rs : List Node) (x : Node) → truthsFrom L s [] (rs ++ x ∷ []) ≡ truthsFrom L s [] rs ++ nodeTruth L s (truthsFrom L s [] rs) x ∷ []
+    unfolding truthsFrom
+    truths-more rs x = truths-append rs (x ∷ []) []
 
-  -- one truth for each node
-  pub length-truths : (rs : List Node) (v : List Bool) → length (truthsFrom s v rs) ≡ length v + length rs
-  unfolding truthsFrom
-  length-truths [] v = sym (add-zero (length v))
-  length-truths (x ∷ rs) v =
-      length-truths rs (v ++ nodeTruth s v x ∷ []) ∙ simp length-append (omega arith)
+    -- one truth for each node
+    pub length-truths : (rs : List Node) (v : List A) → length (truthsFrom L s v rs) ≡ length v + length rs
+    unfolding truthsFrom
+    length-truths [] v = sym (add-zero (length v))
+    length-truths (x ∷ rs) v =
+        length-truths rs (v ++ nodeTruth L s v x ∷ []) ∙ simp length-append (omega arith)
 
-  -- the truths known at the start stay
-  pub truths-keep : (rs : List Node) (v : List Bool) → take (length v) (truthsFrom s v rs) ≡ v
-  unfolding truthsFrom
-  truths-keep [] v = take-length v
-  truths-keep (x ∷ rs) v =
-      let w : List Bool = v ++ nodeTruth s v x ∷ [] in
-      let h : length v ≤ length w = simp length-append (omega arith) in
-      sym (take-take (length v) (length w) (truthsFrom s w rs) h)
-      ∙ ap (take (length v)) (truths-keep rs w)
-      ∙ take-append-seam v (nodeTruth s v x ∷ [])
+    -- the truths known at the start stay
+    pub truths-keep : (rs : List Node) (v : List A) → take (length v) (truthsFrom L s v rs) ≡ v
+    unfolding truthsFrom
+    truths-keep [] v = take-length v
+    truths-keep (x ∷ rs) v =
+        let w : List A = v ++ nodeTruth L s v x ∷ [] in
+        let h : length v ≤ length w = simp length-append (omega arith) in
+        sym (take-take (length v) (length w) (truthsFrom L s w rs) h)
+        ∙ ap (take (length v)) (truths-keep rs w)
+        ∙ take-append-seam v (nodeTruth L s v x ∷ [])
 
-  -- the truths of the first k nodes are the first truths of them all
-  pub truths-prefix : (rs : List Node) (v : List Bool) (k : ℕ) → k ≤ length rs → take (length v + k) (truthsFrom s v rs) ≡ truthsFrom s v (take k rs)
-  truths-prefix rs v k h =
-      let w : List Bool = truthsFrom s v (take k rs) in
-      let q : length w ≡ length v + k = length-truths (take k rs) v ∙ ap (length v +_) (length-take-le k rs h) in
-      let e : truthsFrom s v rs ≡ truthsFrom s w (drop k rs) = rw take-append-drop at (truths-append (take k rs) (drop k rs) v) in
-      rw (← q, e) (truths-keep (drop k rs) w)
+    -- the truths of the first k nodes are the first truths of them all
+    pub truths-prefix : (rs : List Node) (v : List A) (k : ℕ) → k ≤ length rs → take (length v + k) (truthsFrom L s v rs) ≡ truthsFrom L s v (take k rs)
+    truths-prefix rs v k h =
+        let w : List A = truthsFrom L s v (take k rs) in
+        let q : length w ≡ length v + k = length-truths (take k rs) v ∙ ap (length v +_) (length-take-le k rs h) in
+        let e : truthsFrom L s v rs ≡ truthsFrom L s w (drop k rs) = rw take-append-drop at (truths-append (take k rs) (drop k rs) v) in
+        rw (← q, e) (truths-keep (drop k rs) w)
 
--- a literal's truth is that of its node or the opposite
-pub lit-even : (v : List Bool) (n : ℕ) → litTruth v (2 * n) ≡ getD v n false
-unfolding litTruth
-lit-even v n =
-    let q : 2 * n / 2 ≡ n = omega arith in
-    let r : 2 * n % 2 ≡ 0 = omega arith in
-    simp (q, r)
+  -- a literal's truth is that of its node or the opposite
+  pub lit-even : (v : List A) (n : ℕ) → litTruth L v (2 * n) ≡ getD v n (L .none)
+  unfolding litTruth
+  lit-even v n =
+      let q : 2 * n / 2 ≡ n = omega arith in
+      let r : 2 * n % 2 ≡ 0 = omega arith in
+      simp (q, r)
 
-pub lit-odd : (v : List Bool) (n : ℕ) → litTruth v (2 * n + 1) ≡ not (getD v n false)
-unfolding litTruth
-lit-odd v n =
-    let q : (2 * n + 1) / 2 ≡ n = omega arith in
-    let r : (2 * n + 1) % 2 ≡ 1 = omega arith in
-    simp (q, r)
+  pub lit-odd : (v : List A) (n : ℕ) → litTruth L v (2 * n + 1) ≡ L .opposite (getD v n (L .none))
+  unfolding litTruth
+  lit-odd v n =
+      let q : (2 * n + 1) / 2 ≡ n = omega arith in
+      let r : (2 * n + 1) % 2 ≡ 1 = omega arith in
+      simp (q, r)
 
--- truths from the literal's node on do not matter
-pub lit-take : (v : List Bool) (n l : ℕ) → l / 2 < n → litTruth (take n v) l ≡ litTruth v l
-unfolding litTruth
-lit-take v n l h = simp (getD-take n v (l / 2) false h)
+  -- truths from the literal's node on do not matter
+  pub lit-take : (v : List A) (n l : ℕ) → l / 2 < n → litTruth L (take n v) l ≡ litTruth L v l
+  unfolding litTruth
+  lit-take v n l h = simp (getD-take n v (l / 2) (L .none) h)
 
--- so the truths of the first nodes give it
-pub lit-prefix : (s : List ℕ) (rs : List Node) (k l : ℕ) → k ≤ length rs → l / 2 < k → litTruth (truthsFrom s [] rs) l ≡ litTruth (truthsFrom s [] (take k rs)) l
-lit-prefix s rs k l h i =
-    sym (lit-take (truthsFrom s [] rs) k l i)
-    ∙ ap (λ (v : List Bool). litTruth v l) (rw zero-add at (truths-prefix s rs [] k h))
+  -- so the truths of the first nodes give it
+  pub lit-prefix : (s : List ℕ) (rs : List Node) (k l : ℕ) → k ≤ length rs → l / 2 < k → litTruth L (truthsFrom L s [] rs) l ≡ litTruth L (truthsFrom L s [] (take k rs)) l
+  lit-prefix s rs k l h i =
+      sym (lit-take (truthsFrom L s [] rs) k l i)
+      ∙ ap (λ (v : List A). litTruth L v l) (rw zero-add at (truths-prefix s rs [] k h))
 
--- 'Literal 2n means node n, literal 2n + 1 its negation'; 'a negation is the opposite'
+  -- 'Literal 2n means node n, literal 2n + 1 its negation'; 'a negation is the opposite'
+  pub negated-opposite : (s : List ℕ) (rs : List Node) (n : ℕ) → truthIn L s rs (2 * n + 1) ≡ L .opposite (truthIn L s rs (2 * n))
+  unfolding truthIn
+  negated-opposite s rs n = simp (lit-even, lit-odd)
+
+  -- node n of the list, called x
+  module _ (s : List ℕ) (rs : List Node) (n : ℕ) (x : Node) (h : n < length rs) (e : getD rs n noNode ≡ x) where
+    -- its truth comes from those of the nodes before it
+    pub node-truth : truthIn L s rs (2 * n) ≡ nodeTruth L s (truthsFrom L s [] (take n rs)) x
+    unfolding truthIn
+    node-truth =
+        let v : List A = truthsFrom L s [] (take n rs) in
+        let q : length v ≡ n = length-truths s (take n rs) [] ∙ zero-add (length (take n rs)) ∙ length-take-le n rs (omega arith) in
+        lit-prefix s rs (suc n) (2 * n) h (omega arith)
+        ∙ simp (take-suc rs n noNode h, truths-more, lit-even, e, getD-at v (nodeTruth L s v x) [] (L .none) n q)
+
+    -- 'TRUE is true'
+    pub true-yes : x .kind ≡ 1 → truthIn L s rs (2 * n) ≡ L .yes
+    unfolding nodeTruth
+    true-yes k = node-truth ∙ simp k
+
+    -- an ATOM's truth is its point's
+    pub atom-truth : x .kind ≡ 2 → truthIn L s rs (2 * n) ≡ L .point (getD s (x .a) 0)
+    unfolding nodeTruth
+    atom-truth k = node-truth ∙ simp k
+
+    -- 'kinds 3 to 6 join their operands' truths', which are of earlier nodes
+    module _ (left : x .a / 2 < n) (right : x .b / 2 < n) where
+      pub truths-join : 2 < x .kind → truthIn L s rs (2 * n) ≡ joined L (x .kind) (truthIn L s rs (x .a)) (truthIn L s rs (x .b))
+      unfolding nodeTruth truthIn
+      truths-join k =
+          let f : eqb (x .kind) 1 ≡ false = ne-eqb (x .kind) 1 (λ q. omega arith) in
+          let g : eqb (x .kind) 2 ≡ false = ne-eqb (x .kind) 2 (λ q. omega arith) in
+          let i : n ≤ length rs = omega arith in
+          node-truth ∙ simp (f, g, lit-prefix s rs n (x .a) i left, lit-prefix s rs n (x .b) i right)
+
+-- ---- 'Truth values are classical'
+
 pub negation-opposite : (s : List ℕ) (rs : List Node) (n : ℕ) → truth s rs (2 * n + 1) ≡ not (truth s rs (2 * n))
-unfolding truth
-negation-opposite s rs n = simp (lit-even, lit-odd)
+negation-opposite = negated-opposite classical
 
 -- the same of any literal l: l + 1 - 2 * (l % 2) is its negation
 module _ (s : List ℕ) (rs : List Node) (l : ℕ) where
@@ -103,34 +140,17 @@ module _ (s : List ℕ) (rs : List Node) (l : ℕ) where
 
 -- node n of the list, called x
 module _ (s : List ℕ) (rs : List Node) (n : ℕ) (x : Node) (h : n < length rs) (e : getD rs n noNode ≡ x) where
-  -- its truth comes from those of the nodes before it
-  pub node-truth : truth s rs (2 * n) ≡ nodeTruth s (truthsFrom s [] (take n rs)) x
-  unfolding truth
-  node-truth =
-      let v : List Bool = truthsFrom s [] (take n rs) in
-      let q : length v ≡ n = length-truths s (take n rs) [] ∙ zero-add (length (take n rs)) ∙ length-take-le n rs (omega arith) in
-      lit-prefix s rs (suc n) (2 * n) h (omega arith)
-      ∙ simp (take-suc rs n noNode h, truths-more, lit-even, e, getD-at v (nodeTruth s v x) [] false n q)
-
   -- 'TRUE is true'
   pub true-true : x .kind ≡ 1 → truth s rs (2 * n) ≡ true
-  unfolding nodeTruth
-  true-true k = node-truth ∙ simp k
+  true-true = true-yes classical s rs n x h e
 
   -- 'an ATOM is true where its point is 1'
   pub atom-point : x .kind ≡ 2 → truth s rs (2 * n) ≡ eqb (getD s (x .a) 0) 1
-  unfolding nodeTruth
-  atom-point k = node-truth ∙ simp k
+  atom-point = atom-truth classical s rs n x h e
 
-  -- 'kinds 3 to 6 join their operands' truths', which are of earlier nodes
   module _ (left : x .a / 2 < n) (right : x .b / 2 < n) where
-    pub node-joins : 2 < x .kind → truth s rs (2 * n) ≡ joined (x .kind) (truth s rs (x .a)) (truth s rs (x .b))
-    unfolding nodeTruth truth
-    node-joins k =
-        let f : eqb (x .kind) 1 ≡ false = ne-eqb (x .kind) 1 (λ q. omega arith) in
-        let g : eqb (x .kind) 2 ≡ false = ne-eqb (x .kind) 2 (λ q. omega arith) in
-        let i : n ≤ length rs = omega arith in
-        node-truth ∙ simp (f, g, lit-prefix s rs n (x .a) i left, lit-prefix s rs n (x .b) i right)
+    pub node-joins : 2 < x .kind → truth s rs (2 * n) ≡ joined classical (x .kind) (truth s rs (x .a)) (truth s rs (x .b))
+    node-joins = truths-join classical s rs n x h e left right
 
     -- '.. by and'
     pub and-joins : x .kind ≡ 3 → truth s rs (2 * n) ≡ (truth s rs (x .a) && truth s rs (x .b))

@@ -1,4 +1,4 @@
--- `deciding::clear` meets its contract: before each turn the points passed are no. Assumes nothing.
+-- `deciding::clear` meets its contract: before each turn the points passed may go either way. Assumes nothing.
 use mathlib.Core.Path.{_≡_}
 use Prim.Native.Nat.{_-_, _≤_}
 use Rattle.deciding.specs.Setting.{Cleared}

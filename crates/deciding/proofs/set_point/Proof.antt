@@ -2,7 +2,7 @@
 use Prim.Native.Nat.{_+_, _*_, _<_}
 use lib.ListN.{getD}
 use Rattle.index.specs.Index.{indexNode}
-use Rattle.deciding.proofs.Settings.{value-in, value-out, marked-other, marked-out, marked-in}
+use Rattle.deciding.proofs.Settings.{value-none, value-byte, marked-other, marked-none, marked-point}
 use native.Mathlib.Omega.{arith}
 use borrow.Author.Needs.{needs}
 use Rattle.deciding.proofs.set_point.Statement.{statement}
@@ -51,6 +51,9 @@ cast-point c =
     let b : getD (s .args .x .now) (4 * s .args .i + 1) 0 < 1024 = s .pre .0 .points (s .args .i) (s .pre .1) (c .before .before .before .if1 .left) in
     omega (arith, b)
 
+cast-settings : tie.Need-cast-settings
+cast-settings c = search needs
+
 slice-write-settings : tie.Need-slice-write-settings
 unfolding indexNode
 slice-write-settings c =
@@ -66,10 +69,11 @@ unfolding indexNode
 returns-2 c =
     let s = c .before .before .before .before .before .before .before .before in
     let b : getD (s .args .x .now) (4 * s .args .i + 1) 0 < 1024 = s .pre .0 .points (s .args .i) (s .pre .1) (c .before .before .before .if1 .left) in
-    marked-in _ _ _ _ (c .before .before .before .if1 .left) (value-in _ _ (c .before .before .value .ensures) (c .before .if2 .taken)) b (s .pre .0 .room)
+    marked-point _ _ _ _ (c .before .before .before .if1 .left) _
+    (value-byte _ _ (c .before .before .value .ensures) (c .before .if2 .taken)) b (s .pre .0 .room)
 
 returns-3 : tie.Need-returns-3
-returns-3 c = marked-out _ _ _ _ (value-out _ _ (c .before .value .ensures) (c .if2 .left))
+returns-3 c = marked-none _ _ _ _ (value-none _ _ (c .before .value .ensures) (c .if2 .left))
 
 pub set-point-spec : {M : Type 1} → statement M
 set-point-spec =
@@ -87,6 +91,7 @@ set-point-spec =
     mul-point-2
     shared-slice-read-point
     cast-point
+    cast-settings
     slice-write-settings
     same-length
     returns-2

@@ -8,6 +8,7 @@ use Rattle.scope.specs.Calls.{tableCount, settingsTest}
 use Rattle.codec.proofs.Tables.{few-records}
 use Rattle.table.specs.Counted.{countedOf}
 use Rattle.table.proofs.Rows.{counted}
+use Rattle.truth.proofs.Levels.{blank-levels}
 use Rattle.truth.proofs.Answers.{table-refused, setting-long, literal-refused, setting-refused, truth-answered}
 use Rattle.truth.proofs.evaluate.Statement.{statement}
 use Rattle.truth.proofs.evaluate.Tie as tie
@@ -52,14 +53,14 @@ enum-known-w c = search needs
 enum-told : tie.Need-enum-told
 enum-told c = search needs
 
-slice-aggregate-node-truths : tie.Need-slice-aggregate-node-truths
-slice-aggregate-node-truths c = search needs
+slice-aggregate-node-levels : tie.Need-slice-aggregate-node-levels
+slice-aggregate-node-levels c = search needs
 
-add-node-truths : tie.Need-add-node-truths
-add-node-truths c = search needs
+add-node-levels : tie.Need-add-node-levels
+add-node-levels c = search needs
 
-node-truths-requires : tie.Need-node-truths-requires
-node-truths-requires c κs =
+node-levels-requires : tie.Need-node-levels-requires
+node-levels-requires c κs =
     let q = counted _ (answered (c .before .before .before .before .before)) in
     let h = c .before .before .before .before .if1 .left in
     record {
@@ -67,17 +68,20 @@ node-truths-requires c κs =
       inside = omega (arith, h, q .1);
       points = setting-long _ (settled (c .before));
       room = omega (arith, h, few (c .before .before .before .before .before));
+      levels = blank-levels 2016;
     }
 
-slice-aggregate-lit-truth : tie.Need-slice-aggregate-lit-truth
-slice-aggregate-lit-truth c = search needs
+slice-aggregate-lit-level : tie.Need-slice-aggregate-lit-level
+slice-aggregate-lit-level c = search needs
 
-lit-truth-requires : tie.Need-lit-truth-requires
-lit-truth-requires c κs =
-    let at-node-truths = c .before .before in
-    let at-if1 = at-node-truths .before .before .before .before .before in
-    let at-rest = at-if1 .before in
-    omega (arith, at-node-truths .node-truths .kept, few (at-rest), at-if1 .if1 .left)
+lit-level-requires : tie.Need-lit-level-requires
+lit-level-requires c κs =
+    let levels = c .before .before in
+    let below = levels .before .before .before .before .before in
+    (omega (arith, levels .node-levels .kept, few (below .before), below .if1 .left), levels .node-levels .ensures .0)
+
+told-requires : tie.Need-told-requires
+told-requires c κs = search needs
 
 returns-2 : tie.Need-returns-2
 returns-2 c = table-refused _ _ _ _ _ (sym (c .before .before .before .count .ensures) ∙ ap countedOf (c .before .c .given .1))
@@ -89,8 +93,12 @@ returns-3 c =
 
 returns-4 : tie.Need-returns-4
 returns-4 c =
-    truth-answered _ _ _ _ (answered (c .before .before .before .before .before .before .before .before .before)) (c .before .before .before .before .before .before .before .before .if1 .left) _ _
-    (settled (c .before .before .before .before .before)) (c .before .before .before .node-truths .ensures) (c .lit-truth .ensures)
+    let lit = c .before in
+    let levels = lit .before .before .before in
+    let told = levels .before .before .before .before .before .before in
+    ap answer (c .told .ensures)
+    ∙ truth-answered _ _ _ _ (answered told) (levels .before .before .before .before .before .if1 .left) _ _
+    (settled (levels .before .before)) (levels .node-levels .ensures .1) (lit .lit-level .ensures)
 
 pub evaluate-spec : {M : Type 1} → statement M
 evaluate-spec =
@@ -104,11 +112,12 @@ evaluate-spec =
     settings-verdict-requires
     enum-known-w
     enum-told
-    slice-aggregate-node-truths
-    add-node-truths
-    node-truths-requires
-    slice-aggregate-lit-truth
-    lit-truth-requires
+    slice-aggregate-node-levels
+    add-node-levels
+    node-levels-requires
+    slice-aggregate-lit-level
+    lit-level-requires
+    told-requires
     returns-2
     returns-3
     returns-4)

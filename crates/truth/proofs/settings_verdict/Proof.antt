@@ -16,7 +16,7 @@ use Rattle.truth.proofs.settings_verdict.Tie as tie
 
 -- row 22 at a point
 abbrev row : List ℕ → ℕ → Outcome (Unit {0})
-row s p = require (ltb (getD s p 0) 2) 22 p
+row s p = require (ltb (getD s p 0) 3) 22 p
 
 abbrev Inv-loop : tie.InvT-loop
 Inv-loop s p₀ p = (p ≤ 1024) × (first (row s) p (1024 - p) ≡ settingsTest s)
@@ -39,8 +39,8 @@ returns-2 : tie.Need-returns-2 Inv-loop μ-loop
 returns-2 c =
     let s = c .before .before .before .before .before .args .s .now in
     let p = c .before .before .before .loop .p in
-    let high : 2 ≤ getD s p 0 = omega (arith, c .if2 .taken) in
-    sym (stops (row s) p 1024 22 p (c .before .before .loop-test .taken) (simp (le-ltb (getD s p 0) 2 high)))
+    let high : 3 ≤ getD s p 0 = omega (arith, c .if2 .taken) in
+    sym (stops (row s) p 1024 22 p (c .before .before .loop-test .taken) (simp (le-ltb (getD s p 0) 3 high)))
     ∙ c .before .before .before .loop .inv .1
 
 add-p : tie.Need-add-p Inv-loop μ-loop
@@ -53,9 +53,9 @@ loop-again : tie.Need-loop-again Inv-loop μ-loop
 loop-again c =
     let s = c .before .before .before .before .before .args .s .now in
     let p = c .before .before .before .loop .p in
-    let low : getD s p 0 < 2 = omega (arith, c .if2 .left) in (
+    let low : getD s p 0 < 3 = omega (arith, c .if2 .left) in (
       search needs,
-      sym (goes (row s) p 1024 (c .before .before .loop-test .taken) (met _ 22 p (lt-ltb (getD s p 0) 2 low)))
+      sym (goes (row s) p 1024 (c .before .before .loop-test .taken) (met _ 22 p (lt-ltb (getD s p 0) 3 low)))
           ∙ c .before .before .before .loop .inv .1,
     )
 
