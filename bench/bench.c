@@ -38,11 +38,11 @@ static void evaluate(const a_case *c, int side)
 {
     memset(settings[side], (int)c->nodes % 2, 1024);
     if (side == LIB) {
-        bev_truth v = bev_evaluate(c->table, c->len, c->goal, settings[LIB], 1024);
+        bev_truth v = bev_evaluate(c->table, c->len, c->goals.goal[0], settings[LIB], 1024);
         say(LIB, v.number, v.place, v.truth, 0);
     } else {
         p_refusal v;
-        int truth = p_evaluate(c->table, c->len, c->goal, settings[PLAIN], 1024, &v);
+        int truth = p_evaluate(c->table, c->len, c->goals.goal[0], settings[PLAIN], 1024, &v);
         say(PLAIN, v.number, v.place, (size_t)truth, 0);
     }
 }
@@ -64,20 +64,26 @@ static void adds(const a_case *c, int side)
     }
 }
 
-static void decide_goal(const a_case *c, int side, size_t goal)
+static void decide_goals(const a_case *c, int side, const p_list *g)
 {
     memset(settings[side], 170, 1024);
     if (side == LIB) {
-        bev_decided v = bev_decide(c->table, c->len, goal, settings[LIB], 1024, work, BEV_WORK);
+        bev_decided v = bev_decide(c->table, c->len, g->goal, g->count, settings[LIB], 1024, work, BEV_WORK);
         say(LIB, v.number, v.place, v.possible, 0);
     } else {
         p_refusal v;
-        int possible = p_decide(c->table, c->len, goal, settings[PLAIN], 1024, &v);
+        int possible = p_decide(c->table, c->len, g, settings[PLAIN], 1024, &v);
         say(PLAIN, v.number, v.place, (size_t)possible, 0);
     }
 }
 
-static void decide(const a_case *c, int side) { decide_goal(c, side, c->goal); }
+static void decide(const a_case *c, int side) { decide_goals(c, side, &c->goals); }
+
+static void decide_goal(const a_case *c, int side, size_t goal)
+{
+    p_list g = one(goal);
+    decide_goals(c, side, &g);
+}
 
 static void listing(const a_case *c, int side)
 {
@@ -92,11 +98,11 @@ static uint64_t steps;
 static void derive(const a_case *c, int side)
 {
     if (side == LIB) {
-        bev_derived v = bev_derive(c->table, c->len, c->goal, work, BEV_WORK, derivation[LIB], ROOM);
+        bev_derived v = bev_derive(c->table, c->len, c->goals.goal, c->goals.count, work, BEV_WORK, derivation[LIB], ROOM);
         say(LIB, v.number, v.place, v.steps, 0);
     } else {
         p_refusal v;
-        steps = p_derive(c->table, c->len, c->goal, derivation[PLAIN], ROOM, &v);
+        steps = p_derive(c->table, c->len, &c->goals, derivation[PLAIN], ROOM, &v);
         say(PLAIN, v.number, v.place, steps, 0);
     }
 }
@@ -106,10 +112,10 @@ static size_t size_of_steps(void) { return 512 * ((steps + 125) / 126); }
 static void check(const a_case *c, int side)
 {
     if (side == LIB) {
-        bev_checked v = bev_check(c->table, c->len, c->goal, work, BEV_WORK, derivation[PLAIN], size_of_steps());
+        bev_checked v = bev_check(c->table, c->len, c->goals.goal, c->goals.count, work, BEV_WORK, derivation[PLAIN], size_of_steps());
         say(LIB, v.number, v.place, 0, 0);
     } else {
-        p_refusal v = p_checked(c->table, c->len, c->goal, derivation[PLAIN], size_of_steps());
+        p_refusal v = p_checked(c->table, c->len, &c->goals, derivation[PLAIN], size_of_steps());
         say(PLAIN, v.number, v.place, 0, 0);
     }
 }
@@ -245,6 +251,10 @@ static void searches(void)
         random_clauses(&now, random[k].points, random[k].seed);
         decides();
     }
+    for (size_t goals = 8; goals <= P_GOALS; goals *= 8) {
+        random_list(&now, 80, 2, goals);
+        decides();
+    }
     for (unsigned seed = 1; seed < 3; seed++) {
         easy(&now, 2016, seed);
         decides();
@@ -268,7 +278,7 @@ static void derives(void)
     if (!derivation[LIB])
         exit(2);
     derivation[PLAIN] = derivation[LIB] + ROOM;
-    for (int k = 0; k < 8; k++) {
+    for (int k = 0; k < 9; k++) {
         switch (k) {
         case 0: pigeonhole(&now, 6); break;
         case 1: pigeonhole(&now, 7); break;
@@ -278,6 +288,7 @@ static void derives(void)
         case 5: schwichtenberg(&now, 500); break;
         case 6: random_clauses(&now, 60, 6); break;
         case 7: random_clauses(&now, 80, 2); break;
+        case 8: random_list(&now, 80, 2, P_GOALS); break;
         }
         times t = measure(derive, &now, "derive");
         if (memcmp(derivation[LIB], derivation[PLAIN], size_of_steps())) {

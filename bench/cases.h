@@ -6,7 +6,7 @@
 #include <stdio.h>
 #include <stdlib.h>
 
-typedef struct { char name[32]; uint8_t table[16384]; size_t len, nodes, goal; } a_case;
+typedef struct { char name[32]; uint8_t table[16384]; size_t len, nodes; p_list goals; } a_case;
 
 static uint64_t b_record[P_NODES];
 static size_t b_nodes;
@@ -49,11 +49,17 @@ static unsigned no(unsigned l) { return l ^ 1; }
 enum { none = 65535 };
 static unsigned chain(unsigned kind, unsigned so_far, unsigned l) { return so_far == none ? l : node(kind, so_far, l); }
 
-static void write_case(a_case *c, const char *name, unsigned n, unsigned goal)
+static p_list one(size_t goal)
+{
+    p_list g = { 1, { (uint16_t)goal } };
+    return g;
+}
+
+static void write_list(a_case *c, const char *name, unsigned n, p_list goals)
 {
     snprintf(c->name, sizeof c->name, n ? "%s %u" : "%s", name, n);
     c->nodes = b_nodes;
-    c->goal = goal;
+    c->goals = goals;
     c->len = 512 * ((b_nodes + 62) / 63);
     memset(c->table, 0, sizeof c->table);
     for (size_t m = 0; m < b_nodes; m++) {
@@ -67,6 +73,8 @@ static void write_case(a_case *c, const char *name, unsigned n, unsigned goal)
         p_seal(c->table + 512 * j);
     b_nodes = 0;
 }
+
+static void write_case(a_case *c, const char *name, unsigned n, unsigned goal) { write_list(c, name, n, one(goal)); }
 
 /* n + 1 pigeons do not fit into n holes. */
 static void pigeonhole(a_case *c, unsigned n)
@@ -132,16 +140,19 @@ static void schwichtenberg(a_case *c, unsigned n)
     write_case(c, "Schwichtenberg", n, no(node(IMP, left, atom(0))));
 }
 
-/* Random clauses of three points, 4.26 to a point. */
-static void random_clauses(a_case *c, unsigned n, unsigned seed)
+/* Random clauses of three points, 4.26 to a point: as one goal, or as a list of goals that have about as many clauses each. */
+static void random_list(a_case *c, unsigned n, unsigned seed, size_t goals)
 {
     char name[32];
+    p_list all = { goals, { 0 } };
     b_seed = 88172645463325252u + seed * 7919;
     for (unsigned i = 0; i < 20; i++)
         pick(2);
     for (unsigned i = 0; i < n; i++)
         atom(i);
-    unsigned all = none, clauses = n * 426 / 100;
+    unsigned clauses = n * 426 / 100;
+    for (size_t k = 0; k < goals; k++)
+        all.goal[k] = none;
     for (unsigned k = 0; k < clauses; k++) {
         unsigned x = pick(n), y = pick(n), z = pick(n);
         while (y == x)
@@ -149,11 +160,14 @@ static void random_clauses(a_case *c, unsigned n, unsigned seed)
         while (z == x || z == y)
             z = pick(n);
         unsigned pair = node(OR, 2 * x + pick(2), 2 * y + pick(2));
-        all = chain(AND, all, node(OR, pair, 2 * z + pick(2)));
+        uint16_t *goal = &all.goal[k * goals / clauses];
+        *goal = (uint16_t)chain(AND, *goal, node(OR, pair, 2 * z + pick(2)));
     }
-    snprintf(name, sizeof name, "random %u/%u", n, seed);
-    write_case(c, name, 0, all);
+    snprintf(name, sizeof name, goals == 1 ? "random %u/%u" : "random %u/%u in %zu", n, seed, goals);
+    write_list(c, name, 0, all);
 }
+
+static void random_clauses(a_case *c, unsigned n, unsigned seed) { random_list(c, n, seed, 1); }
 
 /* A table of so many nodes whose goals are all decided quickly: 96 points, then operations mostly of nodes far back. */
 static void easy(a_case *c, unsigned n, unsigned seed)

@@ -5,7 +5,8 @@
  * false, unit, open. A bit set for each class, with a summary word, gives the first place of a class in two steps. A clause is always
  * two literals: a shorter one is filled up with a literal that is always false, a missing one has a literal that is always true. A
  * literal that joins renews the places of its node's parents in the trail; a split level notes each older class it changes, and is
- * taken back by putting these back and clearing the places above. Nodes above the goal cannot be reached and are not indexed. */
+ * taken back by putting these back and clearing the places above. Nodes above the goals cannot be reached and are not indexed. The
+ * clauses of the goals come first in the list, so the goals join first of all, and have no places. */
 #ifndef PLAIN_H
 #define PLAIN_H
 
@@ -13,10 +14,11 @@
 #include <stdint.h>
 #include <string.h>
 
-enum { P_NODES = 2016, P_SLOTS = 4096, P_TRUE = 2 * P_NODES, P_FALSE = P_TRUE + 1, P_PLACES = 4096 };
+enum { P_NODES = 2016, P_GOALS = 64, P_SLOTS = 4096, P_TRUE = 2 * P_NODES, P_FALSE = P_TRUE + 1, P_PLACES = 4096 };
 enum { P_MET, P_CONFLICT, P_UNIT, P_OPEN };
 
 typedef struct { unsigned number; size_t place; } p_refusal;
+typedef struct { size_t count; uint16_t goal[P_GOALS]; } p_list;
 
 /* A table that was read: the records as numbers (kind, a from bit 16, b from bit 32), and the hash of all of them. */
 static struct { size_t nodes; uint64_t node[P_NODES]; uint16_t slot[P_SLOTS]; } p_table;
@@ -196,10 +198,13 @@ static p_added p_add(uint8_t *buf, size_t len, size_t used, const uint8_t *recor
     return done;
 }
 
-/* Evaluate: 0 or 1, or the refusal. */
+/* Evaluate: 0 no, 1 yes, 2 unknown, or the refusal. */
 static int p_evaluate(const uint8_t *t, size_t len, size_t literal, const uint8_t *s, size_t points, p_refusal *no)
 {
-    static const uint8_t joined[7] = { 0, 0, 0, 8, 14, 11, 9 }; /* by kind: bit 2 a + b */
+    /* by kind, then 3 a + b */
+    static const uint8_t joined[7][9] = { { 0 }, { 0 }, { 0 }, { 0, 0, 0, 0, 1, 2, 0, 2, 2 }, { 0, 1, 2, 1, 1, 1, 2, 1, 2 },
+        { 1, 1, 1, 0, 1, 2, 2, 1, 2 }, { 1, 0, 2, 0, 1, 2, 2, 2, 2 } };
+    static const uint8_t signed_as[2][3] = { { 0, 1, 2 }, { 1, 0, 2 } };
     uint8_t truth[P_NODES];
     *no = p_read(t, len);
     if (no->number)
@@ -207,19 +212,21 @@ static int p_evaluate(const uint8_t *t, size_t len, size_t literal, const uint8_
     *no = p_no(literal >= 2 * p_table.nodes ? 20 : points < 1024 ? 21 : 0, 0);
     if (no->number)
         return 0;
-    for (size_t i = 0; i < 1024; i += 8)
-        if (p_load(s + i) & 0xFEFEFEFEFEFEFEFE) {
-            while (s[i] < 2)
+    for (size_t i = 0; i < 1024; i += 8) {
+        uint64_t v = p_load(s + i);
+        if ((((v & 0x7F7F7F7F7F7F7F7F) + 0x7D7D7D7D7D7D7D7D) | v) & 0x8080808080808080) {
+            while (s[i] < 3)
                 i++;
             *no = p_no(22, i);
             return 0;
         }
+    }
     for (size_t n = 0; n <= literal / 2; n++) {
         uint64_t r = p_table.node[n];
         unsigned kind = r & 255, a = r >> 16 & 65535, b = r >> 32 & 65535;
-        truth[n] = kind > 2 ? joined[kind] >> (2 * (truth[a / 2] ^ (a & 1)) + (truth[b / 2] ^ (b & 1))) & 1 : kind == 1 ? 1 : s[a];
+        truth[n] = kind > 2 ? joined[kind][3 * signed_as[a & 1][truth[a / 2]] + signed_as[b & 1][truth[b / 2]]] : kind == 1 ? 1 : s[a];
     }
-    return truth[literal / 2] ^ (int)(literal & 1);
+    return signed_as[literal & 1][truth[literal / 2]];
 }
 
 /* The search */
@@ -257,7 +264,7 @@ static inline uint64_t p_clauses(unsigned l, unsigned *count)
     return ((a * P_LANES & p_rows[row].a) | (b * P_LANES & p_rows[row].b) | p_rows[row].fixed) ^ p_rows[row].negated;
 }
 
-/* Parents of the nodes up to the goal's, each node's after each other's. */
+/* Parents of the nodes up to the highest goal's, each node's after each other's. */
 static void p_link(size_t nodes)
 {
     memset(ps.first, 0, sizeof ps.first[0] * (nodes + 1));
@@ -395,9 +402,11 @@ static inline void p_steps(p_sink *s, unsigned rule, unsigned place)
     p_step(s, rule, 0, k);
 }
 
-static void p_start(size_t goal)
+static void p_start(const p_list *g)
 {
-    size_t nodes = goal / 2 + 1;
+    size_t nodes = 0;
+    for (size_t i = 0; i < g->count; i++)
+        nodes = g->goal[i] / 2u >= nodes ? g->goal[i] / 2u + 1 : nodes;
     p_link(nodes);
     memset(ps.value, 0, 2 * nodes);
     ps.value[P_TRUE] = 1;
@@ -407,17 +416,49 @@ static void p_start(size_t goal)
     memset(ps.set, 0, sizeof ps.set);
     memset(ps.summary, 0, sizeof ps.summary);
     ps.held = ps.notes = ps.levels = ps.moves = 0;
-    ps.number[1] = 1;
+    ps.number[1] = (uint16_t)g->count;
 }
 
-/* The search of a goal from nothing: 1 possible, 0 impossible; the first move is the unit clause of the goal. */
-static inline int p_search(size_t goal, p_sink *steps)
+/* The first goal behind i that is false, or the count. */
+static inline size_t p_false_goal(const p_list *g, size_t i)
 {
-    p_start(goal);
-    uint64_t moves = 1;
-    if (steps)
-        p_step(steps, 'U', 0, 0);
-    p_assume((unsigned)goal);
+    while (++i < g->count && ps.value[g->goal[i]] != 2)
+        ;
+    return i;
+}
+
+/* The goals join in list order, by the unit clause of each that is not true yet: 0 where a goal is false, which closes the search. What
+ * else is a conflict by then is left to the search. */
+static inline int p_join_goals(const p_list *g, p_sink *steps, uint64_t *moves)
+{
+    for (size_t i = 0; i < g->count && !ps.summary[P_CONFLICT]; i++) {
+        if (ps.value[g->goal[i]])
+            continue;
+        ++*moves;
+        if (steps)
+            p_step(steps, 'U', 0, (unsigned)i);
+        p_assume(g->goal[i]);
+        size_t k = p_false_goal(g, i);
+        if (k < g->count) {
+            if (steps) {
+                p_step(steps, 'R', 0, (unsigned)k);
+                p_step(steps, 'C', 0, (unsigned)k);
+            }
+            return 0;
+        }
+    }
+    return 1;
+}
+
+/* The search of a list of goals from nothing: 1 possible, 0 impossible. */
+static inline int p_search(const p_list *g, p_sink *steps)
+{
+    uint64_t moves = 0;
+    p_start(g);
+    if (!p_join_goals(g, steps, &moves)) {
+        ps.moves = moves + 1;
+        return 0;
+    }
     for (;; moves++) {
         if (ps.summary[P_CONFLICT]) {
             if (steps)
@@ -445,35 +486,45 @@ static inline int p_search(size_t goal, p_sink *steps)
     return !ps.summary[P_CONFLICT];
 }
 
-/* Decide: 1 possible with the settings, 0 impossible, or the refusal. */
-static int p_decide(const uint8_t *t, size_t len, size_t goal, uint8_t *settings, size_t points, p_refusal *no)
+/* The table's rows, then rows 62 and 20. */
+static p_refusal p_asked(const uint8_t *t, size_t len, const p_list *g)
 {
-    *no = p_read(t, len);
-    if (no->number)
+    p_refusal no = p_read(t, len);
+    if (no.number)
+        return no;
+    if (g->count == 0 || g->count > P_GOALS)
+        return p_no(62, 0);
+    for (size_t i = 0; i < g->count; i++)
+        if (g->goal[i] >= 2 * p_table.nodes)
+            return p_no(20, i);
+    return no;
+}
+
+/* Decide: 1 possible with the settings, 0 impossible, or the refusal. */
+static int p_decide(const uint8_t *t, size_t len, const p_list *g, uint8_t *settings, size_t points, p_refusal *no)
+{
+    *no = p_asked(t, len, g);
+    if (!no->number && points < 1024)
+        *no = p_no(21, 0);
+    if (no->number || !p_search(g, NULL))
         return 0;
-    *no = p_no(goal >= 2 * p_table.nodes ? 20 : points < 1024 ? 21 : 0, 0);
-    if (no->number || !p_search(goal, NULL))
-        return 0;
-    memset(settings, 0, 1024);
+    memset(settings, 2, 1024);
     for (size_t q = 1; q <= ps.held; q++) {
         uint64_t r = p_table.node[ps.trail[q] / 2];
-        if ((r & 255) == 2 && ps.trail[q] % 2 == 0)
-            settings[r >> 16 & 65535] = 1;
+        if ((r & 255) == 2)
+            settings[r >> 16 & 65535] = ps.trail[q] % 2 == 0;
     }
     return 1;
 }
 
 /* Derive: the step count, or the refusal; a first search counts. */
-static size_t p_derive(const uint8_t *t, size_t len, size_t goal, uint8_t *out, size_t room, p_refusal *no)
+static size_t p_derive(const uint8_t *t, size_t len, const p_list *g, uint8_t *out, size_t room, p_refusal *no)
 {
-    *no = p_read(t, len);
-    if (no->number)
-        return 0;
-    *no = p_no(goal >= 2 * p_table.nodes ? 20 : 0, 0);
+    *no = p_asked(t, len, g);
     if (no->number)
         return 0;
     p_sink s = { 0, NULL };
-    *no = p_no(p_search(goal, &s) ? 30 : 0, 0);
+    *no = p_no(p_search(g, &s) ? 30 : 0, 0);
     if (no->number)
         return 0;
     uint64_t blocks = (s.steps + 125) / 126;
@@ -482,7 +533,7 @@ static size_t p_derive(const uint8_t *t, size_t len, size_t goal, uint8_t *out, 
         return 0;
     s.steps = 0;
     s.out = out;
-    p_search(goal, &s);
+    p_search(g, &s);
     if (s.steps % 126)
         p_seal(out + 512 * (blocks - 1));
     return (size_t)s.steps;
@@ -490,11 +541,11 @@ static size_t p_derive(const uint8_t *t, size_t len, size_t goal, uint8_t *out, 
 
 /* The checker */
 
-enum { P_GONE0 = 1, P_GONE1 = 2, P_STRUCK = 4 };
+enum { P_GONE0 = 1, P_GONE1 = 2, P_STRUCK = 4, P_CLAUSES = P_GOALS + 2 * P_NODES };
 
 static struct {
-    uint8_t value[P_TRUE], marks[P_PLACES + 8], size[P_PLACES + 8];
-    uint32_t pair[P_PLACES + 8];
+    uint8_t value[P_TRUE], marks[P_CLAUSES], size[P_CLAUSES];
+    uint32_t pair[P_CLAUSES];
     uint16_t trail[P_NODES];
     uint32_t note[3 * P_PLACES];
     struct { uint16_t literal, held, clauses; uint32_t notes; } level[P_NODES];
@@ -605,18 +656,17 @@ static p_refusal p_form(const uint8_t *d, size_t len)
     return p_no(0, 0);
 }
 
-static p_refusal p_checked(const uint8_t *t, size_t len, size_t goal, const uint8_t *d, size_t size)
+static p_refusal p_checked(const uint8_t *t, size_t len, const p_list *g, const uint8_t *d, size_t size)
 {
-    p_refusal no = p_read(t, len);
-    if (!no.number && goal >= 2 * p_table.nodes)
-        no = p_no(20, 0);
+    p_refusal no = p_asked(t, len, g);
     if (!no.number)
         no = p_form(d, size);
     if (no.number)
         return no;
     memset(pc.value, 0, sizeof pc.value);
     pc.held = pc.clauses = pc.notes = pc.levels = 0;
-    p_clause((unsigned)goal | (unsigned)P_FALSE << 16);
+    for (size_t i = 0; i < g->count; i++)
+        p_clause(g->goal[i] | (unsigned)P_FALSE << 16);
     int state = 1;
     size_t steps = 0;
     for (size_t j = 0; j < size / 512; j++) {

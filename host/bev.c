@@ -31,25 +31,28 @@ static const struct command commands[] = {
       "A record that is there already is found. TABLE is made where there is none. The file is replaced\n"
       "whole once every record is in, and stays as it was on any refusal.\n",
       run_add, 2, INT_MAX, 0 },
-    { "eval", "TABLE LITERAL SETTINGS", "a literal's truth: yes or no",
-      "SETTINGS is a file of a byte for each of the 1,024 points, 0 no and 1 yes; what follows them is not read.\n",
+    { "eval", "TABLE LITERAL SETTINGS", "a literal's truth: yes, no or unknown",
+      "SETTINGS is a file of a byte for each of the 1,024 points, 0 no, 1 yes and 2 either way; what follows them is\n"
+      "not read.\n",
       run_eval, 3, 3, 0 },
-    { "decide", "TABLE GOAL [--out FILE]", "whether some setting makes a literal true",
+    { "decide", "TABLE GOAL.. [--out FILE]", "whether one setting makes all goals true",
       "Prints `possible` and the setting, a line for each point that the table names, or `impossible`.\n"
-      "  --out FILE   the setting as 1,024 bytes, for eval; written where the goal is possible\n",
-      run_decide, 2, 2, TAKES_OUT },
-    { "derive", "TABLE GOAL -o FILE", "writes the derivation of an impossible goal",
-      "Prints the number of steps. A goal that is possible has none: refused 30.\n",
-      run_derive, 2, 2, TAKES_OUT },
-    { "check", "TABLE GOAL FILE", "whether a derivation shows that a goal is impossible",
-      "FILE may be by any author. Prints `accepted`, or the refusal with the step where it fails.\n",
-      run_check, 3, 3, 0 },
-    { "steps", "FILE [TABLE GOAL]", "a derivation's steps; with table and goal, why each holds",
-      "The steps on one line, R5.0 for a removal in clause 5 at position 0. With TABLE and GOAL a line a step:\n"
+      "A list has 1 to 64 goals, which are literals; the same one may stand in it again.\n"
+      "  --out FILE   the setting as 1,024 bytes, for eval; written where the goals are possible\n",
+      run_decide, 2, INT_MAX, TAKES_OUT },
+    { "derive", "TABLE GOAL.. -o FILE", "writes the derivation of impossible goals",
+      "Prints the number of steps. Goals that one setting makes true have none: refused 30.\n",
+      run_derive, 2, INT_MAX, TAKES_OUT },
+    { "check", "TABLE GOAL.. FILE", "whether a derivation shows that goals are impossible",
+      "FILE, the last word, may be by any author, for this table and these goals in this order. Prints\n"
+      "`accepted`, or the refusal with the step where it fails.\n",
+      run_check, 3, INT_MAX, 0 },
+    { "steps", "FILE [TABLE GOAL..]", "a derivation's steps; with table and goals, why each holds",
+      "The steps on one line, R5.0 for a removal in clause 5 at position 0. With TABLE and GOAL.. a line a step:\n"
       "its clause with struck literals in brackets, the literal whose expansion the clause is of, and why the\n"
       "step holds, indented by the splits that are open. A derivation that fails is shown up to the step where\n"
       "it does.\n",
-      run_steps, 1, 3, 0 },
+      run_steps, 1, INT_MAX, 0 },
     { "dimacs", "FILE [--clean] [-o TABLE]", "decides a DIMACS file as SAT solvers do",
       "Prints c, s and v lines. Variable v is point v - 1. Where FILE is refused by 60 or 61, a c line names\n"
       "the line and the cause.\n"

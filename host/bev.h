@@ -50,9 +50,11 @@ bool printed(void);
 
 /* ---- refuse.c ---- */
 
-/* The arguments that a refusal may speak of: a table, a goal or record, another file. */
+/* The arguments that a refusal may speak of: a table or record, another file, the goals or the one literal. */
 struct names {
-    const char *table, *goal, *file;
+    const char *table, *file;
+    char **goal;
+    size_t goals;
 };
 
 int refuse(uint16_t number, size_t place, const struct names *of);
@@ -86,11 +88,18 @@ int run_check(const struct words *w);
 int run_steps(const struct words *w);
 int run_dimacs(const struct words *w);
 
-/* The goal of a command: the literal that a word names, with a message where it names none. */
-bool parse_goal(const char *word, size_t *goal);
+/* A list of goals as the calls take it. Of a list that is too long it has as many as show that. */
+struct goals {
+    uint16_t literal[BEV_GOALS + 1];
+    size_t count;
+};
 
-/* What decide says of a goal, and the settings. Never refused by 21 or 23. */
-bev_decided decide(const struct bytes *table, size_t goal, uint8_t settings[BEV_POINTS]);
+/* The literal that a word names, with a message where it names none. */
+bool parse_literal(const char *word, size_t *literal);
+bool parse_goals(char **word, size_t count, struct goals *goals);
+
+/* Whether one setting makes a literal of a readable table true, and the settings. */
+bool is_possible(const struct bytes *table, size_t literal, uint8_t settings[BEV_POINTS]);
 
 /* ---- cnf.c ---- */
 

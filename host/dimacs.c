@@ -74,7 +74,7 @@ static int tell(const struct bytes *file, const struct bytes *table, size_t goal
     struct nodes *nodes = read_nodes(table, &(struct names){ .table = table->name }, &status);
     if (!nodes)
         return status;
-    bool possible = decide(table, goal, settings).possible;
+    bool possible = is_possible(table, goal, settings);
     bool ready = !w->out || prepare(w->out, (const struct bytes *[]){ file, NULL }, table->at, table->len, &o);
     if (ready) {
         print_answer(nodes, goal, w->out, possible, settings);

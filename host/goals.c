@@ -1,22 +1,49 @@
-/* bev decide, bev derive and bev check: what is asked of a goal of a table. */
+/* bev decide, bev derive and bev check: what is asked of a list of goals of a table. */
 #include "bev.h"
 #include <stdlib.h>
 #include <string.h>
 
 enum { STEPS_IN_BLOCK = (BEV_BLOCK - 6) / BEV_STEP };
 
-bool parse_goal(const char *word, size_t *goal)
+bool parse_literal(const char *word, size_t *literal)
 {
-    if (parse_number(word, goal))
+    if (parse_number(word, literal))
         return true;
     complain(word, "is no literal: literals are numbers from 0");
     return false;
 }
 
-bev_decided decide(const struct bytes *table, size_t goal, uint8_t settings[BEV_POINTS])
+/* A number over 16 bits becomes 65,535, which no table has as a literal either, so that it is refused at the same place. */
+bool parse_goals(char **word, size_t count, struct goals *goals)
+{
+    goals->count = count <= BEV_GOALS ? count : BEV_GOALS + 1;
+    for (size_t i = 0; i < count; i++) {
+        size_t literal;
+        if (!parse_literal(word[i], &literal))
+            return false;
+        if (i < goals->count)
+            goals->literal[i] = literal < UINT16_MAX ? (uint16_t)literal : UINT16_MAX;
+    }
+    return true;
+}
+
+/* Never refused by 21 or 23. */
+static bev_decided decide(const struct bytes *table, const uint16_t *goals, size_t count, uint8_t settings[BEV_POINTS])
 {
     uint16_t work[BEV_WORK];
-    return bev_decide(table->at, table->len, goal, settings, BEV_POINTS, work, BEV_WORK);
+    return bev_decide(table->at, table->len, goals, count, settings, BEV_POINTS, work, BEV_WORK);
+}
+
+bool is_possible(const struct bytes *table, size_t literal, uint8_t settings[BEV_POINTS])
+{
+    uint16_t goal = (uint16_t)literal;
+    return decide(table, &goal, 1, settings).possible;
+}
+
+/* What a refusal may speak of: the table, which is the first word, the goals behind it, and a file. */
+static struct names names_of(const struct words *w, size_t goals, const char *file)
+{
+    return (struct names){ .table = w->word[0], .file = file, .goal = w->word + 1, .goals = goals };
 }
 
 /* A line for each point that the table names. */
@@ -53,11 +80,11 @@ int run_decide(const struct words *w)
 {
     struct bytes table = { .at = NULL };
     uint8_t settings[BEV_POINTS];
-    struct names of = { w->word[0], w->word[1], NULL };
-    size_t goal;
+    struct goals goals;
+    struct names of = names_of(w, (size_t)w->count - 1, NULL);
     int status = FAILED;
-    if (parse_goal(w->word[1], &goal) && load_table(w->word[0], &table)) {
-        bev_decided d = decide(&table, goal, settings);
+    if (parse_goals(of.goal, of.goals, &goals) && load_table(of.table, &table)) {
+        bev_decided d = decide(&table, goals.literal, goals.count, settings);
         status = d.number ? refuse(d.number, d.place, &of) : d.possible ? tell_possible(&table, settings, w, &of) : IMPOSSIBLE;
     }
     if (status == IMPOSSIBLE)
@@ -66,16 +93,16 @@ int run_decide(const struct words *w)
     return status;
 }
 
-/* Derives into the room lent, and from there into the file. */
-static int derive(const struct bytes *table, size_t goal, uint8_t *room, const struct words *w)
+/* Derives into the room lent, and from there into the file named. */
+static int derive(const struct bytes *table, const struct goals *goals, uint8_t *room, const char *out, const struct names *of)
 {
     uint16_t work[BEV_WORK];
     struct output o;
-    bev_derived d = bev_derive(table->at, table->len, goal, work, BEV_WORK, room, BEV_DERIVATION_MAX);
+    bev_derived d = bev_derive(table->at, table->len, goals->literal, goals->count, work, BEV_WORK, room, BEV_DERIVATION_MAX);
     if (d.number)
-        return refuse(d.number, d.place, &(struct names){ w->word[0], w->word[1], NULL });
+        return refuse(d.number, d.place, of);
     size_t len = (d.steps + STEPS_IN_BLOCK - 1) / STEPS_IN_BLOCK * BEV_BLOCK;
-    if (!prepare(w->out, (const struct bytes *[]){ table, NULL }, room, len, &o))
+    if (!prepare(out, (const struct bytes *[]){ table, NULL }, room, len, &o))
         return FAILED;
     printf("%zu steps\n", d.steps);
     return commit(&o, DONE);
@@ -84,15 +111,16 @@ static int derive(const struct bytes *table, size_t goal, uint8_t *room, const s
 int run_derive(const struct words *w)
 {
     struct bytes table = { .at = NULL };
-    size_t goal;
+    struct goals goals;
+    struct names of = names_of(w, (size_t)w->count - 1, NULL);
     int status = FAILED;
     uint8_t *room = calloc(BEV_DERIVATION_MAX, 1);
     if (!w->out)
         complain("derive", "-o FILE is missing");
     else if (!room)
         complain_errno("derive");
-    else if (parse_goal(w->word[1], &goal) && load_table(w->word[0], &table))
-        status = derive(&table, goal, room, w);
+    else if (parse_goals(of.goal, of.goals, &goals) && load_table(of.table, &table))
+        status = derive(&table, &goals, room, w->out, &of);
     free(room);
     free(table.at);
     return status;
@@ -102,11 +130,12 @@ int run_check(const struct words *w)
 {
     struct bytes table = { .at = NULL }, file = { .at = NULL };
     uint16_t work[BEV_WORK];
-    size_t goal;
+    struct goals goals;
+    struct names of = names_of(w, (size_t)w->count - 2, w->word[w->count - 1]);
     int status = FAILED;
-    if (parse_goal(w->word[1], &goal) && load_table(w->word[0], &table) && load(w->word[2], BEV_DERIVATION_MAX + 1, &file)) {
-        bev_checked c = bev_check(table.at, table.len, goal, work, BEV_WORK, file.at, file.len);
-        status = c.number ? refuse(c.number, c.place, &(struct names){ w->word[0], w->word[1], w->word[2] }) : DONE;
+    if (parse_goals(of.goal, of.goals, &goals) && load_table(of.table, &table) && load(of.file, BEV_DERIVATION_MAX + 1, &file)) {
+        bev_checked c = bev_check(table.at, table.len, goals.literal, goals.count, work, BEV_WORK, file.at, file.len);
+        status = c.number ? refuse(c.number, c.place, &of) : DONE;
     }
     if (status == DONE)
         puts("accepted");

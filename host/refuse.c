@@ -12,9 +12,13 @@ static const struct refusal *find(uint16_t number)
     return &unknown;
 }
 
-static const char *subject(const struct refusal *r, const struct names *of)
+static const char *subject(const struct refusal *r, size_t place, const struct names *of)
 {
-    const char *name = r->about == ABOUT_GOAL ? of->goal : r->about == ABOUT_FILE ? of->file : of->table;
+    const char *name = r->about == ABOUT_FILE ? of->file : of->table;
+    if (r->about == ABOUT_GOAL)
+        name = place < of->goals ? of->goal[place] : NULL;
+    if (r->about == ABOUT_GOALS)
+        name = of->goals == 1 ? of->goal[0] : "the goals";
     return !name ? "the input" : strcmp(name, "-") == 0 ? "standard input" : name;
 }
 
@@ -22,8 +26,9 @@ static const char *subject(const struct refusal *r, const struct names *of)
 int refuse(uint16_t number, size_t place, const struct names *of)
 {
     const struct refusal *r = find(number);
-    printf("refused %u at %zu: %s (%s", number, place, r->meaning, subject(r, of));
-    if (strcmp(r->place, "0") != 0)
+    bool one_literal = r->about == ABOUT_GOAL && of->goals == 1;
+    printf("refused %u at %zu: %s (%s", number, place, r->meaning, subject(r, place, of));
+    if (strcmp(r->place, "0") != 0 && !one_literal)
         printf(", %s %zu", r->place, place);
     puts(")");
     return REFUSED;
@@ -34,6 +39,6 @@ int refuse_listing(uint16_t number, size_t place, const struct names *of)
 {
     const struct refusal *r = find(number);
     printf("refused %u at %zu\n", number, place);
-    complain(subject(r, of), r->meaning);
+    complain(subject(r, place, of), r->meaning);
     return REFUSED;
 }

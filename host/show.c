@@ -13,7 +13,7 @@ static int list(const struct bytes *table, const struct names *of)
     setvbuf(stdout, NULL, _IOLBF, BUFSIZ);
     puts("node yes no");
     for (size_t n = 0; n < c.nodes && !ferror(stdout); n++) {
-        bool yes = decide(table, 2 * n, settings).possible, no = decide(table, 2 * n + 1, settings).possible;
+        bool yes = is_possible(table, 2 * n, settings), no = is_possible(table, 2 * n + 1, settings);
         printf("%zu %s %s\n", n, yes ? "possible" : "impossible", no ? "possible" : "impossible");
     }
     return DONE;

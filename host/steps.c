@@ -1,11 +1,11 @@
-/* bev steps: a derivation's steps as text; with its table and goal, each step's clause and why it holds. The library's check says how
+/* bev steps: a derivation's steps as text; with its table and goals, each step's clause and why it holds. The library's check says how
  * far the steps hold; what is kept here only words it. */
 #include "bev.h"
 #include <ctype.h>
 #include <stdlib.h>
 #include <string.h>
 
-enum { LITERALS_MAX = 2 * NODES_MAX, CLAUSES_MAX = 1 + 2 * NODES_MAX, WIDTH = 2, STRIKES_MAX = (WIDTH + 1) * CLAUSES_MAX };
+enum { LITERALS_MAX = 2 * NODES_MAX, CLAUSES_MAX = BEV_GOALS + 2 * NODES_MAX, WIDTH = 2, STRIKES_MAX = (WIDTH + 1) * CLAUSES_MAX };
 enum { CLAUSE_STRUCK = 1 << WIDTH };
 
 /* The clauses of a literal by kind and sign: each ends in a semicolon, a capital is a negation. */
@@ -22,7 +22,7 @@ struct clause {
     uint16_t literal[WIDTH];
     uint8_t width;
     uint8_t struck;  /* a bit for each literal, and CLAUSE_STRUCK */
-    uint16_t of;     /* the literal whose expansion it is of; LITERALS_MAX for the goal's */
+    uint16_t of;     /* the literal whose expansion it is of; LITERALS_MAX for a goal's */
 };
 
 struct strike {
@@ -110,7 +110,7 @@ static void print_clause(const struct clause *c)
     for (unsigned p = 0; p < c->width; p++)
         printf(c->struck >> p & 1 ? "%s[%u]" : "%s%u", p ? ", " : "", c->literal[p]);
     if (c->of == LITERALS_MAX)
-        fputs("}, the goal: ", stdout);
+        fputs("}, a goal: ", stdout);
     else
         printf("}, of %u: ", c->of);
 }
@@ -208,20 +208,27 @@ static int explain_steps(struct replay *r, const struct bytes *file, size_t step
     return c.number ? refuse(c.number, c.place, of) : DONE;
 }
 
-/* The derivation explained for a table and a goal. */
-static int explain_file(const struct bytes *file, const struct bytes *table, size_t goal, const struct names *of)
+/* The starting clauses, one for each goal. */
+static void start(struct replay *r, const struct nodes *nodes, const struct goals *goals)
+{
+    r->nodes = nodes;
+    for (size_t i = 0; i < goals->count; i++)
+        r->clause[r->clauses++] = (struct clause){ .literal = { goals->literal[i] }, .width = 1, .of = LITERALS_MAX };
+}
+
+/* The derivation explained for a table and a list of goals. */
+static int explain_file(const struct bytes *file, const struct bytes *table, const struct goals *goals, const struct names *of)
 {
     uint16_t work[BEV_WORK];
     bev_opened d = bev_open(file->at, file->len);
-    bev_checked c = bev_check(table->at, table->len, goal, work, BEV_WORK, file->at, file->len);
-    if (c.number && c.number < 45)
+    bev_checked c = bev_check(table->at, table->len, goals->literal, goals->count, work, BEV_WORK, file->at, file->len);
+    if (c.number && (c.number < 45 || c.number > 47))
         return refuse(c.number, c.place, of);
     int status = FAILED;
     struct replay *r = calloc(1, sizeof *r);
     struct nodes *nodes = r ? read_nodes(table, of, &status) : NULL;
     if (nodes) {
-        r->nodes = nodes;
-        r->clause[r->clauses++] = (struct clause){ .literal = { (uint16_t)goal }, .width = 1, .of = LITERALS_MAX };
+        start(r, nodes, goals);
         status = explain_steps(r, file, d.steps, c, of);
     } else if (!r) {
         complain_errno("steps");
@@ -250,18 +257,20 @@ static int print_steps(const struct bytes *file, const struct names *of)
 int run_steps(const struct words *w)
 {
     struct bytes file = { .at = NULL }, table = { .at = NULL };
-    struct names of = { w->count > 1 ? w->word[1] : NULL, w->count > 1 ? w->word[2] : NULL, w->word[0] };
-    size_t goal = 0;
+    struct goals goals;
+    struct names of = { .file = w->word[0] };
     int status = FAILED;
     if (w->count == 2)
-        return complain("steps", "a table needs its goal");
-    if (w->count > 1 && !parse_goal(w->word[2], &goal))
+        return complain("steps", "a table needs its goals");
+    if (w->count > 2)
+        of = (struct names){ .table = w->word[1], .file = w->word[0], .goal = w->word + 2, .goals = (size_t)w->count - 2 };
+    if (!parse_goals(of.goal, of.goals, &goals))
         return FAILED;
-    if (load(w->word[0], BEV_DERIVATION_MAX + 1, &file)) {
-        if (w->count == 1)
+    if (load(of.file, BEV_DERIVATION_MAX + 1, &file)) {
+        if (!of.table)
             status = print_steps(&file, &of);
-        else if (load_table(w->word[1], &table))
-            status = explain_file(&file, &table, goal, &of);
+        else if (load_table(of.table, &table))
+            status = explain_file(&file, &table, &goals, &of);
     }
     free(table.at);
     free(file.at);

@@ -69,11 +69,11 @@ static int eval(const struct bytes *table, const struct bytes *settings, const s
 {
     static const char *const truths[] = { "no", "yes", "unknown" };
     size_t literal;
-    if (!parse_goal(w->word[1], &literal))
+    if (!parse_literal(w->word[1], &literal))
         return FAILED;
     bev_truth v = bev_evaluate(table->at, table->len, literal, settings->at, settings->len);
     if (v.number)
-        return refuse(v.number, v.place, &(struct names){ w->word[0], w->word[1], w->word[2] });
+        return refuse(v.number, v.place, &(struct names){ .table = w->word[0], .file = w->word[2], .goal = w->word + 1, .goals = 1 });
     puts(truths[v.truth]);
     return DONE;
 }

@@ -8,7 +8,12 @@
  * after 51 or 52 the buffer of bev_dimacs is free.
  *
  * Areas. An area that a call may write (buffer, settings, work, derivation of bev_derive) must not overlap another area of the same
- * call. NULL is fine where the length is 0. A work area is aligned as uint16_t.
+ * call. NULL is fine where the length is 0. A work area and a list of goals are aligned as uint16_t.
+ *
+ * Goals. A list of goals is 1 to BEV_GOALS literals of the table; the same one may stand in it again, and so may its negation. The goals
+ * are possible where one setting makes all of them true, else impossible. Clause 0 is that of the first goal, clause 1 that of the
+ * second, and so on; the other clauses follow. Row 62 is tested just before row 20: 62 the list is empty or has over BEV_GOALS; 20 a goal
+ * is not below 2 x nodes, and place is the index, from 0, of the first such goal in the list.
  *
  * Threads. Calls keep no state and share none: they may run at the same time where no area that one of them may write is lent to
  * another. A call allocates nothing and takes at most BEV_STACK bytes of stack. */
@@ -22,11 +27,12 @@
 extern "C" {
 #endif
 
-/* The version of these calls: 1.0 the base, 1.1 with bev_dimacs. */
-#define BEV_VERSION_MAJOR 1
-#define BEV_VERSION_MINOR 1
+/* The version of these calls: 1.0 the base, 1.1 with bev_dimacs, 2.0 with points that may go either way, 3.0 with lists of goals. */
+#define BEV_VERSION_MAJOR 3
+#define BEV_VERSION_MINOR 0
 
 #define BEV_POINTS 1024             /* points of a setting, a byte each: 0 no, 1 yes, 2 either way */
+#define BEV_GOALS 64                /* goals of the longest list */
 #define BEV_RECORD 8                /* bytes of a record */
 #define BEV_STEP 4                  /* bytes of a step */
 #define BEV_BLOCK 512               /* bytes of a block */
@@ -54,32 +60,35 @@ typedef struct { uint16_t number; size_t place; uint8_t left; uint8_t rule; uint
 /* The node count of a table. Refusals: 10 to 17. */
 bev_counted bev_count(const uint8_t *table, size_t table_len);
 
-/* The record of a literal's node. Refusals: 10 to 17, 20. */
+/* The record of a literal's node. Refusals: 10 to 17, 20 at place 0. */
 bev_node bev_record(const uint8_t *table, size_t table_len, size_t literal);
 
 /* The truth (0 no, 1 yes, 2 unknown) of a literal under the first 1,024 settings bytes, by strong Kleene tables: a yes or no holds for
- * every way of filling the 2s, and where no byte is 2 nothing is unknown. Later bytes are not read. Refusals: 10 to 17, 20, 21, 22 a
- * byte above 2, at the point. */
+ * every way of filling the 2s, and where no byte is 2 nothing is unknown. Later bytes are not read. Refusals: 10 to 17, 20 at
+ * place 0, 21, 22 a byte above 2, at the point. */
 bev_truth bev_evaluate(const uint8_t *table, size_t table_len, size_t literal, const uint8_t *settings, size_t settings_len);
 
 /* Adds a record to the table in the first `used` bytes of a buffer; used 0 is an empty table. Answers the record's literal and the used
  * length; a record that is there already is found, and no byte changes. Refusals: 9, 10 to 17, then 14 to 16, 51, 52 at the node count. */
 bev_added bev_add(uint8_t *buffer, size_t buffer_len, size_t used, const uint8_t record[BEV_RECORD]);
 
-/* Whether some setting makes the goal true (1 possible, 0 impossible); if so the first 1,024 settings bytes become the setting that the
- * solver's order ends on, with 2 for each point that may go either way: bev_evaluate says yes of the goal. Needs a work area of BEV_WORK numbers; every refusal leaves it as it was. Refusals: 10 to 17, 20,
- * 21, 23. */
-bev_decided bev_decide(const uint8_t *table, size_t table_len, size_t goal, uint8_t *settings, size_t settings_len, uint16_t *work, size_t work_len);
+/* Whether one setting makes every goal true (1 possible, 0 impossible); if so the first 1,024 settings bytes become the setting that
+ * the solver's order ends on, with 2 for each point that may go either way: bev_evaluate says yes of each goal. Needs a work area of
+ * BEV_WORK numbers; every refusal leaves it as it was. Refusals: 10 to 17, 62, 20, 21, 23. */
+bev_decided bev_decide(const uint8_t *table, size_t table_len, const uint16_t *goals, size_t goals_len, uint8_t *settings, size_t settings_len,
+                       uint16_t *work, size_t work_len);
 
-/* Writes the derivation, in the solver's order, of a goal that is impossible, and answers its step count: the derivation is the blocks
- * that hold these steps, 126 in a full one; the bytes past its last block stay. The work area as for bev_decide, free also after 30
- * and 31. Refusals: 10 to 17, 20, 23, 30 the goal is possible, 31 more bytes are needed than lent or than 65,536 blocks. */
-bev_derived bev_derive(const uint8_t *table, size_t table_len, size_t goal, uint16_t *work, size_t work_len, uint8_t *derivation, size_t derivation_len);
+/* Writes the derivation, in the solver's order, of goals that are impossible together, and answers its step count: the derivation is the
+ * blocks that hold these steps, 126 in a full one; the bytes past its last block stay. The work area as for bev_decide, free also after
+ * 30 and 31. Refusals: 10 to 17, 62, 20, 23, 30 the goals are possible, 31 more bytes are needed than lent or than 65,536 blocks. */
+bev_derived bev_derive(const uint8_t *table, size_t table_len, const uint16_t *goals, size_t goals_len, uint16_t *work, size_t work_len,
+                       uint8_t *derivation, size_t derivation_len);
 
-/* Whether a derivation, by whatever author, shows that the goal is impossible: number 0 accepted. The work area as for bev_decide, free
- * also after 45 to 47. Refusals: 10 to 17, 20, 23, 40 to 44 for its form, 45 and 46 at the step where it fails, 47 at the step count
- * where its steps end with a branch open. */
-bev_checked bev_check(const uint8_t *table, size_t table_len, size_t goal, uint16_t *work, size_t work_len, const uint8_t *derivation, size_t derivation_len);
+/* Whether a derivation, by whatever author, shows that the goals are impossible together: number 0 accepted. The work area as for
+ * bev_decide, free also after 45 to 47. Refusals: 10 to 17, 62, 20, 23, 40 to 44 for its form, 45 and 46 at the step where it fails, 47
+ * at the step count where its steps end with a branch open. */
+bev_checked bev_check(const uint8_t *table, size_t table_len, const uint16_t *goals, size_t goals_len, uint16_t *work, size_t work_len,
+                      const uint8_t *derivation, size_t derivation_len);
 
 /* Opens a derivation: its step count. Refusals: 40 to 44. */
 bev_opened bev_open(const uint8_t *derivation, size_t derivation_len);

@@ -1,6 +1,6 @@
-/* bev_derive, bev_check, bev_open and bev_step as a host calls them: every byte that derive writes against the solver's order in plain
- * C, round trips, derivations of other authors and damaged ones against the rules in plain C (number and place), every refusal,
- * canaries, the deepest table in a thread of 1 MiB, 17 nested IFFs, and a derivation of the full 65,536 blocks. */
+/* bev_derive, bev_check, bev_open and bev_step as a host calls them, with single goals and lists: every byte that derive writes against
+ * the solver's order in plain C, round trips, derivations of other authors and damaged ones against the rules in plain C (number and
+ * place), every refusal, canaries, the deepest table in a thread of 1 MiB, 17 nested IFFs, and a derivation of the full 65,536 blocks. */
 #include "../include/bevaridhom.h"
 #include "rules.h"
 #include "tables.h"
@@ -17,6 +17,17 @@ static void fill(uint8_t *p, size_t n)
 }
 
 static int told(bev_checked v, o_told right) { return v.number == right.number && v.place == right.place; }
+
+/* The calls with a full work area. */
+static bev_checked check(const uint8_t *t, size_t len, const o_list *g, const uint8_t *d, size_t size)
+{
+    return bev_check(t, len, g->goal, g->count, work, BEV_WORK, d, size);
+}
+
+static bev_derived derive(const uint8_t *t, size_t len, const o_list *g, uint8_t *d, size_t room)
+{
+    return bev_derive(t, len, g->goal, g->count, work, BEV_WORK, d, room);
+}
 
 /* What the reader says at an index, against the plain reading of the length, one block and the step. */
 static void step_is(const uint8_t *d, size_t size, size_t k)
@@ -40,7 +51,7 @@ static void step_is(const uint8_t *d, size_t size, size_t k)
 }
 
 /* What open and the reader say of bytes, and check, against the plain reading. */
-static void bytes_are(const uint8_t *t, size_t len, size_t goal, const uint8_t *d, size_t size)
+static void bytes_are(const uint8_t *t, size_t len, const o_list *g, const uint8_t *d, size_t size)
 {
     size_t steps;
     o_told form = o_form(d, size, &steps);
@@ -49,30 +60,36 @@ static void bytes_are(const uint8_t *t, size_t len, size_t goal, const uint8_t *
     for (size_t k = 0; k < 126 * (size / 512) + 2; k += 1 + pick(40))
         step_is(d, size, k);
     step_is(d, size, SIZE_MAX);
-    EXPECT(told(bev_check(t, len, goal, work, BEV_WORK, d, size), o_checked(t, o_table(t, len).nodes, (int)goal, d, size)) && whole());
+    EXPECT(told(check(t, len, g, d, size), o_checked(t, o_table(t, len).nodes, g, d, size)) && whole());
 }
 
-/* Derive of an impossible goal: each byte, the bytes past the last block, a byte too few; then the reader and check. */
-static void derived(const uint8_t *t, size_t len, size_t goal, const o_steps *right)
+/* The steps that the reader hands out of bytes. */
+static void read_back(const uint8_t *d, size_t size, const o_steps *right)
+{
+    for (size_t k = 0; k < right->count; k++) {
+        bev_stepped s = bev_step(d, size, k);
+        EXPECT(s.number == 0 && s.left == 1 && s.rule == right->step[k][0] && s.position == right->step[k][1] && s.value == o_word(right->step[k] + 2));
+    }
+    bev_stepped past = bev_step(d, size, right->count), far = bev_step(d, size, SIZE_MAX);
+    EXPECT(past.number == 0 && past.left == 0 && far.number == 0 && far.left == 0);
+}
+
+/* Derive of impossible goals: each byte, the bytes past the last block, a byte too few; then the reader and check. */
+static void derived(const uint8_t *t, size_t len, const o_list *g, const o_steps *right)
 {
     size_t size = o_steps_build(expected, (const uint8_t (*)[4])right->step, right->count);
     size_t room = size + pick(3) * 200;
     fill(expected + size, room + GUARD - size);
     fill(lent, room + GUARD);
     memcpy(lent + size, expected + size, room + GUARD - size);
-    bev_derived v = bev_derive(t, len, goal, work, BEV_WORK, lent, room);
+    bev_derived v = derive(t, len, g, lent, room);
     EXPECT(v.number == 0 && v.place == 0 && v.steps == right->count);
     EXPECT(memcmp(lent, expected, room + GUARD) == 0 && whole());
-    bytes_are(t, len, goal, lent, size);
-    EXPECT(bev_check(t, len, goal, work, BEV_WORK, lent, size).number == 0);
-    for (size_t k = 0; k < right->count; k++) {
-        bev_stepped s = bev_step(lent, size, k);
-        EXPECT(s.number == 0 && s.left == 1 && s.rule == right->step[k][0] && s.position == right->step[k][1] && s.value == o_word(right->step[k] + 2));
-    }
-    bev_stepped past = bev_step(lent, size, right->count), far = bev_step(lent, size, SIZE_MAX);
-    EXPECT(past.number == 0 && past.left == 0 && far.number == 0 && far.left == 0);
+    bytes_are(t, len, g, lent, size);
+    EXPECT(check(t, len, g, lent, size).number == 0);
+    read_back(lent, size, right);
     fill(lent, room);
-    v = bev_derive(t, len, goal, work, BEV_WORK, lent, size - 1);
+    v = derive(t, len, g, lent, size - 1);
     fill(expected, size);
     EXPECT(v.number == 31 && v.place == 0 && v.steps == 0 && memcmp(lent, expected, size) == 0);
 }
@@ -107,160 +124,227 @@ static size_t changed(uint8_t (*s)[4], size_t n)
     return n;
 }
 
-/* A derivation by another author: any step that a rule allows, E steps and splits on any literal among them, until it is complete. */
-static size_t another(const uint8_t *t, size_t nodes, int goal, uint8_t (*out)[4], size_t room)
+/* The branches of a derivation that is being made: the one at work, NULL once all are closed, and those that wait. */
+typedef struct { o_branch *now, *waiting[2100]; size_t depth; } o_author;
+
+static void split(o_author *a, const uint8_t *t, int l)
 {
-    static o_branch *waiting[2100];
-    size_t depth = 0, n = 0;
-    o_branch *b = o_root(goal);
-    while (b && n < room) {
-        int tries = 0, kind = 0;
-        for (; tries < 400 && !kind; tries++) {
-            int rule = "URECS"[pick(40) ? pick(4) : 4], p = (int)pick(2), k = (int)pick((unsigned)b->s.clauses);
-            if (tries == 399)
-                rule = 'S';
-            if (rule != 'R')
-                p = 0;
-            if (rule == 'S') {
-                k = (int)pick(2 * (unsigned)nodes);
-                for (int i = 0; i < 2 * (int)nodes && o_value(&b->s, k); i++)
-                    k = (k + 1) % (2 * (int)nodes);
-                kind = o_value(&b->s, k) ? 0 : 3;
-            } else
-                kind = o_apply(b, t, rule, p, k);
-            if (kind) {
-                uint8_t s[4] = { (uint8_t)rule, (uint8_t)p, (uint8_t)k, (uint8_t)(k >> 8) };
-                memcpy(out[n++], s, 4);
-            }
-            if (kind == 3) {
-                o_branch *right = malloc(sizeof *right);
-                if (!right)
-                    exit(2);
-                *right = *b;
-                o_join(&right->s, t, k ^ 1);
-                o_join(&b->s, t, k);
-                waiting[depth++] = right;
-            }
-            if (kind == 2) {
-                free(b);
-                b = depth ? waiting[--depth] : NULL;
-            }
-        }
-        if (!kind)
-            break;
+    o_branch *right = malloc(sizeof *right);
+    if (!right)
+        exit(2);
+    *right = *a->now;
+    o_join(&right->s, t, l ^ 1);
+    o_join(&a->now->s, t, l);
+    a->waiting[a->depth++] = right;
+}
+
+static void close_branch(o_author *a)
+{
+    free(a->now);
+    a->now = a->depth ? a->waiting[--a->depth] : NULL;
+}
+
+/* One step that a rule allows, on any clause or literal, taken and written; 0 where the rule does not allow it. */
+static int author_step(o_author *a, const uint8_t *t, size_t nodes, int rule, uint8_t *out)
+{
+    int p = rule == 'R' ? (int)pick(2) : 0, k = (int)pick((unsigned)a->now->s.clauses), kind;
+    if (rule == 'S') {
+        k = (int)pick(2 * (unsigned)nodes);
+        for (int i = 0; i < 2 * (int)nodes && o_value(&a->now->s, k); i++)
+            k = (k + 1) % (2 * (int)nodes);
+        kind = !o_value(&a->now->s, k);
+        if (kind)
+            split(a, t, k);
+    } else
+        kind = o_apply(a->now, t, rule, p, k);
+    uint8_t s[4] = { (uint8_t)rule, (uint8_t)p, (uint8_t)k, (uint8_t)(k >> 8) };
+    memcpy(out, s, 4);
+    if (kind == 2)
+        close_branch(a);
+    return kind;
+}
+
+/* A derivation by another author: any step that a rule allows, E steps and splits on any literal among them, until it is complete. */
+static size_t another(const uint8_t *t, size_t nodes, const o_list *g, uint8_t (*out)[4], size_t room)
+{
+    static o_author a;
+    size_t n = 0, tries = 0;
+    a.depth = 0;
+    a.now = o_root(g);
+    while (a.now && n < room && tries < 400) {
+        int rule = tries == 399 ? 'S' : "URECS"[pick(40) ? pick(4) : 4];
+        if (author_step(&a, t, nodes, rule, out[n])) {
+            n++;
+            tries = 0;
+        } else
+            tries++;
     }
-    size_t complete = b ? 0 : n;
-    free(b);
-    while (depth)
-        free(waiting[--depth]);
+    size_t complete = a.now ? 0 : n;
+    while (a.now)
+        close_branch(&a);
     return complete;
 }
 
 static unsigned long numbers[48];
+static uint8_t other[20001][4];
 
-static void goal_is(const uint8_t *t, size_t len, size_t nodes, size_t goal)
+/* Impossible goals: what derive writes, and what another author does. */
+static void impossible(const uint8_t *t, size_t len, size_t nodes, const o_list *g, const o_steps *right)
 {
-    static uint8_t s[1024], other[20001][4];
-    o_steps right = { taken, 0, STEPS };
-    if (o_decide(t, (int)goal, s, &right)) {
-        fill(lent, 2000);
-        fill(expected, 2000);
-        bev_derived v = bev_derive(t, len, goal, work, BEV_WORK, lent, pick(2000));
-        EXPECT(v.number == 30 && v.place == 0 && v.steps == 0 && memcmp(lent, expected, 2000) == 0);
-        numbers[30]++;
-        right.count = right.count < 40 ? right.count + 1 : 40;
-    } else {
-        EXPECT(right.count <= STEPS);
-        derived(t, len, goal, &right);
-        numbers[0]++;
-        size_t n = another(t, nodes, (int)goal, other, 20000);
-        if (n) {
-            size_t size = o_steps_build(expected, (const uint8_t (*)[4])other, n);
-            EXPECT(bev_check(t, len, goal, work, BEV_WORK, expected, size).number == 0);
-            bytes_are(t, len, goal, expected, size);
-            for (size_t k = 0; k < n; k++)
-                numbers[1] += other[k][0] == 69;
-        }
-    }
-    for (int round = 0; round < 6; round++) {
-        size_t n = right.count < 20000 ? right.count : 20000;
-        memcpy(other, taken, 4 * n);
-        for (unsigned more = pick(3) + 1; more && n > 1; more--)
-            n = changed(other, n);
-        size_t size = o_steps_build(lent, (const uint8_t (*)[4])other, n), steps;
-        if (pick(4) == 0) {
-            lent[pick((unsigned)size)] ^= (uint8_t)(1u << pick(8));
-            if (pick(2))
-                o_seal(lent + 512 * pick((unsigned)(size / 512)));
-        }
-        o_told v = o_form(lent, size, &steps);
-        numbers[v.number ? v.number : o_run(t, nodes, (int)goal, lent, steps).number]++;
-        bytes_are(t, len, goal, lent, size);
+    EXPECT(right->count <= STEPS);
+    derived(t, len, g, right);
+    numbers[0]++;
+    size_t n = another(t, nodes, g, other, 20000);
+    if (n) {
+        size_t size = o_steps_build(expected, (const uint8_t (*)[4])other, n);
+        EXPECT(check(t, len, g, expected, size).number == 0);
+        bytes_are(t, len, g, expected, size);
+        for (size_t k = 0; k < n; k++)
+            numbers[1] += other[k][0] == 69;
     }
 }
 
+static void possible(const uint8_t *t, size_t len, const o_list *g)
+{
+    fill(lent, 2000);
+    fill(expected, 2000);
+    bev_derived v = derive(t, len, g, lent, pick(2000));
+    EXPECT(v.number == 30 && v.place == 0 && v.steps == 0 && memcmp(lent, expected, 2000) == 0);
+    numbers[30]++;
+}
+
+/* Steps with changes, and at times a byte of a block. */
+static void damaged(const uint8_t *t, size_t len, size_t nodes, const o_list *g, size_t n)
+{
+    memcpy(other, taken, 4 * n);
+    for (unsigned more = pick(3) + 1; more && n > 1; more--)
+        n = changed(other, n);
+    size_t size = o_steps_build(lent, (const uint8_t (*)[4])other, n), steps;
+    if (pick(4) == 0) {
+        lent[pick((unsigned)size)] ^= (uint8_t)(1u << pick(8));
+        if (pick(2))
+            o_seal(lent + 512 * pick((unsigned)(size / 512)));
+    }
+    o_told v = o_form(lent, size, &steps);
+    numbers[v.number ? v.number : o_run(t, nodes, g, lent, steps).number]++;
+    bytes_are(t, len, g, lent, size);
+}
+
+/* What derive and check say of a list, and of damaged derivations. Whether it is possible. */
+static int goals_are(const uint8_t *t, size_t len, size_t nodes, const o_list *g)
+{
+    static uint8_t s[1024];
+    o_steps right = { taken, 0, STEPS };
+    int is_possible = o_decide(t, g, s, &right);
+    if (is_possible) {
+        possible(t, len, g);
+        right.count = right.count < 40 ? right.count + 1 : 40;
+    } else
+        impossible(t, len, nodes, g, &right);
+    for (int round = 0; round < 6; round++)
+        damaged(t, len, nodes, g, right.count < 20000 ? right.count : 20000);
+    return is_possible;
+}
+
+/* Each literal of random tables by itself, and lists of 1 to 64 goals, with repeats and opposite literals. */
 static void random_goals(void)
 {
     static uint8_t t[16384];
-    for (int round = 0; round < 300 && !failed; round++) {
+    unsigned long lists[2] = { 0, 0 };
+    for (int round = 0; round < 250 && !failed; round++) {
         unsigned points = 2 + pick(5);
         size_t n = points + 1 + pick(18), len = random_table(t, points, n);
-        for (size_t goal = 0; goal < 2 * n; goal++)
-            goal_is(t, len, n, goal);
+        for (size_t k = 0; k < 2 * n + 8; k++) {
+            o_list g = k < 2 * n ? o_one(k) : random_list(t, points, n);
+            int is_possible = goals_are(t, len, n, &g);
+            lists[is_possible] += k >= 2 * n;
+        }
     }
-    printf("random goals: %lu derived and checked, %lu possible, %lu E steps of other authors; refused at", numbers[0], numbers[30], numbers[1]);
+    printf("random goals: %lu derived and checked, %lu possible, of these lists %lu and %lu; %lu E steps of other authors; refused at", numbers[0],
+        numbers[30], lists[0], lists[1], numbers[1]);
     for (int k = 41; k < 48; k++) {
         printf(" %d: %lu", k, numbers[k]);
         EXPECT(numbers[k] > 20);
     }
     printf("\n");
-    EXPECT(numbers[0] > 500 && numbers[30] > 1000 && numbers[1] > 1000);
+    EXPECT(numbers[0] > 500 && numbers[30] > 1000 && numbers[1] > 1000 && lists[0] > 500 && lists[1] > 500);
 }
 
-/* The order of the rows, by calls that several apply to; and the edges of a derivation's length. */
-static void refusals(void)
+static uint8_t small[512], kept[1024];
+
+/* TRUE and a point: literals 0 to 3. */
+static size_t small_table(void)
 {
-    static uint8_t t[512], r[2][8], d[1024];
+    static uint8_t r[2][8];
     rec(r[0], 1, 0, 0);
     rec(r[1], 2, 5, 0);
-    size_t len = o_build(t, (const uint8_t (*)[8])r, 2);
+    return o_build(small, (const uint8_t (*)[8])r, 2);
+}
+
+/* Derive and check of the same list and work area, with no room and no bytes: both say the number at the place. */
+static int both_say(size_t len, const uint16_t *goals, size_t count, size_t work_len, unsigned number, size_t place)
+{
+    bev_derived v = bev_derive(small, len, goals, count, work, work_len, kept, 0);
+    bev_checked c = bev_check(small, len, goals, count, work, work_len, kept, 0);
+    return v.number == number && v.place == place && v.steps == 0 && told(c, o_no(number, place));
+}
+
+/* The order of the rows up to 23, by calls that several apply to; the work area stays. */
+static void first_rows(size_t len)
+{
+    static const uint16_t bad[65] = { 0, 3, 1, 65535, 4, 65535 };
     for (int i = 0; i < BEV_WORK; i++)
         work[i] = (uint16_t)i;
-    fill(d, 1024);
-    EXPECT(bev_derive(NULL, 0, 9, NULL, 0, NULL, 0).number == 10 && bev_check(NULL, 0, 9, NULL, 0, NULL, 0).number == 10);
-    EXPECT(bev_derive(t, len, 4, work, 0, d, 0).number == 20 && bev_check(t, len, 4, work, 0, d, 0).number == 20);
-    EXPECT(bev_derive(t, len, SIZE_MAX, work, BEV_WORK, d, 0).number == 20 && bev_check(t, len, SIZE_MAX, work, BEV_WORK, d, 0).number == 20);
-    EXPECT(bev_derive(t, len, 1, work, BEV_WORK - 1, d, 0).number == 23 && bev_check(t, len, 1, work, BEV_WORK - 1, d, 0).number == 23);
-    t[9] ^= 1;
-    EXPECT(bev_derive(t, len, 9, work, 0, d, 0).number == 11 && bev_check(t, len, 9, work, 0, d, 0).number == 11);
-    t[9] ^= 1;
+    EXPECT(bev_derive(NULL, 0, NULL, 0, NULL, 0, NULL, 0).number == 10 && bev_check(NULL, 0, NULL, 0, NULL, 0, NULL, 0).number == 10);
+    EXPECT(both_say(511, NULL, 0, 0, 10, 0));
+    EXPECT(both_say(len, NULL, 0, 0, 62, 0) && both_say(len, bad, 0, BEV_WORK, 62, 0) && both_say(len, bad, 65, 0, 62, 0));
+    EXPECT(both_say(len, bad, 64, 0, 20, 3) && both_say(len, bad + 3, 1, BEV_WORK, 20, 0) && both_say(len, bad + 4, 2, BEV_WORK, 20, 0));
+    EXPECT(both_say(len, bad + 2, 1, BEV_WORK - 1, 23, 0) && both_say(len, bad, 3, 0, 23, 0));
+    small[9] ^= 1;
+    EXPECT(both_say(len, NULL, 0, 0, 11, 0) && both_say(len, bad, 6, 0, 11, 0));
+    small[9] ^= 1;
+    for (int round = 0; round < 2000; round++) {
+        o_list any = any_list(2);
+        o_told v = o_goals(&any, 2);
+        EXPECT(both_say(len, any.goal, any.count, BEV_WORK - 1, v.number ? v.number : 23, v.place));
+    }
     for (int i = 0; i < BEV_WORK; i++)
         if (work[i] != (uint16_t)i) {
             EXPECT(!"the work area changed before row 23 passed");
             break;
         }
-    EXPECT(bev_derive(t, len, 0, work, BEV_WORK, d, 0).number == 30 && bev_derive(t, len, 2, work, BEV_WORK, NULL, 0).number == 30);
-    EXPECT(bev_derive(t, len, 1, work, BEV_WORK, d, 511).number == 31 && bev_derive(t, len, 1, work, BEV_WORK, NULL, 0).number == 31);
+}
+
+/* The rows behind 23, and the edges of a derivation's length. */
+static void refusals(void)
+{
+    size_t len = small_table();
+    o_list yes = o_one(0), no = o_one(1), point = o_one(2), other_point = o_one(3), both = { 2, { 2, 0 } }, apart = { 3, { 2, 0, 3 } };
+    fill(kept, 1024);
+    first_rows(len);
+    EXPECT(derive(small, len, &yes, kept, 0).number == 30 && derive(small, len, &point, NULL, 0).number == 30 && derive(small, len, &both, NULL, 0).number == 30);
+    EXPECT(derive(small, len, &no, kept, 511).number == 31 && derive(small, len, &no, NULL, 0).number == 31 && derive(small, len, &apart, kept, 511).number == 31);
     for (int i = 0; i < 1024; i++)
-        if (d[i] != (uint8_t)(i * 37 + 11)) {
+        if (kept[i] != (uint8_t)(i * 37 + 11)) {
             EXPECT(!"the derivation bytes changed on a refusal");
             break;
         }
-    EXPECT(bev_check(t, len, 1, work, BEV_WORK, NULL, 0).number == 40 && bev_open(NULL, 0).number == 40 && bev_open(d, 511).number == 40);
-    EXPECT(bev_step(NULL, 0, 0).number == 40 && bev_step(d, 511, 0).number == 40 && bev_step(d, 512, 0).number == 41);
-    EXPECT(bev_derive(t, len, 1, work, BEV_WORK, d, 1024).steps == 2 && bev_check(t, len, 1, work, BEV_WORK, d, 512).number == 0);
-    EXPECT(told(bev_check(t, len, 1, work, BEV_WORK, d, 1024), o_no(42, 0)));
-    EXPECT(told(bev_check(t, len, 3, work, BEV_WORK, d, 512), o_no(45, 1)));
+    EXPECT(check(small, len, &no, NULL, 0).number == 40 && bev_open(NULL, 0).number == 40 && bev_open(kept, 511).number == 40);
+    EXPECT(bev_step(NULL, 0, 0).number == 40 && bev_step(kept, 511, 0).number == 40 && bev_step(kept, 512, 0).number == 41);
+    EXPECT(derive(small, len, &no, kept, 1024).steps == 2 && check(small, len, &no, kept, 512).number == 0);
+    EXPECT(told(check(small, len, &no, kept, 1024), o_no(42, 0)));
+    EXPECT(told(check(small, len, &other_point, kept, 512), o_no(45, 1)));
+    EXPECT(derive(small, len, &apart, kept, 512).steps == 3 && check(small, len, &apart, kept, 512).number == 0);
+    EXPECT(told(check(small, len, &both, kept, 512), o_no(45, 1)));
     EXPECT(whole());
     printf("refusals\n");
 }
 
-/* Table A and the samples of the paper, by their steps. */
-static void sample(const uint8_t *t, size_t goal, const char *steps, unsigned number, size_t place)
+/* Steps as text, such as U0 R5.0 C5. */
+static size_t parse_steps(const char *p, uint8_t (*s)[4])
 {
-    static uint8_t s[64][4], d[512];
     size_t n = 0;
-    for (const char *p = steps; *p; n++) {
+    for (; *p; n++) {
         int value = 0, position = 0, rule = *p++;
         while (*p >= '0' && *p <= '9')
             value = 10 * value + (*p++ - '0');
@@ -272,10 +356,17 @@ static void sample(const uint8_t *t, size_t goal, const char *steps, unsigned nu
         memcpy(s[n], step, 4);
         p += *p == ' ';
     }
-    size_t size = o_steps_build(d, (const uint8_t (*)[4])s, n);
-    EXPECT(told(bev_check(t, 512, goal, work, BEV_WORK, d, size), o_no(number, place)));
+    return n;
+}
+
+/* Table A and the samples of the paper, by their steps. */
+static void sample(const uint8_t *t, o_list g, const char *steps, unsigned number, size_t place)
+{
+    static uint8_t s[64][4], d[512];
+    size_t n = parse_steps(steps, s), size = o_steps_build(d, (const uint8_t (*)[4])s, n);
+    EXPECT(told(check(t, 512, &g, d, size), o_no(number, place)));
     if (number == 0) {
-        EXPECT(bev_derive(t, 512, goal, work, BEV_WORK, lent, 512).steps == n && memcmp(lent, d, 512) == 0);
+        EXPECT(derive(t, 512, &g, lent, 512).steps == n && memcmp(lent, d, 512) == 0);
     }
 }
 
@@ -286,46 +377,74 @@ static void samples(void)
     for (int i = 0; i < 10; i++)
         rec(r[i], a[i][0], a[i][1], a[i][2]);
     o_build(t, (const uint8_t (*)[8])r, 10);
-    sample(t, 13, "U0 C1", 0, 0);
-    sample(t, 14, "U0 U1 U2 U3 R5.0 C5", 0, 0);
-    sample(t, 18, "U0 U1 U2 S1 R4.0 U4 R6.0 R6.1 C6 R3.0 U3 R5.0 R5.1 C5", 0, 0);
-    sample(t, 13, "C1", 45, 0);
-    sample(t, 13, "U0", 47, 1);
-    sample(t, 13, "U0 C1 C1", 46, 2);
-    sample(t, 6, "U0 S0 C1", 45, 2);
+    sample(t, o_one(13), "U0 C1", 0, 0);
+    sample(t, o_one(14), "U0 U1 U2 U3 R5.0 C5", 0, 0);
+    sample(t, o_one(18), "U0 U1 U2 S1 R4.0 U4 R6.0 R6.1 C6 R3.0 U3 R5.0 R5.1 C5", 0, 0);
+    sample(t, o_one(13), "C1", 45, 0);
+    sample(t, o_one(13), "U0", 47, 1);
+    sample(t, o_one(13), "U0 C1 C1", 46, 2);
+    sample(t, o_one(6), "U0 S0 C1", 45, 2);
+    sample(t, (o_list){ 2, { 10, 16 } }, "U0 U1 S1 R3.0 U3 R5.0 R5.1 C5 R2.0 U2 R4.0 R4.1 C4", 0, 0);
+    sample(t, (o_list){ 3, { 0, 0, 1 } }, "U0 R2.0 C2", 0, 0);
+    sample(t, (o_list){ 2, { 2, 13 } }, "U0 U1 C2", 0, 0);
+    sample(t, (o_list){ 3, { 0, 0, 1 } }, "U0 U1", 45, 1);
+    sample(t, (o_list){ 3, { 0, 0, 1 } }, "U0 E1 R2.0 C2 C2", 46, 4);
+    sample(t, (o_list){ 2, { 16, 10 } }, "U1 U0 S2 R3.1 U3 R5.0", 45, 5);
     printf("samples\n");
+}
+
+/* Lists of one goal: derive's answers and bytes are those of the calls that took one goal, here as a sum over random tables. */
+static void as_before(void)
+{
+    static uint8_t t[16384];
+    uint64_t sum = 0;
+    seed = 1;
+    for (int round = 0; round < 60; round++) {
+        size_t n = 8 + pick(18), len = random_table(t, 2 + pick(5), n);
+        for (size_t l = 0; l < 2 * n; l++) {
+            o_list g = o_one(l);
+            bev_derived v = derive(t, len, &g, lent, ROOM);
+            sum = 31 * (31 * sum + v.number) + v.steps;
+            for (size_t i = 0; i < 512 * ((v.steps + 125) / 126); i++)
+                sum = 31 * sum + lent[i];
+        }
+    }
+    EXPECT(sum == 0xd72b1944e672547d);
+    printf("as before\n");
 }
 
 static uint8_t deep[16384];
 static bev_derived deep_steps;
 static bev_checked deep_check;
 
+static const o_list deep_goals = { 3, { 2 * 2015, 2, 2 * 2015 } };
+
 static void *derive_deep(void *unused)
 {
-    deep_steps = bev_derive(deep, 16384, 2 * 2015, work, BEV_WORK, lent, ROOM);
-    deep_check = bev_check(deep, 16384, 2 * 2015, work, BEV_WORK, lent, 512 * ((deep_steps.steps + 125) / 126));
+    deep_steps = derive(deep, 16384, &deep_goals, lent, ROOM);
+    deep_check = check(deep, 16384, &deep_goals, lent, 512 * ((deep_steps.steps + 125) / 126));
     return unused;
 }
 
 static void deepest(void)
 {
     static uint8_t s[1024];
-    pthread_attr_t small;
+    pthread_attr_t stack;
     pthread_t thread;
     deep_table(deep);
-    pthread_attr_init(&small);
-    EXPECT(pthread_attr_setstacksize(&small, 1 << 20) == 0);
-    EXPECT(pthread_create(&thread, &small, derive_deep, NULL) == 0);
+    pthread_attr_init(&stack);
+    EXPECT(pthread_attr_setstacksize(&stack, 1 << 20) == 0);
+    EXPECT(pthread_create(&thread, &stack, derive_deep, NULL) == 0);
     pthread_join(thread, NULL);
     o_steps right = { taken, 0, STEPS };
-    EXPECT(o_decide(deep, 2 * 2015, s, &right) == 0 && deep_steps.number == 0 && deep_steps.steps == right.count);
+    EXPECT(o_decide(deep, &deep_goals, s, &right) == 0 && deep_steps.number == 0 && deep_steps.steps == right.count);
     size_t size = o_steps_build(expected, (const uint8_t (*)[4])taken, right.count);
     EXPECT(memcmp(lent, expected, size) == 0 && deep_check.number == 0);
     printf("deepest: %zu steps\n", right.count);
 }
 
 /* IFF(p0, IFF(p1, .. pn)) and the chain that starts from the other end are the same; that they differ is impossible. */
-static size_t chains(uint8_t *t, unsigned n, size_t *goal)
+static size_t chains(uint8_t *t, unsigned n, o_list *g)
 {
     static uint8_t r[200][8];
     unsigned k = 0, up, down;
@@ -342,20 +461,21 @@ static size_t chains(uint8_t *t, unsigned n, size_t *goal)
         down = k;
     }
     rec(r[k], 6, 2 * up, 2 * down);
-    *goal = 2 * k + 1;
+    *g = o_one(2 * k + 1);
     return o_build(t, (const uint8_t (*)[8])r, k + 1);
 }
 
 static void nested(uint8_t *big)
 {
     static uint8_t t[16384];
-    size_t goal, len = chains(t, 9, &goal);
-    bev_derived v = bev_derive(t, len, goal, work, BEV_WORK, big, BEV_DERIVATION_MAX);
-    EXPECT(v.number == 0 && bev_check(t, len, goal, work, BEV_WORK, big, 512 * ((v.steps + 125) / 126)).number == 0);
+    o_list g;
+    size_t len = chains(t, 9, &g);
+    bev_derived v = derive(t, len, &g, big, BEV_DERIVATION_MAX);
+    EXPECT(v.number == 0 && check(t, len, &g, big, 512 * ((v.steps + 125) / 126)).number == 0);
     size_t nine = v.steps;
     memset(big, 5, BEV_DERIVATION_MAX);
-    len = chains(t, 17, &goal);
-    v = bev_derive(t, len, goal, work, BEV_WORK, big, BEV_DERIVATION_MAX);
+    len = chains(t, 17, &g);
+    v = derive(t, len, &g, big, BEV_DERIVATION_MAX);
     EXPECT(v.number == 31 && v.place == 0 && v.steps == 0 && big[0] == 5 && big[BEV_DERIVATION_MAX - 1] == 5);
     printf("nested: 9 in %zu steps, 17 is 31\n", nine);
 }
@@ -394,6 +514,7 @@ static void fullest(void)
         rec(r[i], 2, i, 0);
     rec(r[39], 3, 2 * 37, 2 * 38);
     size_t len = o_build(t, (const uint8_t (*)[8])r, 40), n = 126u * 65536u / 3;
+    o_list g = o_one(1);
     memset(full, 0, BEV_DERIVATION_MAX);
     put('S', 2 * 39);
     put('U', 1);
@@ -407,12 +528,12 @@ static void fullest(void)
         b[3] = (uint8_t)(j >> 8);
         o_seal(b);
     }
-    EXPECT(told(bev_check(t, len, 1, work, BEV_WORK, full, BEV_DERIVATION_MAX), o_no(0, 0)));
+    EXPECT(told(check(t, len, &g, full, BEV_DERIVATION_MAX), o_no(0, 0)));
     EXPECT(bev_open(full, BEV_DERIVATION_MAX).steps == 126 * 65536);
-    EXPECT(told(bev_check(t, len, 1, work, BEV_WORK, full, BEV_DERIVATION_MAX + 512), o_no(40, 0)));
-    EXPECT(told(bev_check(t, len, 1, work, BEV_WORK, full, BEV_DERIVATION_MAX - 512), o_no(47, 126 * 65535)));
+    EXPECT(told(check(t, len, &g, full, BEV_DERIVATION_MAX + 512), o_no(40, 0)));
+    EXPECT(told(check(t, len, &g, full, BEV_DERIVATION_MAX - 512), o_no(47, 126 * 65535)));
     full[BEV_DERIVATION_MAX - 4] ^= 1;
-    EXPECT(told(bev_check(t, len, 1, work, BEV_WORK, full, BEV_DERIVATION_MAX), o_no(41, 65535)));
+    EXPECT(told(check(t, len, &g, full, BEV_DERIVATION_MAX), o_no(41, 65535)));
     printf("fullest: %zu steps\n", made);
 }
 
@@ -425,6 +546,7 @@ int main(void)
     refusals();
     samples();
     random_goals();
+    as_before();
     deepest();
     nested(full);
     fullest();

@@ -1,21 +1,26 @@
-"""bev decide, derive, check and steps on made tables: the answers against truth tables by brute force, the solver's order and the
-derivation rules in plain Python, and every refusal that a file or a goal can meet."""
+"""bev decide, derive, check and steps on made tables, with single goals and lists: the answers against truth tables by brute force, the
+solver's order and the derivation rules in plain Python, and every refusal that a file or a list of goals can meet."""
 import os
 import random
 import re
 
 from command import ANSWERED, IMPOSSIBLE, POSSIBLE, REFUSED, get, put
-from tables import A, ATOM, TRUE, by_truth_table, checked, derivation, edited, expansion, full_table, parity, search, some_table, table, truths, setting_of
+from tables import A, ATOM, TRUE, checked, derivation, edited, expansion, full_table, parity, possible_together, search, setting_of, some_goals, some_table, table, truths
 
-def decision(records, goal, answers=None):
+def goal_lists(rng, records, count):
+    """Each literal by itself, and so many lists."""
+    return [[l] for l in range(2 * len(records))] + [some_goals(rng, records) for _ in range(count)]
+
+def decision(records, goals, brute=False):
     """Status, output and settings that decide gives."""
-    model, _ = search(records, goal)
-    if answers:
-        assert (model is not None) == answers[goal // 2][goal % 2], "the order differs from the truth table"
+    model, _ = search(records, goals)
+    if brute:
+        assert (model is not None) == possible_together(records, goals), "the order differs from the truth table"
     if model is None:
         return IMPOSSIBLE, "impossible\n", None
     setting = setting_of(records, model)
-    assert truths(records, {p for p in range(1024) if setting[p] == 1})[goal // 2] != (goal % 2 == 1)
+    v = truths(records, {p for p in range(1024) if setting[p] == 1})
+    assert all(v[g // 2] != (g % 2 == 1) for g in goals)
     points = sorted(a for kind, a, _ in records if kind == ATOM)
     return POSSIBLE, "possible\n" + "".join(f"{('no', 'yes', 'either')[setting[p]]} {p}\n" for p in points), setting
 
@@ -24,29 +29,48 @@ def deciding(bev, folder, rounds):
     rng = random.Random(2)
     for records in [A, [(TRUE, 0, 0)], [(ATOM, 1023, 0)]] + [some_table(rng, 2 + i % 6, 10 + i) for i in range(rounds)]:
         put(name, table(records))
-        answers = by_truth_table(records)
-        for goal in range(2 * len(records)):
-            status, text, settings = decision(records, goal, answers)
+        for goals in goal_lists(rng, records, 10):
+            status, text, settings = decision(records, goals, brute=True)
             put(out, b"old")
-            bev.answers(status, text, "decide", name, goal, "--out", out)
+            bev.answers(status, text, "decide", name, *goals, "--out", out)
             if get(out) != (settings or b"old"):
-                bev.wrong(("decide", goal), "wrong settings", settings)
-            if settings:
+                bev.wrong(("decide", *goals), "wrong settings", settings)
+            for goal in {goals[0], goals[-1]} if settings else []:
                 bev.answers(ANSWERED, "yes\n", "eval", name, goal, out)
                 bev.answers(ANSWERED, "no\n", "eval", name, goal ^ 1, out)
-        for goal in (2 * len(records), 4096, 2 ** 64 - 1):
-            bev.refuses(20, 0, "decide", name, goal, about=goal)
     records, _ = full_table()
     put(name, table(records))
-    for goal in (0, 1, 7, 8, 4030, 4031):
-        bev.answers(*decision(records, goal)[:2], "decide", name, goal)
-    bev.answers(*decision(records, 7)[:2], "decide", name, "007")
-    bev.answers(*decision(records, 7)[:2], "decide", "-", "7", stdin=table(records))
+    for goals in ([0], [1], [7], [8], [4030], [4031], [4030, 0, 4031], list(range(0, 128, 2))):
+        bev.answers(*decision(records, goals)[:2], "decide", name, *goals)
+    bev.answers(*decision(records, [7])[:2], "decide", name, "007")
+    bev.answers(*decision(records, [7])[:2], "decide", "-", "7", stdin=table(records))
+    bev.answers(*decision(records, [7, 8])[:2], "decide", "-", "7", "8", stdin=table(records))
     for data in (b"", table(A)[:511], table(records) + bytes(512), bytes(100000)):
         put(name, data)
         bev.refuses(10, 0, "decide", name, 0, about=name)
     put(name, table(A + [A[3]]))
     bev.refuses(17, 10, "decide", name, 99, about=f"{name}, node 10")
+
+def list_rows(bev, folder):
+    """Rows 62 and 20, in each command: the table first, then the length of the list, then the first goal that is none."""
+    t, d, bad = (os.path.join(folder, n) for n in "tdb")
+    put(t, table(A))
+    put(d, derivation(search(A, [18])[1]))
+    put(bad, table(A)[:511])
+    commands = [lambda t, *g: ("decide", t, *g), lambda t, *g: ("derive", t, *g, "-o", d + "x"), lambda t, *g: ("check", t, *g, d), lambda t, *g: ("steps", d, t, *g)]
+    for words in commands:
+        for goal in (20, 4032, 65535, 65536, 2 ** 32 + 18, 2 ** 64 - 1):
+            bev.refuses(20, 0, *words(t, goal), about=f"{goal})")
+            bev.refuses(20, 2, *words(t, 18, 0, goal, 99), about=f"{goal}, goal 2)")
+            bev.refuses(20, 63, *words(t, *[18] * 63, goal), about=f"{goal}, goal 63)")
+            bev.refuses(62, 0, *words(t, *[18] * 64, goal), about="the goals)")
+            bev.refuses(10, 0, *words(bad, *[goal] * 65), about=bad)
+        for count in (65, 66, 1000):
+            bev.refuses(62, 0, *words(t, *[18] * count), about="the goals)")
+        bev.fails("x", "is no literal", *words(t, *[18] * 70, "x"))
+    if os.path.exists(d + "x"):
+        bev.wrong(("derive",), "a file", "none from refused goals")
+    bev.answers(IMPOSSIBLE, "impossible\n", "decide", t, *[18] * 64)
 
 def evaluating(bev, folder):
     name, out = os.path.join(folder, "t"), os.path.join(folder, "s")
@@ -69,11 +93,11 @@ def text(step):
     rule, position, value = step
     return f"{rule}{value}" + (f".{position}" if rule == "R" else "")
 
-def explained(records, goal, steps):
+def explained(records, goals, steps):
     """What stands before the colon in each line of the steps explained: the indent, the step, and its clause."""
     held, struck, waiting, lines = [], set(), [], []
     for rule, p, k in steps:
-        clauses = [([goal], "the goal")] + [(c, f"of {l}") for l in held for c in expansion(records, l)]
+        clauses = [([g], "a goal") for g in goals] + [(c, f"of {l}") for l in held for c in expansion(records, l)]
         start = "  " * len(waiting) + text((rule, p, k))
         if rule == "S":
             lines.append(f"{start} {k} is undecided")
@@ -114,42 +138,42 @@ def says(bev, verdict, *words, about):
     else:
         bev.answers(ANSWERED, "accepted\n", *words)
 
-def explains(bev, records, goal, steps, t, d):
+def explains(bev, records, goals, steps, t, d):
     """Both forms of bev steps, for steps that check accepts up to some place."""
     bev.answers(ANSWERED, " ".join(map(text, steps)) + "\n", "steps", d)
-    verdict = checked(records, goal, steps)
-    status, out, err = bev.run("steps", d, t, goal)
-    good = explained(records, goal, steps[:verdict[1]] if verdict else steps)
+    verdict = checked(records, goals, steps)
+    status, out, err = bev.run("steps", d, t, *goals)
+    good = explained(records, goals, steps[:verdict[1]] if verdict else steps)
     lines = out.split("\n")[:-1]
     if verdict:
         last = lines.pop()
         shown = lines.pop() if verdict[0] != 47 else "may not stand here"
         if status != REFUSED or not last.startswith("refused %d at %d: " % verdict) or not shown.endswith("may not stand here"):
-            bev.wrong(("steps", goal), (status, out), verdict)
+            bev.wrong(("steps", *goals), (status, out), verdict)
     elif status != ANSWERED:
-        bev.wrong(("steps", goal), status, ANSWERED)
+        bev.wrong(("steps", *goals), status, ANSWERED)
     if err or [line.split(":")[0] for line in lines] != good:
-        bev.wrong(("steps", goal), out + err, good)
+        bev.wrong(("steps", *goals), out + err, good)
 
 def checking(bev, folder, rounds):
     t, d = os.path.join(folder, "t"), os.path.join(folder, "d")
     rng = random.Random(3)
     for records in [A] + [some_table(rng, 3 + i % 4, 20 + i) for i in range(rounds)]:
         put(t, table(records))
-        for goal in range(2 * len(records)):
-            steps = search(records, goal)[1]
+        for goals in goal_lists(rng, records, 10):
+            steps = search(records, goals)[1]
             if not steps:
                 continue
-            assert checked(records, goal, steps) is None
+            assert checked(records, goals, steps) is None
             for tried in [steps] + [spoiled(rng, steps, len(records)) for _ in range(4)]:
                 if tried:
                     put(d, derivation(tried))
-                    says(bev, checked(records, goal, tried), "check", t, goal, d, about=f"{d}, step ")
-                    explains(bev, records, goal, tried, t, d)
+                    says(bev, checked(records, goals, tried), "check", t, *goals, d, about=f"{d}, step ")
+                    explains(bev, records, goals, tried, t, d)
     wording(bev, t, d)
     forms(bev, t, d)
 
-WORDS_18 = """U0 {18}, the goal: 18 is the one literal left, so it is held
+WORDS_18 = """U0 {18}, a goal: 18 is the one literal left, so it is held
 U1 {10}, of 18: 10 is the one literal left, so it is held
 U2 {16}, of 18: 16 is the one literal left, so it is held
 S1 1 is undecided: it is held, and 0 once its branch has closed
@@ -165,18 +189,24 @@ R5.0 {1, 3}, of 16: 1 is false, since 0 is held, and is struck
 R5.1 {[1], 3}, of 16: 3 is false, since 2 is held, and is struck
 C5 {[1], [3]}, of 16: every literal is struck, so the branch closes, the last one
 """
-WORDS_13 = """U0 {13}, the goal: 13 is the one literal left, so it is held
+WORDS_13 = """U0 {13}, a goal: 13 is the one literal left, so it is held
 C1 {}, of 13: it is empty, so the branch closes, the last one
+"""
+WORDS_LIST = """U0 {0}, a goal: 0 is the one literal left, so it is held
+E1 {0}, a goal: 0 is held, so the clause is struck
+R2.0 {1}, a goal: 1 is false, since 0 is held, and is struck
+C2 {[1]}, a goal: every literal is struck, so the branch closes, the last one
 """
 
 def wording(bev, t, d):
     """Every rule in full, with an erasure, which the solver's order never has."""
     put(t, table(A))
-    steps = search(A, 18)[1]
-    for goal, steps, words in ((18, steps[:4] + [("E", 0, 3)] + steps[4:], WORDS_18), (13, search(A, 13)[1], WORDS_13)):
+    steps = search(A, [18])[1]
+    for goals, steps, words in (([18], steps[:4] + [("E", 0, 3)] + steps[4:], WORDS_18), ([0, 0, 1], [("U", 0, 0), ("E", 0, 1), ("R", 0, 2), ("C", 0, 2)], WORDS_LIST),
+                                ([13], search(A, [13])[1], WORDS_13)):
         put(d, derivation(steps))
-        bev.answers(ANSWERED, "accepted\n", "check", t, goal, d)
-        bev.answers(ANSWERED, words, "steps", d, t, goal)
+        bev.answers(ANSWERED, "accepted\n", "check", t, *goals, d)
+        bev.answers(ANSWERED, words, "steps", d, t, *goals)
     put(d, derivation(steps + steps[-1:]))
     bev.refuses(46, 2, "steps", d, t, 13, about=f"{d}, step 2", before=WORDS_13 + "C1 {}, of 13: may not stand here\n")
     put(d, derivation(steps[:1]))
@@ -185,7 +215,7 @@ def wording(bev, t, d):
 def forms(bev, t, d):
     """Rows 40 to 44, and the longest derivations."""
     put(t, table(A))
-    good = derivation(search(A, 18)[1])
+    good = derivation(search(A, [18])[1])
     long = derivation([("S", 0, 0)] * 300)
     for data, want in [(good + bytes(512), (42, 0)), (good[:100] + b"\1" + good[101:], (41, 0)), (long[:-2] + b"xx", (41, 2)), (b"", (40, 0)), (good[:511], (40, 0)),
                        (good + b"x", (40, 0)), (edited(good, 0, 70), (42, 0)), (edited(good, 1, 127), (42, 0)), (edited(good, 300, 1), (43, 0)),
@@ -199,8 +229,6 @@ def forms(bev, t, d):
         put(d, data)
         bev.refuses(45, 1, "check", t, 18, d, about=f"{d}, step 1")
     put(d, good)
-    bev.refuses(20, 0, "check", t, 20, d, about=20)
-    bev.refuses(20, 0, "steps", d, t, 20, about=20)
     bev.answers(ANSWERED, "accepted\n", "check", t, 18, "-", stdin=good)
     bev.answers(ANSWERED, "accepted\n", "check", "-", 18, d, stdin=table(A))
 
@@ -209,17 +237,16 @@ def deriving(bev, folder, rounds, points):
     rng = random.Random(4)
     for records in [A, parity(6)] + [some_table(rng, 3 + i % 4, 20 + i) for i in range(rounds)]:
         put(t, table(records))
-        for goal in range(2 * len(records)):
-            steps = search(records, goal)[1]
+        for goals in goal_lists(rng, records, 10):
+            steps = search(records, goals)[1]
             put(d, b"old" * 1000)
             if steps:
-                bev.answers(ANSWERED, f"{len(steps)} steps\n", "derive", t, goal, "-o", d)
-                bev.answers(ANSWERED, "accepted\n", "check", t, goal, d)
+                bev.answers(ANSWERED, f"{len(steps)} steps\n", "derive", t, *goals, "-o", d)
+                bev.answers(ANSWERED, "accepted\n", "check", t, *goals, d)
             else:
-                bev.refuses(30, 0, "derive", t, goal, "-o", d, about=goal)
+                bev.refuses(30, 0, "derive", t, *goals, "-o", d, about=f"{goals[0]})" if len(goals) == 1 else "the goals)")
             if get(d) != (derivation(steps) if steps else b"old" * 1000):
-                bev.wrong(("derive", goal), "a wrong file", "the derivation")
-    bev.refuses(20, 0, "derive", t, 2 * len(records), "-o", d)
+                bev.wrong(("derive", *goals), "a wrong file", "the derivation")
     longest(bev, t, d, points)
 
 def longest(bev, t, d, points):
@@ -243,6 +270,7 @@ def longest(bev, t, d, points):
 
 def test(bev, folder, rounds, points):
     deciding(bev, folder, rounds)
+    list_rows(bev, folder)
     evaluating(bev, folder)
     checking(bev, folder, rounds)
     deriving(bev, folder, rounds, points)

@@ -8,6 +8,22 @@
 
 typedef struct { unsigned number; size_t place; size_t nodes; } o_read;
 typedef struct { uint8_t kind; unsigned a, b; } o_node;
+typedef struct { unsigned number; size_t place; } o_told;
+
+/* A list of goals; 65 do not pass. */
+typedef struct { size_t count; uint16_t goal[65]; } o_list;
+
+static inline o_told o_no(unsigned number, size_t place)
+{
+    o_told v = { number, place };
+    return v;
+}
+
+static inline o_list o_one(size_t goal)
+{
+    o_list g = { 1, { (uint16_t)goal } };
+    return g;
+}
 
 static inline unsigned o_word(const uint8_t *p) { return p[0] + 256u * p[1]; }
 
@@ -130,6 +146,15 @@ static inline int o_kleene(const uint8_t *t, const uint8_t *s, size_t literal)
         v = seen == 3 ? 2 : seen == 2;
     }
     return v == 2 ? 2 : literal % 2 ? !v : v;
+}
+
+/* Whether every goal of a list is true. */
+static inline int o_all_true(const uint8_t *t, const uint8_t *s, const o_list *g)
+{
+    for (size_t i = 0; i < g->count; i++)
+        if (!o_truth(t, s, g->goal[i]))
+            return 0;
+    return 1;
 }
 
 /* The table that holds n records, written to a cleared buffer; its length. */

@@ -137,13 +137,25 @@ static inline int o_search(o_state *s, const uint8_t *t, o_steps *d)
     }
 }
 
-/* Decide of a readable table and a goal in it: 1 possible with the settings (2 for a point of neither sign), or 0. */
-static inline int o_decide(const uint8_t *t, int goal, uint8_t *settings, o_steps *d)
+/* Rows 62 and 20 of a list of goals. */
+static inline o_told o_goals(const o_list *g, size_t nodes)
+{
+    if (g->count == 0 || g->count > 64)
+        return o_no(62, 0);
+    for (size_t i = 0; i < g->count; i++)
+        if (g->goal[i] >= 2 * nodes)
+            return o_no(20, i);
+    return o_no(0, 0);
+}
+
+/* Decide of a readable table and a list of goals in it: 1 possible with the settings (2 for a point of neither sign), or 0. */
+static inline int o_decide(const uint8_t *t, const o_list *g, uint8_t *settings, o_steps *d)
 {
     static o_state s;
     s.count = s.clauses = 0;
     memset(s.value, 0, sizeof s.value);
-    o_clause_of(&s, 1, goal, 0);
+    for (size_t i = 0; i < g->count; i++)
+        o_clause_of(&s, 1, g->goal[i], 0);
     if (!o_search(&s, t, d))
         return 0;
     memset(settings, 2, 1024);

@@ -6,13 +6,6 @@
 #include "order.h"
 
 typedef struct { o_state s; uint8_t struck[O_CLAUSES], gone[O_CLAUSES][2]; } o_branch;
-typedef struct { unsigned number; size_t place; } o_told;
-
-static inline o_told o_no(unsigned number, size_t place)
-{
-    o_told v = { number, place };
-    return v;
-}
 
 static inline const uint8_t *o_step_at(const uint8_t *d, size_t k) { return d + 512 * (k / 126) + 4 + 4 * (k % 126); }
 
@@ -108,21 +101,22 @@ static inline int o_apply(o_branch *b, const uint8_t *t, int rule, int p, int k)
     }
 }
 
-static inline o_branch *o_root(int goal)
+static inline o_branch *o_root(const o_list *g)
 {
     o_branch *b = calloc(1, sizeof *b);
     if (!b)
         exit(2);
-    o_clause_of(&b->s, 1, goal, 0);
+    for (size_t i = 0; i < g->count; i++)
+        o_clause_of(&b->s, 1, g->goal[i], 0);
     return b;
 }
 
 /* Each step in turn and the end: 0, or 45 to 47 with its place. */
-static inline o_told o_run(const uint8_t *t, size_t nodes, int goal, const uint8_t *d, size_t steps)
+static inline o_told o_run(const uint8_t *t, size_t nodes, const o_list *g, const uint8_t *d, size_t steps)
 {
     static o_branch *waiting[2100];
     size_t depth = 0;
-    o_branch *b = o_root(goal);
+    o_branch *b = o_root(g);
     o_told v = o_no(0, 0);
     for (size_t i = 0; i < steps && !v.number; i++) {
         const uint8_t *s = o_step_at(d, i);
@@ -159,12 +153,12 @@ static inline o_told o_run(const uint8_t *t, size_t nodes, int goal, const uint8
     return v;
 }
 
-/* Check of a readable table and a goal in it. */
-static inline o_told o_checked(const uint8_t *t, size_t nodes, int goal, const uint8_t *d, size_t len)
+/* Check of a readable table and a list of goals in it. */
+static inline o_told o_checked(const uint8_t *t, size_t nodes, const o_list *g, const uint8_t *d, size_t len)
 {
     size_t steps;
     o_told v = o_form(d, len, &steps);
-    return v.number ? v : o_run(t, nodes, goal, d, steps);
+    return v.number ? v : o_run(t, nodes, g, d, steps);
 }
 
 #endif

@@ -1,5 +1,5 @@
-/* How much stack each call takes, at most: run in a thread whose stack is painted first, on full tables, the deepest search and a large
- * DIMACS text. No call takes more than the header's BEV_STACK. */
+/* How much stack each call takes, at most: run in a thread whose stack is painted first, on full tables, the deepest search, the longest
+ * list of goals and a large DIMACS text. No call takes more than the header's BEV_STACK. */
 #define _DEFAULT_SOURCE
 #include "tables.h"
 #include <pthread.h>
@@ -9,13 +9,18 @@ enum { ROOM = 8 << 20, PAINT = 0xA5 };
 static uint8_t deep[BEV_TABLE_MAX], buffer[BEV_TABLE_MAX], settings[BEV_POINTS], lent[1 << 20];
 static char text[1 << 20];
 static size_t text_len, steps;
+static uint16_t goals[BEV_GOALS]; /* each the deepest */
 
 static void run_nothing(void) {}
 static void run_count(void) { EXPECT(bev_count(deep, sizeof deep).nodes == 2016); }
 static void run_record(void) { EXPECT(bev_record(deep, sizeof deep, 4031).number == 0); }
 static void run_evaluate(void) { EXPECT(bev_evaluate(deep, sizeof deep, 4031, settings, BEV_POINTS).number == 0); }
 static void run_open(void) { EXPECT(bev_open(lent, (steps + 125) / 126 * 512).steps == steps); }
-static void run_decide(void) { EXPECT(bev_decide(deep, sizeof deep, 4030, settings, BEV_POINTS, work, BEV_WORK).number == 0); }
+
+static void run_decide(void)
+{
+    EXPECT(bev_decide(deep, sizeof deep, goals, BEV_GOALS, settings, BEV_POINTS, work, BEV_WORK).number == 0);
+}
 
 static void run_add(void)
 {
@@ -27,14 +32,14 @@ static void run_add(void)
 
 static void run_derive(void)
 {
-    bev_derived v = bev_derive(deep, sizeof deep, 4030, work, BEV_WORK, lent, sizeof lent);
+    bev_derived v = bev_derive(deep, sizeof deep, goals, BEV_GOALS, work, BEV_WORK, lent, sizeof lent);
     steps = v.steps;
     EXPECT(v.number == 0 && 2000 < steps);
 }
 
 static void run_check(void)
 {
-    EXPECT(bev_check(deep, sizeof deep, 4030, work, BEV_WORK, lent, (steps + 125) / 126 * 512).number == 0);
+    EXPECT(bev_check(deep, sizeof deep, goals, BEV_GOALS, work, BEV_WORK, lent, (steps + 125) / 126 * 512).number == 0);
 }
 
 static void run_dimacs(void) { EXPECT(bev_dimacs((uint8_t *)text, text_len, buffer, sizeof buffer).number == 0); }
@@ -70,6 +75,8 @@ int main(void)
         { "derive", run_derive }, { "check", run_check }, { "open", run_open }, { "dimacs", run_dimacs },
     };
     deep_table(deep);
+    for (int i = 0; i < BEV_GOALS; i++)
+        goals[i] = 4030;
     text_len = (size_t)sprintf(text, "p cnf 1000 500\n");
     for (int i = 0; i < 500; i++)
         text_len += (size_t)sprintf(text + text_len, "%d -%d 0\n", i + 1, i + 501);

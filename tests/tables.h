@@ -84,6 +84,35 @@ static size_t random_table(uint8_t *t, unsigned points, size_t n)
     return o_build(t, (const uint8_t (*)[8])r, n);
 }
 
+/* A list of 1 to 64 goals: any literals, or such that one setting makes true, or those with one turned. Most long ones have repeats, and
+ * of the first and the last sort many have opposite literals. */
+static o_list random_list(const uint8_t *t, unsigned points, size_t nodes)
+{
+    static uint8_t s[1024];
+    o_list g = { 1 + pick(pick(2) ? 5 : 64), { 0 } };
+    unsigned sort = pick(3);
+    for (unsigned p = 0; p < points; p++)
+        s[p] = (uint8_t)pick(2);
+    for (size_t i = 0; i < g.count; i++) {
+        g.goal[i] = (uint16_t)pick(2 * (unsigned)nodes);
+        if (sort && !o_truth(t, s, g.goal[i]))
+            g.goal[i] ^= 1;
+    }
+    if (sort == 2)
+        g.goal[pick((unsigned)g.count)] ^= 1;
+    return g;
+}
+
+/* Any list of up to 65 literals, most of them of the table. */
+static o_list any_list(size_t nodes)
+{
+    o_list g = { pick(4) ? pick(66) : 63 + pick(3), { 0 } };
+    unsigned rare = 1 + pick(200);
+    for (size_t i = 0; i < 65; i++)
+        g.goal[i] = (uint16_t)(pick(rare) ? pick(2 * (unsigned)nodes) : pick(2) ? 2 * (unsigned)nodes + pick(3) : 65535 - pick(3));
+    return g;
+}
+
 /* TRUE, ATOM, AND(¬TRUE, ATOM), then a chain IMP(¬previous, ¬TRUE): over 2,000 nested splits, and every branch closes. */
 static size_t deep_table(uint8_t *t)
 {

@@ -56,6 +56,25 @@ def by_truth_table(records):
             no[n] |= not x
     return list(zip(yes, no))
 
+def possible_together(records, goals):
+    """Whether one setting makes every goal true."""
+    points = sorted({a for kind, a, _ in records if kind == ATOM})
+    def makes_true(v):
+        return all(v[g // 2] != (g % 2 == 1) for g in goals)
+    return any(makes_true(truths(records, {p for i, p in enumerate(points) if w >> i & 1})) for w in range(1 << len(points)))
+
+def some_goals(rng, records):
+    """1 to 64 goals: any literals, or such that one setting makes true, or those with one turned."""
+    count = rng.randrange(1, 6) if rng.random() < 0.7 else rng.randrange(1, 65)
+    goals = [rng.randrange(2 * len(records)) for _ in range(count)]
+    sort = rng.randrange(3)
+    if sort:
+        v = truths(records, {a for kind, a, _ in records if kind == ATOM and rng.random() < 0.5})
+        goals = [g - g % 2 + (not v[g // 2]) for g in goals]
+    if sort == 2:
+        goals[rng.randrange(count)] ^= 1
+    return goals
+
 def some_table(rng, points, count):
     records = [(ATOM, p, 0) for p in rng.sample(range(1024), points)]
     while len(records) < count:
@@ -83,8 +102,8 @@ def expansion(records, l):
         return {TRUE: [], ATOM: [], AND: [[a], [b]], OR: [[a, b]], IMP: [[a ^ 1, b]], IFF: [[a ^ 1, b], [a, b ^ 1]]}[kind]
     return {TRUE: [[]], ATOM: [], AND: [[a ^ 1, b ^ 1]], OR: [[a ^ 1], [b ^ 1]], IMP: [[a], [b ^ 1]], IFF: [[a, b], [a ^ 1, b ^ 1]]}[kind]
 
-def search(records, goal):
-    """The final list and None, or None and the derivation's steps."""
+def search(records, goals):
+    """Of a list of goals: the final list and None, or None and the derivation's steps."""
     steps = []
     def removals(held, clause, k):
         steps.extend(("R", p, k) for p, l in enumerate(clause) if l ^ 1 in held)
@@ -116,7 +135,7 @@ def search(records, goal):
                 if left is not None:
                     return left
                 held, clauses = held + [fork ^ 1], clauses + expansion(records, fork ^ 1)
-    model = branch([], [[goal]])
+    model = branch([], [[g] for g in goals])
     return (model, None) if model is not None else (None, steps)
 
 def setting_of(records, model):
@@ -127,13 +146,13 @@ def setting_of(records, model):
             setting[records[l // 2][1]] = 1 - l % 2
     return bytes(setting)
 
-def checked(records, goal, steps):
-    """What check says of steps: None, or a refusal's number and place."""
+def checked(records, goals, steps):
+    """What check says of a list of goals and steps: None, or a refusal's number and place."""
     held, struck, waiting, complete = [], set(), [], False
     for i, (rule, p, k) in enumerate(steps):
         if complete:
             return 46, i
-        clauses = [[goal]]
+        clauses = [[g] for g in goals]
         for l in held:
             clauses += expansion(records, l)
         if rule == "S":

@@ -1,29 +1,36 @@
 -- The rows as the functions meet them, and what asking answers. Assumes nothing.
-use mathlib.Core.Path.{_≡_, refl, sym, ap, _∙_}
-use mathlib.Core.List.{List, [], _∷_}
-use Prim.Native.Nat.{ℕ, _-_, _*_, _<_, _≤_, min}
-use native.Mathlib.Decide.{decLt}
+use mathlib.Core.Path.{_≡_, sym, ap, _∙_}
+use mathlib.Core.Bool.{true, false, _&&_}
+use mathlib.Core.List.{List}
+use Prim.Native.Nat.{ℕ, _<_, _≤_}
 use native.Mathlib.Omega.{arith}
-use lib.Dec.{ltb}
+use lib.Dec.{leb, ltb}
 use lib.ListN.{length}
-use borrow.Author.Tests.{lt-ltb, le-ltb, le-leb, lt-leb}
+use borrow.Author.Tests.{le-leb, lt-leb}
 use Rattle.scope.specs.declared.Node.{Node}
 use Rattle.scope.specs.declared.Refusal.{Refusal}
 use Rattle.scope.specs.Outcome.{Outcome, answer, refused, fine, first, _>>_, _>>=_}
 use Rattle.scope.specs.Table.{decode}
 use Rattle.scope.specs.Calls.{tableCount}
 use Rattle.scope.proofs.Tests.{refused-no, passed-on}
-use Rattle.codec.specs.Valid.{Bytes}
-use Rattle.codec.proofs.Tables.{read-valid}
 use Rattle.table.specs.declared.Counted.{Counted}
 use Rattle.table.specs.declared.Counted.the-variants.{Nodes, Refused}
 use Rattle.table.specs.Counted.{countedOf}
-use Rattle.calculus.specs.Decide.{goalsTest, rowsTest, asked}
+use Rattle.calculus.specs.Model.{mostGoals}
+use Rattle.calculus.specs.Decide.{goalRow, goalsTest, rowsTest, asked}
 use Rattle.calculus.proofs.Asked.{asked-rows}
 use Rattle.asking.specs.Asks.{Prepared, Asks}
 use Rattle.asking.proofs.Nodes.{nodesIn, size-in, nodes-read}
 
--- ---- rows 20, 21 and 23
+-- ---- rows 62, 20, 21 and 23
+
+module _ (nodes : ℕ) (goals : List ℕ) where
+  -- a list that row 62 refuses, and one that it does not
+  pub list-refused : (ltb 0 (length goals) && leb (length goals) mostGoals) ≡ false → goalsTest nodes goals ≡ refused 62 0
+  list-refused e = rw e
+
+  pub list-passed : (ltb 0 (length goals) && leb (length goals) mostGoals) ≡ true → goalsTest nodes goals ≡ first (goalRow nodes goals) 0 (length goals)
+  list-passed e = rw e
 
 module _ (nodes : ℕ) (goals : List ℕ) (needed points area : ℕ) where
   pub row-goals : {number place : ℕ} → goalsTest nodes goals ≡ refused number place → rowsTest nodes goals needed points area ≡ refused number place
@@ -84,26 +91,3 @@ module _ (t goals : List ℕ) (needed points area : ℕ) where
       go : (o : Outcome (List Node)) → (o >>= λ rs. answer (length rs)) ≡ refused (f .number) (f .place) → o ≡ refused (f .number) (f .place)
       go (answer rs) e = refused-no (sym e)
       go (refused number place) e = cc
-
--- ---- a goal as a 16-bit number
-
--- a literal of a table is small
-pub literal-small : (n goal l : ℕ) → n ≤ 2016 → l ≡ min goal 65535 → l < 2 * n → l ≡ goal
-literal-small n goal l few e h = omega arith
-
--- and one that is not is refused as the goal is
-module _ (t : List ℕ) (all : Bytes t) (goal l : ℕ) (e : l ≡ min goal 65535) (needed points area : ℕ) where
-  same-row : (n : ℕ) → n ≤ 2016 → ltb l (2 * n) ≡ ltb goal (2 * n)
-  same-row n few = go (decLt goal (2 * n))
-    where
-      go : Dec (goal < 2 * n) → ltb l (2 * n) ≡ ltb goal (2 * n)
-      go (yes h) = lt-ltb l (2 * n) (omega arith) ∙ sym (lt-ltb goal (2 * n) h)
-      go (no h) = le-ltb l (2 * n) (omega arith) ∙ sym (le-ltb goal (2 * n) (omega arith))
-
-  pub asked-same : asked t (l ∷ []) needed points area ≡ asked t (goal ∷ []) needed points area
-  unfolding asked rowsTest first
-  asked-same = go (decode t) refl
-    where
-      go : (o : Outcome (List Node)) → decode t ≡ o → asked t (l ∷ []) needed points area ≡ asked t (goal ∷ []) needed points area
-      go (refused number place) q = rw q
-      go (answer rs) q = rw (q, same-row (length rs) (read-valid t rs all q .few))

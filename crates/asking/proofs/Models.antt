@@ -151,7 +151,7 @@ module _ (t : List ℕ) (rs : List Node) (all : Bytes t) (e : decode t ≡ answe
           all-imply (λ g. truth₃ (settingOf rs G ++ rest) rs g ≡ Yes) (λ g. truth f rs g ≡ true)
           (λ g z. sure-filled (settingOf rs G ++ rest) f rs g true fills points-of z) goals made-yes
 
--- ---- one goal, and evaluate
+-- ---- evaluate
 
 -- the bytes of a setting that evaluate takes
 taken : (s : List ℕ) → 1024 ≤ length s → ((p : ℕ) → p < 1024 → getD s p 0 < 3) → settingsTest s ≡ fine
@@ -184,38 +184,54 @@ module _ (rs : List Node) (G : List ℕ) where
   no-taken : settingsTest all-no ≡ fine
   no-taken = taken all-no (omega (arith, length-map (settingOf rs G) (_% 2), setting-length rs G)) (λ p h. omega (arith, no-byte p))
 
-module _ (t : List ℕ) (rs : List Node) (all : Bytes t) (e : decode t ≡ answer rs) (goal : ℕ) where
+module _ (t : List ℕ) (rs : List Node) (all : Bytes t) (e : decode t ≡ answer rs) where
   -- a yes or no of evaluate is the truth for every way of filling the 2s
-  pub evaluated-filled : (v : List ℕ) (b : Bool) → evaluate t goal v ≡ answer (sure b) → (f : List ℕ) → Fills v f → truth f rs goal ≡ b
+  pub evaluated-filled : (goal : ℕ) (v : List ℕ) (b : Bool) → evaluate t goal v ≡ answer (sure b) → (f : List ℕ) → Fills v f → truth f rs goal ≡ b
   unfolding evaluate
-  evaluated-filled v b q f fills =
+  evaluated-filled goal v b q f fills =
       let a = then-next (require (ltb goal (2 * length rs)) 20 0) _ (rw e at q) in
       let z : answer (truth₃ v rs goal) ≡ answer (sure b) = then-next (settingsTest v) _ a in
       sure-filled v f rs goal b fills (points-of t rs all e) cc
 
-  module _ (b : goal < 2 * length rs) where
-    evaluates : (v : List ℕ) → settingsTest v ≡ fine → truth₃ v rs goal ≡ Yes → evaluate t goal v ≡ answer Yes
+  -- so where it says yes of all goals, they are true for every way of filling the 2s
+  pub all-filled : (goals v : List ℕ) → All (λ g. evaluate t g v ≡ answer Yes) goals → (f : List ℕ) → Fills v f → All (λ g. truth f rs g ≡ true) goals
+  all-filled goals v h f fills = all-imply (λ g. evaluate t g v ≡ answer Yes) (λ g. truth f rs g ≡ true) (λ g z. evaluated-filled g v true z f fills) goals h
+
+  -- a setting that makes all goals true, as evaluate says, does
+  pub satisfied-true : (goals v : List ℕ) → Satisfies t goals v → All (λ g. truth v rs g ≡ true) goals
+  satisfied-true goals v h = all-filled goals v (h .1) v (λ p k z. refl)
+
+  module _ (goals : List ℕ) (B : Below (length rs) goals) where
+    evaluates : (v : List ℕ) → settingsTest v ≡ fine → All (λ g. truth₃ v rs g ≡ Yes) goals → All (λ g. evaluate t g v ≡ answer Yes) goals
     unfolding evaluate
-    evaluates v ok y = rw (e, lt-ltb goal (2 * length rs) b, ok) (ap answer y)
-
-    pub none-satisfies : answerOf (searchOf rs (goal ∷ [])) ≡ impossible → Unsatisfiable t goal
-    none-satisfies q v h = never-true t rs all e (goal ∷ []) (b, tt) q v (evaluated-filled v true (h .1) v (λ p k z. refl), tt)
-
-    module _ {G : List ℕ} (q : answerOf (searchOf rs (goal ∷ [])) ≡ possible G) where
-      -- evaluate of the final list's setting answers yes
-      pub setting-yes : (rest : List ℕ) → evaluate t goal (settingOf rs G ++ rest) ≡ answer Yes
-      setting-yes rest = evaluates (settingOf rs G ++ rest) (setting-taken rs G rest) (made-yes t rs all e (goal ∷ []) (b, tt) q rest .0)
-
-      pub setting-satisfies : Satisfies t goal (all-no rs G)
-      setting-satisfies =
-          let z : truth (all-no rs G) rs goal ≡ true = filled-true t rs all e (goal ∷ []) (b, tt) q [] (all-no rs G) (no-fills rs G) .0 in
-          (no-two rs G, evaluates (all-no rs G) (no-taken rs G) (two-valued (all-no rs G) rs goal (no-two rs G) (points-of t rs all e) ∙ ap sure z))
-
-    -- impossible exactly when no setting makes the goal true
-    pub search-exact : (answerOf (searchOf rs (goal ∷ [])) ≡ impossible) ⇔ Unsatisfiable t goal
-    search-exact = (none-satisfies, λ none. go none (answerOf (searchOf rs (goal ∷ []))) refl)
+    evaluates v ok = go goals B
       where
-        go : Unsatisfiable t goal → (a : Answer) → answerOf (searchOf rs (goal ∷ [])) ≡ a → a ≡ impossible
+        go : (gs : List ℕ) → Below (length rs) gs → All (λ g. truth₃ v rs g ≡ Yes) gs → All (λ g. evaluate t g v ≡ answer Yes) gs
+        go [] b y = tt
+        go (g ∷ gs) b y = (rw (e, lt-ltb g (2 * length rs) (b .0), ok) (ap answer (y .0)), go gs (b .1) (y .1))
+
+    pub none-satisfies : answerOf (searchOf rs goals) ≡ impossible → Unsatisfiable t goals
+    none-satisfies q v h = never-true t rs all e goals B q v (satisfied-true goals v h)
+
+    module _ {G : List ℕ} (q : answerOf (searchOf rs goals) ≡ possible G) where
+      -- evaluate of the final list's setting answers yes of each goal
+      pub setting-yes : (rest : List ℕ) → All (λ g. evaluate t g (settingOf rs G ++ rest) ≡ answer Yes) goals
+      setting-yes rest = evaluates (settingOf rs G ++ rest) (setting-taken rs G rest) (made-yes t rs all e goals B q rest)
+
+      pub setting-satisfies : Satisfies t goals (all-no rs G)
+      setting-satisfies = (
+        no-two rs G,
+        evaluates (all-no rs G) (no-taken rs G)
+            (all-imply (λ g. truth (all-no rs G) rs g ≡ true) (λ g. truth₃ (all-no rs G) rs g ≡ Yes)
+            (λ g z. two-valued (all-no rs G) rs g (no-two rs G) (points-of t rs all e) ∙ ap sure z) goals
+            (filled-true t rs all e goals B q [] (all-no rs G) (no-fills rs G))),
+      )
+
+    -- impossible exactly when no setting makes all goals true
+    pub search-exact : (answerOf (searchOf rs goals) ≡ impossible) ⇔ Unsatisfiable t goals
+    search-exact = (none-satisfies, λ none. go none (answerOf (searchOf rs goals)) refl)
+      where
+        go : Unsatisfiable t goals → (a : Answer) → answerOf (searchOf rs goals) ≡ a → a ≡ impossible
         go none (possible G) q = absurd (none (all-no rs G) (setting-satisfies q))
         go none impossible q = refl
-        go none unfinished q = absurd (never-cut (length rs) (nodesOf rs) (goal ∷ []) (table-of t rs all e) (b, tt) q)
+        go none unfinished q = absurd (never-cut (length rs) (nodesOf rs) goals (table-of t rs all e) B q)

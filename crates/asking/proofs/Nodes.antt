@@ -21,7 +21,7 @@ use Rattle.calculus.specs.Model.{Table}
 use Rattle.calculus.specs.Decide.{nodesOf, searchOf, Admitted}
 use Rattle.calculus.proofs.Asked.{asked-fine}
 use Rattle.index.specs.Index.{indexSize, mostNodes, always, indexNode, Built}
-use Rattle.asking.specs.Asks.{mostGoals, Prepared}
+use Rattle.asking.specs.Asks.{Prepared}
 use Rattle.asking.proofs.Models.{low, table-of, cells-of}
 use Rattle.asking.proofs.Same.{table-same, search-same}
 
@@ -64,15 +64,15 @@ module _ (t : List ℕ) {nodes : ℕ} (e : tableCount t ≡ answer nodes) where
       cells i h = rw (node-in i h) (cells-of t (nodesIn t nodes) all nodes-read i (omega (arith, size-in t nodes)))
 
       -- goals that no row refuses may be put to it
-      pub prepares : (goals : List ℕ) (needed lent area : ℕ) → length goals ≤ mostGoals → Admitted nodes goals needed lent area
+      pub prepares : (goals : List ℕ) (needed lent area : ℕ) → Admitted nodes goals needed lent area
           → Prepared t goals needed lent area x nodes
-      prepares goals needed lent area most a = record {
+      prepares goals needed lent area a = record {
         nodes = nodesIn t nodes;
         answered = asked-fine t goals needed lent area nodes-read (rw (size-in t nodes) a);
         reads = nodes-read;
         count = size-in t nodes;
         admitted = a;
-        literals = record { most = most; below = a .below };
+        literals = record { most = a .most; below = a .below };
         indexed = record { size = size; few = few; table = table; links = b .links; cells = cells; codes = b .codes };
         same = node-in;
         points = λ i h. rw (node-in i h) (low t (nodesIn t nodes) all nodes-read i (omega (arith, size-in t nodes)) .point);

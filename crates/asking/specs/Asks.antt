@@ -14,9 +14,6 @@ use Rattle.calculus.specs.Decide.{nodesOf, Admitted, asked}
 use Rattle.index.specs.Index.{indexNode}
 use Rattle.index.specs.Indexed.{Indexed}
 
-abbrev pub mostGoals : ℕ
-mostGoals = 64
-
 -- goals that may be put to the table t: its nodes, and x, their index
 pub record Prepared (t goals : List ℕ) (needed lent area : ℕ) (x : List ℕ) (n : ℕ) : Type 0 where
   pub nodes : List Node

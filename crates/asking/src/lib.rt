@@ -1,22 +1,18 @@
-// What decide, derive and check ask before they search: rows 10 to 17, 20, 21 and 23 in one place, over a list of goals; and the index
-// of the table's nodes, which they work on.
+// What decide, derive and check ask before they search: rows 10 to 17, 62, 20, 21 and 23 in one place; and the index of the table's nodes,
+// which they work on.
 use scope::Refusal;
 use scope::Verdict;
 use table::Counted;
 ghost use mathlib.Core.Path.{_≡_};
-ghost use Prim.Native.Nat.{_≤_, min};
+ghost use Prim.Native.Nat.{_≤_};
+ghost use mathlib.Core.Bool.{_&&_};
+ghost use lib.Dec.{leb, ltb};
 ghost use lib.ListN.{length};
 ghost use Rattle.scope.specs.Outcome.{verdictOf};
+ghost use Rattle.calculus.specs.Model.{mostGoals};
 ghost use Rattle.calculus.specs.Decide.{goalsTest, rowsTest};
 ghost use Rattle.index.specs.Index.{indexSize, mostNodes};
-ghost use Rattle.asking.specs.Asks.{mostGoals, Asks};
-
-// A goal as a 16-bit number; one that is too large for that is too large for any table, and stays so.
-pub fn literal(goal: usize) -> u16
-    ensures { λ r. ⌜ r ≡ min goal 65535 ⌝ }
-{
-    if goal < 65535 { goal as u16 } else { 65535 }
-}
+ghost use Rattle.asking.specs.Asks.{Asks};
 
 fn wide(l: u16) -> usize
     ensures { λ r. ⌜ r ≡ l ⌝ }
@@ -24,11 +20,24 @@ fn wide(l: u16) -> usize
     l as usize
 }
 
-// Row 20: each goal in turn.
-fn goal_row(nodes: usize, goals: &[u16]) -> Verdict
+// Whether a list of so many goals passes row 62.
+fn list_size(count: usize) -> bool
+    ensures { λ r. ⌜ r ≡ (ltb 0 count && leb count mostGoals) ⌝ }
+{
+    0 < count && count <= 64
+}
+
+// Row 62, then row 20 of each goal in turn.
+fn goal_rows(nodes: usize, goals: &[u16]) -> Verdict
     requires { ⌜ nodes ≤ mostNodes ⌝ }
     ensures { λ r. ⌜ verdictOf r ≡ goalsTest nodes (now (goals .entry)) ⌝ }
 {
+    if !list_size(goals.len()) {
+        return Verdict::Refused(Refusal {
+            number: 62,
+            place: 0,
+        });
+    }
     let mut i = 0;
     while i < goals.len() {
         if 2 * nodes <= wide(goals[i]) {
@@ -42,12 +51,12 @@ fn goal_row(nodes: usize, goals: &[u16]) -> Verdict
     Verdict::Fine
 }
 
-// Rows 20, 21 and 23.
+// Rows 62, 20, 21 and 23.
 fn rows(nodes: usize, goals: &[u16], needed: usize, points: usize, area: usize) -> Verdict
     requires { ⌜ nodes ≤ mostNodes ⌝ }
     ensures { λ r. ⌜ verdictOf r ≡ rowsTest nodes (now (goals .entry)) needed points area ⌝ }
 {
-    let v = goal_row(nodes, goals);
+    let v = goal_rows(nodes, goals);
     match v {
         Verdict::Refused(f) => Verdict::Refused(f),
         Verdict::Fine => {
@@ -77,7 +86,6 @@ pub fn ask(
     area: usize,
     x: &mut [u16],
 ) -> Counted
-    requires { ⌜ length (now goals) ≤ mostGoals ⌝ }
     requires { ⌜ length (now x) ≡ indexSize ⌝ }
     ensures { λ r. ⌜ Asks (now (t .entry)) (now (goals .entry)) needed points area (now (x .exit)) r ⌝ }
 {

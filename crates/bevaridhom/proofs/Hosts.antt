@@ -1,9 +1,9 @@
 -- What a host is told of decide, derive, check and the DIMACS reader, whatever case the answer is. Assumes nothing.
 use mathlib.Core.Path.{_≡_, _∙_, ap, sym, refl}
 use mathlib.Core.Bool.{true}
-use mathlib.Core.List.{List}
+use mathlib.Core.List.{List, [], _∷_}
 use mathlib.Core.Logic.{inl, inr}
-use Prim.Native.Nat.{ℕ, _*_, _≤_, _<_}
+use Prim.Native.Nat.{ℕ, _*_, _<_}
 use native.Mathlib.Omega.{arith}
 use lib.Dec.{ltb}
 use lib.ListN.{length, take}
@@ -19,6 +19,7 @@ use Rattle.scope.specs.Calls.{settingsTest, evaluate}
 use Rattle.scope.proofs.Tests.{refused-no, then-first, then-next}
 use Rattle.codec.specs.Valid.{Bytes}
 use Rattle.codec.proofs.Bytes.{bytes-take}
+use Rattle.calculus.specs.Model.{All}
 use Rattle.calculus.specs.Decide.{decide, Unsatisfiable, _⇔_}
 use Rattle.truth.proofs.Says.{two-valued}
 use Rattle.asking.proofs.Models.{points-of, evaluated-filled}
@@ -27,7 +28,7 @@ use Rattle.meaning.proofs.Numbers.{decide-numbered, derive-numbered, check-numb
 use Rattle.deciding.specs.declared.Decided.{Decided}
 use Rattle.deciding.specs.declared.Decided.the-variants.{Possible, Impossible, Refused}
 use Rattle.deciding.specs.Decides.{can, cannot, wordOf, decidedOf, Decides}
-use Rattle.rules.specs.Derive.{derive, check}
+use Rattle.rules.specs.Derive.{derive}
 use Rattle.deriving.specs.declared.Derived.{Derived}
 use Rattle.deriving.specs.declared.Derived.the-variants.{Steps, Refused as NotDerived}
 use Rattle.deriving.specs.Derives.{derivedOf, Derives}
@@ -42,9 +43,6 @@ use Rattle.cnf.specs.Reader.{Means, Turns}
 use Rattle.cnfread.specs.Reads.{Reads}
 use Rattle.bevaridhom.specs.Answers.{decideAnswer, HostDecides, deriveAnswer, HostDerives, checkAnswer, HostChecks, markAnswer, Unmet, HostReads}
 
-same-number : {A : Type 0} {m n p q : ℕ} → _≡_ {A = Outcome A} (refused m p) (refused n q) → m ≡ n
-same-number e = cc
-
 -- a refusal of what is made of an answer is the answer's
 of-refused : {A B : Type 0} (x : Outcome A) (f : A → B) {number place : ℕ} → refused number place ≡ (x >>= λ a. answer (f a)) → x ≡ refused number place
 of-refused (answer a) f e = refused-no e
@@ -52,36 +50,36 @@ of-refused (refused m p) f e = cc
 
 -- ---- decide
 
-module _ (t : List ℕ) (goal : ℕ) (s w s′ w′ : List ℕ) where
+module _ (t goals s w s′ w′ : List ℕ) where
   -- of the definition, a refusal is one of the answer
-  decide-refused : (f : Refusal) → Decides t goal s w s′ w′ (Refused f) → decide t goal s w ≡ refused (f .number) (f .place)
-  decide-refused f h = of-refused (decide t goal s w) (λ d. wordOf (d .verdict)) (h .answered)
+  decide-refused : (f : Refusal) → Decides t goals s w s′ w′ (Refused f) → decide t goals s w ≡ refused (f .number) (f .place)
+  decide-refused f h = of-refused (decide t goals s w) (λ d. wordOf (d .verdict)) (h .answered)
 
-  decide-kept : (d : Decided) → Decides t goal s w s′ w′ d → (number place : ℕ) → decide t goal s w ≡ refused number place → w′ ≡ w
+  decide-kept : (d : Decided) → Decides t goals s w s′ w′ d → (number place : ℕ) → decide t goals s w ≡ refused number place → w′ ≡ w
   decide-kept Possible h number place e = refused-no (sym (h .answered ∙ ap (_>>= λ d. answer (wordOf (d .verdict))) e))
   decide-kept Impossible h number place e = refused-no (sym (h .answered ∙ ap (_>>= λ d. answer (wordOf (d .verdict))) e))
   decide-kept (Refused f) h number place e = h .work f refl
 
-  exact-by : (d : Decided) → Decides t goal s w s′ w′ d → decideAnswer (decidedOf d) .number ≡ 0 → (decideAnswer (decidedOf d) .possible ≡ 0) ⇔ Unsatisfiable t goal
+  exact-by : (d : Decided) → Decides t goals s w s′ w′ d → decideAnswer (decidedOf d) .number ≡ 0 → (decideAnswer (decidedOf d) .possible ≡ 0) ⇔ Unsatisfiable t goals
   exact-by Possible h z =
       (λ e. absurd (omega arith), λ none. absurd (let q : can ≡ cannot = h .exact can refl .1 none in let y : _≡_ {A = ℕ} 0 1 = cc in omega arith))
   exact-by Impossible h z = (λ e. h .exact cannot refl .0 refl, λ none. refl)
-  exact-by (Refused f) h z = absurd (omega (arith, decide-numbered t goal s w .positive (f .number) (f .place) (decide-refused f h)))
+  exact-by (Refused f) h z = absurd (omega (arith, decide-numbered t goals s w .positive (f .number) (f .place) (decide-refused f h)))
 
-  satisfied-by : (d : Decided) → Decides t goal s w s′ w′ d → decideAnswer (decidedOf d) .possible ≡ 1 → evaluate t goal s′ ≡ answer Yes
+  satisfied-by : (d : Decided) → Decides t goals s w s′ w′ d → decideAnswer (decidedOf d) .possible ≡ 1 → All (λ g. evaluate t g s′ ≡ answer Yes) goals
   satisfied-by Possible h e = h .satisfied refl
   satisfied-by Impossible h e = absurd (omega arith)
   satisfied-by (Refused f) h e = absurd (omega arith)
 
-  filled-by : (d : Decided) → Decides t goal s w s′ w′ d → decideAnswer (decidedOf d) .possible ≡ 1
-      → (rs : List Node) → decode t ≡ answer rs → (f : List ℕ) → Fills s′ f → truth f rs goal ≡ true
+  filled-by : (d : Decided) → Decides t goals s w s′ w′ d → decideAnswer (decidedOf d) .possible ≡ 1
+      → (rs : List Node) → decode t ≡ answer rs → (f : List ℕ) → Fills s′ f → All (λ g. truth f rs g ≡ true) goals
   filled-by Possible h e = h .filled refl
   filled-by Impossible h e = absurd (omega arith)
   filled-by (Refused f) h e = absurd (omega arith)
 
-  pub told : (d : Decided) {d′ : Decided} → Decides t goal s w s′ w′ d → d ≡ d′ → HostDecides t goal s w s′ w′ (decideAnswer (decidedOf d′))
+  pub told : (d : Decided) {d′ : Decided} → Decides t goals s w s′ w′ d → d ≡ d′ → HostDecides t goals s w s′ w′ (decideAnswer (decidedOf d′))
   told d {d′} k e =
-      let h : Decides t goal s w s′ w′ d′ = rw e at k in
+      let h : Decides t goals s w s′ w′ d′ = rw e at k in
       record {
         answered = ap decideAnswer (h .answered);
         settings = h .settings;
@@ -93,27 +91,21 @@ module _ (t : List ℕ) (goal : ℕ) (s w s′ w′ : List ℕ) where
 
 -- ---- derive
 
-module _ (t : List ℕ) (goal : ℕ) (w d w′ d′ : List ℕ) where
-  derive-kept : (r : Derived) → Derives t goal w d w′ d′ r → (number place : ℕ) → derive t goal w d ≡ refused number place → number ≤ 23 → w′ ≡ w
-  derive-kept (Steps k) h number place e n = refused-no (sym (h .answered ∙ ap (_>>= λ x. answer (x .steps)) e))
-  derive-kept (NotDerived f) h number place e n =
-      let q : _≡_ {A = Outcome ℕ} (refused (f .number) (f .place)) (refused number place) = h .answered ∙ ap (_>>= λ x. answer (x .steps)) e in
-      h .work f refl (rw (same-number q) n)
-
+module _ (t goals w d w′ d′ : List ℕ) where
   -- number 0 is that of a step count
-  by-steps : {P : ℕ → Type 0} (r : Derived) → Derives t goal w d w′ d′ r → ((k : ℕ) → r ≡ Steps k → P k)
+  by-steps : {P : ℕ → Type 0} (r : Derived) → Derives t goals w d w′ d′ r → ((k : ℕ) → r ≡ Steps k → P k)
       → deriveAnswer (derivedOf r) .number ≡ 0 → P (deriveAnswer (derivedOf r) .steps)
   by-steps (Steps k) h p e = p k refl
   by-steps (NotDerived f) h p e =
-      absurd (omega (arith, derive-numbered t goal w d .positive (f .number) (f .place) (of-refused (derive t goal w d) (λ x. x .steps) (h .answered))))
+      absurd (omega (arith, derive-numbered t goals w d .positive (f .number) (f .place) (of-refused (derive t goals w d) (λ x. x .steps) (h .answered))))
 
-  pub told-derive : (r : Derived) {r′ : Derived} → Derives t goal w d w′ d′ r → r ≡ r′ → HostDerives t goal w d w′ d′ (deriveAnswer (derivedOf r′))
+  pub told-derive : (r : Derived) {r′ : Derived} → Derives t goals w d w′ d′ r → r ≡ r′ → HostDerives t goals w d w′ d′ (deriveAnswer (derivedOf r′))
   told-derive r {r′} k e =
-      let h : Derives t goal w d w′ d′ r′ = rw e at k in
+      let h : Derives t goals w d w′ d′ r′ = rw e at k in
       record {
         answered = ap deriveAnswer (h .answered);
         bytes = h .bytes;
-        work = derive-kept r′ h;
+        work = h .work;
         never = by-steps r′ h (h .never);
         accepted = by-steps r′ h (h .accepted);
         published = by-steps r′ h (h .published);
@@ -121,22 +113,18 @@ module _ (t : List ℕ) (goal : ℕ) (w d w′ d′ : List ℕ) where
 
 -- ---- check
 
-module _ (t : List ℕ) (goal : ℕ) (w d w′ : List ℕ) where
-  check-kept : (r : Checked) → Checks t goal w d w′ r → (number place : ℕ) → check t goal w d ≡ refused number place → number < 45 → w′ ≡ w
-  check-kept Accepted h number place e n = refused-no (sym (h .answered ∙ e))
-  check-kept (NotAccepted f) h number place e n = h .work f refl (rw (same-number (h .answered ∙ e)) n)
-
+module _ (t goals w d w′ : List ℕ) where
   -- number 0 is that of an accepted derivation
-  by-accepted : (r : Checked) → Checks t goal w d w′ r → checkAnswer (checkedOf r) .number ≡ 0 → r ≡ Accepted
+  by-accepted : (r : Checked) → Checks t goals w d w′ r → checkAnswer (checkedOf r) .number ≡ 0 → r ≡ Accepted
   by-accepted Accepted h e = refl
-  by-accepted (NotAccepted f) h e = absurd (omega (arith, check-numbered t goal w d .positive (f .number) (f .place) (sym (h .answered))))
+  by-accepted (NotAccepted f) h e = absurd (omega (arith, check-numbered t goals w d .positive (f .number) (f .place) (sym (h .answered))))
 
-  pub told-check : (r : Checked) {r′ : Checked} → Checks t goal w d w′ r → r ≡ r′ → HostChecks t goal w d w′ (checkAnswer (checkedOf r′))
+  pub told-check : (r : Checked) {r′ : Checked} → Checks t goals w d w′ r → r ≡ r′ → HostChecks t goals w d w′ (checkAnswer (checkedOf r′))
   told-check r {r′} k e =
-      let h : Checks t goal w d w′ r′ = rw e at k in
+      let h : Checks t goals w d w′ r′ = rw e at k in
       record {
         answered = ap checkAnswer (h .answered);
-        work = check-kept r′ h;
+        work = h .work;
         never = λ z. h .never (by-accepted r′ h z);
         published = λ z. h .published (by-accepted r′ h z);
         ours = λ rs a q l s. ap (λ (y : Checked). checkAnswer (checkedOf y) .number) (h .ours rs a q l s);
@@ -146,15 +134,15 @@ module _ (t : List ℕ) (goal : ℕ) (w d w′ : List ℕ) where
 
 -- a table whose goal means the file: no setting makes the one true exactly when none makes the other
 module _ (f : File) (goal used : ℕ) (after : List ℕ) (all : Bytes (take used after)) (m : Means f goal used after) where
-  unmet : Unsatisfiable (take used after) goal ⇔ Unmet f
+  unmet : Unsatisfiable (take used after) (goal ∷ []) ⇔ Unmet f
   unfolding evaluate
   unmet = (
     λ none v two test e.
         let sure-of = two-valued v (m .nodes) goal two (points-of (take used after) (m .nodes) all (m .readable)) in
-        none v (two, rw (m .readable, lt-ltb goal (2 * length (m .nodes)) (m .inside), test) (ap answer (sure-of ∙ ap sure (m .truths v ∙ e)))),
+        none v (two, (rw (m .readable, lt-ltb goal (2 * length (m .nodes)) (m .inside), test) (ap answer (sure-of ∙ ap sure (m .truths v ∙ e))), tt)),
     λ none v e.
-        let a = then-next (require (ltb goal (2 * length (m .nodes))) 20 0) _ (rw (m .readable) at (e .1)) in
-        let q = evaluated-filled (take used after) (m .nodes) all (m .readable) goal v true (e .1) v (λ p h k. refl) in
+        let a = then-next (require (ltb goal (2 * length (m .nodes))) 20 0) _ (rw (m .readable) at (e .1 .0)) in
+        let q = evaluated-filled (take used after) (m .nodes) all (m .readable) goal v true (e .1 .0) v (λ p h k. refl) in
         none v (e .0) (then-first (settingsTest v) _ a) (sym (m .truths v) ∙ q),
   )
 
@@ -185,7 +173,7 @@ module _ (text buf after : List ℕ) (all : Bytes after) where
         exact = λ z f q s w d y.
             let b = means-by v′ h z in
             let u = unmet (b .0) (a .literal) (a .used) after (bytes-take (a .used) after all) (b .2) in
-            let x = decide-exact (take (a .used) after) (a .literal) s w (bytes-take (a .used) after all) y in
+            let x = decide-exact (take (a .used) after) (a .literal ∷ []) s w (bytes-take (a .used) after all) y in
             let g : b .0 ≡ f = same-file text (b .0) f (b .1) q in
             rw (← g) (λ c. u .0 (x .0 c), λ none. x .1 (u .1 none));
       }

@@ -2,19 +2,20 @@
 use mathlib.Core.Path.{_≡_}
 use mathlib.Core.Bool.{true}
 use mathlib.Core.List.{List, [], _∷_}
-use Prim.Native.Nat.{ℕ, _≤_, _<_}
+use Prim.Native.Nat.{ℕ, _≤_}
 use lib.ListN.{length, take}
 use Rattle.scope.specs.declared.Node.{Node}
 use Rattle.scope.specs.declared.Truth.{Truth}
 use Rattle.scope.specs.declared.Truth.the-variants.{Yes, No, Unknown}
-use Rattle.scope.specs.Outcome.{Outcome, answer, refused, fine, _>>=_}
+use Rattle.scope.specs.Outcome.{Outcome, answer, refused, fine, _>>_, _>>=_}
 use Rattle.scope.specs.Table.{decode}
 use Rattle.scope.specs.Truth.{truth}
 use Rattle.scope.specs.Kleene.{NoTwo, Fills}
 use Rattle.scope.specs.Calls.{Added, settingsTest, evaluate}
 use Rattle.calculus.specs.Order.{impossible, answerOf}
+use Rattle.calculus.specs.Model.{All}
 use Rattle.calculus.specs.Decide.{searchOf, Decided, asked, decide, settingsAfter, Unsatisfiable, _⇔_}
-use Rattle.rules.specs.Steps.{encodeSteps}
+use Rattle.rules.specs.Steps.{encodeSteps, decodeSteps}
 use Rattle.rules.specs.Derive.{derivationOf, blocks, derive, derivedAfter, check}
 use Rattle.published.specs.Bytes.{PublishedBytes}
 use Rattle.deciding.specs.Decides.{Word, can, cannot, nothing, wordOf}
@@ -70,29 +71,29 @@ decideAnswer (answer x) = record { number = 0; place = 0; possible = wordBit x }
 decideAnswer (refused n p) = record { number = n; place = p; possible = 0 }
 
 -- decide for a host: its answer, the settings bytes, a work area that a refusal leaves as it was, and what the answer means: possible 0
--- exactly when no setting makes the goal true, and with 1 bev_evaluate of the settings answers yes, and the goal is true for every way of
--- filling their 2s
-pub record HostDecides (t : List ℕ) (goal : ℕ) (s w s′ w′ : List ℕ) (r : BevDecided) : Type 0 where
-  pub answered : r ≡ decideAnswer (decide t goal s w >>= λ d. answer (wordOf (d .verdict)))
-  pub settings : s′ ≡ settingsAfter s (decide t goal s w)
-  pub work : (number place : ℕ) → decide t goal s w ≡ refused number place → w′ ≡ w
-  pub exact : r .number ≡ 0 → (r .possible ≡ 0) ⇔ Unsatisfiable t goal
-  pub satisfied : r .possible ≡ 1 → evaluate t goal s′ ≡ answer Yes
-  pub filled : r .possible ≡ 1 → (rs : List Node) → decode t ≡ answer rs → (f : List ℕ) → Fills s′ f → truth f rs goal ≡ true
+-- exactly when no setting makes all goals true, and with 1 bev_evaluate of the settings answers yes of each goal, and all goals are true
+-- for every way of filling their 2s
+pub record HostDecides (t goals s w s′ w′ : List ℕ) (r : BevDecided) : Type 0 where
+  pub answered : r ≡ decideAnswer (decide t goals s w >>= λ d. answer (wordOf (d .verdict)))
+  pub settings : s′ ≡ settingsAfter s (decide t goals s w)
+  pub work : (number place : ℕ) → decide t goals s w ≡ refused number place → w′ ≡ w
+  pub exact : r .number ≡ 0 → (r .possible ≡ 0) ⇔ Unsatisfiable t goals
+  pub satisfied : r .possible ≡ 1 → All (λ g. evaluate t g s′ ≡ answer Yes) goals
+  pub filled : r .possible ≡ 1 → (rs : List Node) → decode t ≡ answer rs → (f : List ℕ) → Fills s′ f → All (λ g. truth f rs g ≡ true) goals
 
 abbrev pub deriveAnswer : Outcome ℕ → BevDerived
 deriveAnswer (answer n) = record { number = 0; place = 0; steps = n }
 deriveAnswer (refused n p) = record { number = n; place = p; steps = 0 }
 
--- derive for a host: its step count, the derivation bytes, a work area that a refusal up to row 23 leaves as it was, and what the
--- derivation means: no setting makes the goal true, bev_check accepts it, and it is one by the published rules
-pub record HostDerives (t : List ℕ) (goal : ℕ) (w d w′ d′ : List ℕ) (r : BevDerived) : Type 0 where
-  pub answered : r ≡ deriveAnswer (derive t goal w d >>= λ x. answer (x .steps))
-  pub bytes : d′ ≡ derivedAfter d (derive t goal w d)
-  pub work : (number place : ℕ) → derive t goal w d ≡ refused number place → number ≤ 23 → w′ ≡ w
-  pub never : r .number ≡ 0 → Unsatisfiable t goal
-  pub accepted : r .number ≡ 0 → check t goal w (blocks (r .steps) d′) ≡ fine
-  pub published : r .number ≡ 0 → PublishedBytes t goal (blocks (r .steps) d′)
+-- derive for a host: its step count, the derivation bytes, a work area that a refusal by the rows 10 to 17, 62, 20 and 23 leaves as it
+-- was, and what the derivation means: no setting makes all goals true, bev_check accepts it, and it is one by the published rules
+pub record HostDerives (t goals w d w′ d′ : List ℕ) (r : BevDerived) : Type 0 where
+  pub answered : r ≡ deriveAnswer (derive t goals w d >>= λ x. answer (x .steps))
+  pub bytes : d′ ≡ derivedAfter d (derive t goals w d)
+  pub work : (number place : ℕ) → asked t goals 0 0 (length w) ≡ refused number place → w′ ≡ w
+  pub never : r .number ≡ 0 → Unsatisfiable t goals
+  pub accepted : r .number ≡ 0 → check t goals w (blocks (r .steps) d′) ≡ fine
+  pub published : r .number ≡ 0 → PublishedBytes t goals (blocks (r .steps) d′)
 
 -- 0 is 'accepted'
 abbrev pub checkAnswer : Outcome (Unit {0}) → BevChecked
@@ -100,14 +101,14 @@ checkAnswer (answer u) = record { number = 0; place = 0 }
 checkAnswer (refused n p) = record { number = n; place = p }
 
 -- check for a host: its answer, a work area that a refusal before the first step leaves as it was, and what number 0 means: no setting
--- makes the goal true, and the steps are those of a derivation by the published rules; the solver's own derivation has it
-pub record HostChecks (t : List ℕ) (goal : ℕ) (w d w′ : List ℕ) (r : BevChecked) : Type 0 where
-  pub answered : r ≡ checkAnswer (check t goal w d)
-  pub work : (number place : ℕ) → check t goal w d ≡ refused number place → number < 45 → w′ ≡ w
-  pub never : r .number ≡ 0 → Unsatisfiable t goal
-  pub published : r .number ≡ 0 → PublishedBytes t goal d
-  pub ours : (rs : List Node) → asked t (goal ∷ []) 0 0 (length w) ≡ answer rs → answerOf (searchOf rs (goal ∷ [])) ≡ impossible
-      → length (encodeSteps (derivationOf rs (goal ∷ []))) ≤ 33554432 → d ≡ encodeSteps (derivationOf rs (goal ∷ [])) → r .number ≡ 0
+-- makes all goals true, and the steps are those of a derivation by the published rules; the solver's own derivation has it
+pub record HostChecks (t goals w d w′ : List ℕ) (r : BevChecked) : Type 0 where
+  pub answered : r ≡ checkAnswer (check t goals w d)
+  pub work : (number place : ℕ) → (asked t goals 0 0 (length w) >> decodeSteps d) ≡ refused number place → w′ ≡ w
+  pub never : r .number ≡ 0 → Unsatisfiable t goals
+  pub published : r .number ≡ 0 → PublishedBytes t goals d
+  pub ours : (rs : List Node) → asked t goals 0 0 (length w) ≡ answer rs → answerOf (searchOf rs goals) ≡ impossible
+      → length (encodeSteps (derivationOf rs goals)) ≤ 33554432 → d ≡ encodeSteps (derivationOf rs goals) → r .number ≡ 0
 
 abbrev pub openAnswer : Outcome ℕ → BevOpened
 openAnswer (answer n) = record { number = 0; place = 0; steps = n }
@@ -131,5 +132,5 @@ pub record HostReads (text buf : List ℕ) (r : BevAdded) (after : List ℕ) : T
   pub bytes : (x : Added) → dimacs text buf ≡ answer x → after ≡ x .bytes
   pub kept : (number place : ℕ) → fileOf text ≡ refused number place → after ≡ buf
   pub means : r .number ≡ 0 → (f : File) × (fileOf text ≡ answer f) × Means f (r .literal) (r .used) after
-  pub exact : r .number ≡ 0 → (f : File) → fileOf text ≡ answer f → (s w : List ℕ) (d : Decided) → decide (take (r .used) after) (r .literal) s w ≡ answer d
+  pub exact : r .number ≡ 0 → (f : File) → fileOf text ≡ answer f → (s w : List ℕ) (d : Decided) → decide (take (r .used) after) (r .literal ∷ []) s w ≡ answer d
       → (d .verdict ≡ impossible) ⇔ Unmet f

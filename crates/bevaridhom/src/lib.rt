@@ -152,12 +152,12 @@ pub struct BevDecided {
     pub possible: u8,
 }
 
-// Whether some setting makes the goal true, 1 possible and 0 impossible; if so, the settings become such a one.
+// Whether one setting makes all goals true, 1 possible and 0 impossible; if so, the settings become such a one.
 #[no_mangle]
-pub extern "C" fn bev_decide(t: &[u8], goal: usize, s: &mut [u8], w: &mut [u16]) -> BevDecided
-    ensures { λ r. ⌜ HostDecides (now (t .entry)) goal (now (s .entry)) (now (w .entry)) (now (s .exit)) (now (w .exit)) r ⌝ }
+pub extern "C" fn bev_decide(t: &[u8], goals: &[u16], s: &mut [u8], w: &mut [u16]) -> BevDecided
+    ensures { λ r. ⌜ HostDecides (now (t .entry)) (now (goals .entry)) (now (s .entry)) (now (w .entry)) (now (s .exit)) (now (w .exit)) r ⌝ }
 {
-    let c = deciding::decide(t, goal, s, w);
+    let c = deciding::decide(t, goals, s, w);
     match c {
         Decided::Possible => BevDecided {
             number: 0,
@@ -184,12 +184,12 @@ pub struct BevDerived {
     pub steps: usize,
 }
 
-// Writes the derivation of an impossible goal and answers its step count.
+// Writes the derivation of goals that are impossible together and answers its step count.
 #[no_mangle]
-pub extern "C" fn bev_derive(t: &[u8], goal: usize, w: &mut [u16], d: &mut [u8]) -> BevDerived
-    ensures { λ r. ⌜ HostDerives (now (t .entry)) goal (now (w .entry)) (now (d .entry)) (now (w .exit)) (now (d .exit)) r ⌝ }
+pub extern "C" fn bev_derive(t: &[u8], goals: &[u16], w: &mut [u16], d: &mut [u8]) -> BevDerived
+    ensures { λ r. ⌜ HostDerives (now (t .entry)) (now (goals .entry)) (now (w .entry)) (now (d .entry)) (now (w .exit)) (now (d .exit)) r ⌝ }
 {
-    let c = deriving::derive(t, goal, w, d);
+    let c = deriving::derive(t, goals, w, d);
     match c {
         Derived::Steps(steps) => BevDerived {
             number: 0,
@@ -210,12 +210,12 @@ pub struct BevChecked {
     pub place: usize,
 }
 
-// Whether a derivation shows that the goal is impossible: number 0 accepted.
+// Whether a derivation shows that the goals are impossible together: number 0 accepted.
 #[no_mangle]
-pub extern "C" fn bev_check(t: &[u8], goal: usize, w: &mut [u16], d: &[u8]) -> BevChecked
-    ensures { λ r. ⌜ HostChecks (now (t .entry)) goal (now (w .entry)) (now (d .entry)) (now (w .exit)) r ⌝ }
+pub extern "C" fn bev_check(t: &[u8], goals: &[u16], w: &mut [u16], d: &[u8]) -> BevChecked
+    ensures { λ r. ⌜ HostChecks (now (t .entry)) (now (goals .entry)) (now (w .entry)) (now (d .entry)) (now (w .exit)) r ⌝ }
 {
-    let c = checking::check(t, goal, w, d);
+    let c = checking::check(t, goals, w, d);
     match c {
         Checked::Accepted => BevChecked {
             number: 0,

@@ -1,34 +1,50 @@
 -- Laws of `asked`: when the rows before a search refuse nothing, and what is then known. Assumes nothing.
 use mathlib.Core.Path.{_≡_, ap, _∙_}
 use mathlib.Core.List.{List}
-use Prim.Native.Nat.{ℕ, _*_, _<_}
+use mathlib.Core.Bool.{true, _&&_}
+use Prim.Native.Nat.{ℕ, _*_, _<_, _≤_}
 use native.Mathlib.Omega.{arith}
-use lib.Dec.{leb}
+use lib.Dec.{leb, ltb}
 use lib.ListN.{length, getD}
 use borrow.Author.Tests.{lt-ltb, le-leb, ltb-true, leb-true}
 use Rattle.scope.specs.declared.Node.{Node}
-use Rattle.scope.specs.Outcome.{answer, fine, require, _>>_}
+use Rattle.scope.specs.Outcome.{answer, fine, require, first, _>>_}
 use Rattle.scope.specs.Table.{decode}
-use Rattle.scope.proofs.Tests.{met, required, then-first, then-next, bound}
+use Rattle.scope.proofs.Tests.{and-left, and-right, and-both, met, required, then-first, then-next, bound}
 use Rattle.scope.proofs.First.{all-fine, fine-each}
-use Rattle.calculus.specs.Decide.{goalRow, goalsTest, rowsTest, Admitted, asked}
+use Rattle.calculus.specs.Model.{mostGoals}
+use Rattle.calculus.specs.Decide.{listRow, goalRow, goalsTest, rowsTest, Admitted, asked}
 use Rattle.calculus.proofs.Lists.{all-at, all-index}
+
+-- row 62: a list that is not empty and not too long
+module _ (goals : List ℕ) where
+  list-fine : 0 < length goals → length goals ≤ mostGoals → listRow goals ≡ fine
+  list-fine some most = met _ 62 0 (and-both _ _ (lt-ltb 0 (length goals) some) (le-leb (length goals) mostGoals most))
+
+  list-met : listRow goals ≡ fine → (0 < length goals) × (length goals ≤ mostGoals)
+  list-met e =
+      let ok : (ltb 0 (length goals) && leb (length goals) mostGoals) ≡ true = required _ 62 0 e in
+      (ltb-true 0 (length goals) (and-left (ltb 0 (length goals)) _ ok), leb-true (length goals) mostGoals (and-right (ltb 0 (length goals)) _ ok))
 
 module _ (nodes : ℕ) (goals : List ℕ) (needed points area : ℕ) where
   pub rows-fine : Admitted nodes goals needed points area → rowsTest nodes goals needed points area ≡ fine
   unfolding rowsTest
   rows-fine r =
-      let g : goalsTest nodes goals ≡ fine =
+      let g : first (goalRow nodes goals) 0 (length goals) ≡ fine =
       all-fine (goalRow nodes goals) (length goals) 0 (λ k a h.
       met _ 20 k (lt-ltb (getD goals k 0) (2 * nodes) (all-at (λ l. l < 2 * nodes) goals k 0 (r .below) (omega arith)))) in
-      rw (g, le-leb needed points (r .settings), le-leb 32768 area (r .work))
+      rw (list-fine goals (r .some) (r .most), g, le-leb needed points (r .settings), le-leb 32768 area (r .work))
 
   pub rows-met : rowsTest nodes goals needed points area ≡ fine → Admitted nodes goals needed points area
   unfolding rowsTest
   rows-met e =
-      let g = then-first (goalsTest nodes goals) _ e in
+      let t = then-first (goalsTest nodes goals) _ e in
+      let l = list-met goals (then-first (listRow goals) _ t) in
+      let g = then-next (listRow goals) _ t in
       let r = then-next (goalsTest nodes goals) _ e in
       record {
+        some = l .0;
+        most = l .1;
         below = all-index (λ l. l < 2 * nodes) goals 0
             (λ k h. ltb-true (getD goals k 0) (2 * nodes) (required _ 20 k (fine-each (goalRow nodes goals) (length goals) 0 g k (omega arith) (omega arith))));
         settings = leb-true needed points (required _ 21 0 (then-first (require (leb needed points) 21 0) _ r));

@@ -1,8 +1,9 @@
--- 01, 'The solver's order' and 'Where each call says no': what decide, derive and check ask of a table and a list of goals, and decide.
+-- 01, 'The solver's order', 'Where each call says no' and 'Several goals together': what decide, derive and check ask of a table and a list of goals, and decide.
 -- Assumes nothing.
 use mathlib.Core.Path.{_≡_}
-use mathlib.Core.List.{List, [], _∷_, _++_}
-use Prim.Native.Nat.{ℕ, _*_, _≤_}
+use mathlib.Core.List.{List, [], _++_}
+use mathlib.Core.Bool.{_&&_}
+use Prim.Native.Nat.{ℕ, _*_, _<_, _≤_}
 use lib.Dec.{leb, ltb}
 use lib.ListN.{length, getD, drop}
 use Rattle.scope.specs.declared.Node.{Node}
@@ -13,7 +14,7 @@ use Rattle.scope.specs.Kleene.{NoTwo}
 use Rattle.scope.specs.Calls.{noNode, evaluate}
 use Rattle.calculus.specs.Expansion.{expand}
 use Rattle.calculus.specs.Order.{Tree, tree, Answer, possible, impossible, unfinished, answerOf, settingOf}
-use Rattle.calculus.specs.Model.{Below}
+use Rattle.calculus.specs.Model.{All, mostGoals, Below}
 
 -- the nodes of a table as a function
 abbrev pub nodesOf : List Node → ℕ → Node
@@ -34,14 +35,19 @@ pub record Decided : Type 0 where
   pub verdict : Answer
   pub settings : List ℕ
 
--- 20: 'not below 2 × nodes', of the goal at an index; and of each goal in turn
+-- 62: 'list empty or over 64'
+abbrev pub listRow : List ℕ → Outcome (Unit {0})
+listRow goals = require (ltb 0 (length goals) && leb (length goals) mostGoals) 62 0
+
+-- 20: 'not below 2 × nodes', of the goal at an index, which is the place
 abbrev pub goalRow : ℕ → List ℕ → ℕ → Outcome (Unit {0})
 goalRow nodes goals i = require (ltb (getD goals i 0) (2 * nodes)) 20 i
 
+-- 62 'just before 20', of each goal in turn
 abbrev pub goalsTest : ℕ → List ℕ → Outcome (Unit {0})
-goalsTest nodes goals = first (goalRow nodes goals) 0 (length goals)
+goalsTest nodes goals = listRow goals >> first (goalRow nodes goals) 0 (length goals)
 
--- 20; 21: 'under 1,024 bytes', where a call needs so many; 23: 'under 32,768 16-bit numbers'
+-- 62, 20; 21: 'under 1,024 bytes', where a call needs so many; 23: 'under 32,768 16-bit numbers'
 unfoldable pub rowsTest : ℕ → List ℕ → ℕ → ℕ → ℕ → Outcome (Unit {0})
 rowsTest nodes goals needed points area =
     goalsTest nodes goals
@@ -50,6 +56,8 @@ rowsTest nodes goals needed points area =
 
 -- none of these refuses
 pub record Admitted (nodes : ℕ) (goals : List ℕ) (needed points area : ℕ) : Type 0 where
+  pub some : 0 < length goals
+  pub most : length goals ≤ mostGoals
   pub below : Below nodes goals
   pub settings : needed ≤ points
   pub work : 32768 ≤ area
@@ -62,24 +70,25 @@ asked t goals needed points area = decode t >>= λ rs. rowsTest (length rs) goal
 abbrev pub decided : List Node → List ℕ → List ℕ → Decided
 decided rs goals s = record { verdict = answerOf (searchOf rs goals); settings = settingsOn rs s (answerOf (searchOf rs goals)) }
 
--- rows 10 to 17, 20, 21, 23
-unfoldable pub decide : List ℕ → ℕ → List ℕ → List ℕ → Outcome Decided
-decide t goal s work =
-    asked t (goal ∷ []) 1024 (length s) (length work)
-    >>= λ rs. answer (decided rs (goal ∷ []) s)
+-- rows 10 to 17, 62, 20, 21, 23
+unfoldable pub decide : List ℕ → List ℕ → List ℕ → List ℕ → Outcome Decided
+decide t goals s work =
+    asked t goals 1024 (length s) (length work)
+    >>= λ rs. answer (decided rs goals s)
 
 -- the settings bytes after a call: a refusal changes none
 abbrev pub settingsAfter : List ℕ → Outcome Decided → List ℕ
 settingsAfter s (answer d) = d .settings
 settingsAfter s (refused number place) = s
 
--- 'A setting makes a goal true when the goal's truth under it is true': one of 0 and 1 for the 1,024 points, for which evaluate says yes
-abbrev pub Satisfies : List ℕ → ℕ → List ℕ → Type 0
-Satisfies t goal v = NoTwo v × (evaluate t goal v ≡ answer Yes)
+-- 'A setting makes a goal true when the goal's truth under it is true': one of 0 and 1 for the 1,024 points, for which evaluate says yes;
+-- 'one setting makes all the goals true'
+abbrev pub Satisfies : List ℕ → List ℕ → List ℕ → Type 0
+Satisfies t goals v = NoTwo v × All (λ g. evaluate t g v ≡ answer Yes) goals
 
 -- no setting does
-abbrev pub Unsatisfiable : List ℕ → ℕ → Type 0
-Unsatisfiable t goal = (v : List ℕ) → Satisfies t goal v → ⊥
+abbrev pub Unsatisfiable : List ℕ → List ℕ → Type 0
+Unsatisfiable t goals = (v : List ℕ) → Satisfies t goals v → ⊥
 
 -- two statements that imply each other
 infixl 1 _⇔_

@@ -52,9 +52,13 @@ HeldAtoms t G v = (l : ℕ) → mem l G ≡ true → t (l / 2) .kind ≡ 2 → l
 abbrev pub Below : ℕ → List ℕ → Type 0
 Below n ls = All (λ l. l < 2 * n) ls
 
--- at most 64 goals, literals of n nodes
+-- 'a list of 1 to 64 goal literals'
+abbrev pub mostGoals : ℕ
+mostGoals = 64
+
+-- not too many goals, literals of n nodes
 pub record Goals (n : ℕ) (goals : List ℕ) : Type 0 where
-  pub most : length goals ≤ 64
+  pub most : length goals ≤ mostGoals
   pub below : Below n goals
 
 -- a literal of n nodes that may join G

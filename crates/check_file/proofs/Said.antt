@@ -10,9 +10,9 @@ use Rattle.checking.specs.declared.Checked.{Checked}
 use Rattle.checking.specs.Checks.{checkedOf, Checks}
 use Rattle.check_file.specs.Said.{saidOf}
 
-pub said : (t : List ℕ) (goal : ℕ) (w d w′ : List ℕ) (r : Checked) → 32768 ≤ length w → Checks t goal w d w′ r
-    → (other : List ℕ) → 32768 ≤ length other → {s : Checked} → r ≡ s → saidOf (checkedOf s) ≡ saidOf (check t goal other d)
+pub said : (t goals w d w′ : List ℕ) (r : Checked) → 32768 ≤ length w → Checks t goals w d w′ r
+    → (other : List ℕ) → 32768 ≤ length other → {s : Checked} → r ≡ s → saidOf (checkedOf s) ≡ saidOf (check t goals other d)
 unfolding check asked rowsTest
-said t goal w d w′ r area c other area′ e =
-    let same : check t goal w d ≡ check t goal other d = rw (le-leb 32768 (length w) area, le-leb 32768 (length other) area′) in
+said t goals w d w′ r area c other area′ e =
+    let same : check t goals w d ≡ check t goals other d = rw (le-leb 32768 (length w) area, le-leb 32768 (length other) area′) in
     ap saidOf (ap checkedOf (sym e) ∙ c .answered ∙ same)

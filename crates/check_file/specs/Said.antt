@@ -12,5 +12,5 @@ saidOf (answer u) = ascii "accepted\n"
 saidOf (refused number place) = refusedLine number place
 
 -- what is printed of a derivation, whatever work area of the right size stands behind it
-abbrev pub Verified : List ℕ → ℕ → List ℕ → List ℕ → List ℕ → ℕ → Type 0
-Verified t goal d out out′ end = (w : List ℕ) → 32768 ≤ length w → Put out 0 (saidOf (check t goal w d)) out′ end
+abbrev pub Verified : List ℕ → List ℕ → List ℕ → List ℕ → List ℕ → ℕ → Type 0
+Verified t goals d out out′ end = (w : List ℕ) → 32768 ≤ length w → Put out 0 (saidOf (check t goals w d)) out′ end

@@ -1,12 +1,12 @@
 -- Where check ends: at the first row's refusal, or with what the steps come to. Assumes nothing.
 use mathlib.Core.Path.{_≡_, refl, sym, ap, _∙_}
-use mathlib.Core.List.{List, [], _∷_}
-use Prim.Native.Nat.{ℕ, suc, _+_, _<_, _≤_, min}
+use mathlib.Core.List.{List, []}
+use Prim.Native.Nat.{ℕ, _+_, _<_, _≤_}
 use native.Mathlib.Omega.{arith}
 use lib.ListN.{length}
 use Rattle.scope.specs.declared.Node.{Node}
 use Rattle.scope.specs.declared.Refusal.{Refusal}
-use Rattle.scope.specs.Outcome.{Outcome, answer, refused, fine, _>>=_}
+use Rattle.scope.specs.Outcome.{Outcome, answer, refused, fine, _>>_, _>>=_}
 use Rattle.scope.specs.Table.{listFrom}
 use Rattle.scope.proofs.Tests.{refused-no, bound, passed-on}
 use Rattle.codec.specs.Valid.{Bytes}
@@ -15,13 +15,12 @@ use Rattle.calculus.specs.Decide.{nodesOf, asked}
 use Rattle.index.specs.Index.{indexNode}
 use Rattle.rules.specs.declared.Step.{Step}
 use Rattle.rules.specs.Steps.{stepAt, decodeSteps}
-use Rattle.rules.specs.Rules.{Progress, running, complete, root, apply, advance, ended, run, accepts}
+use Rattle.rules.specs.Rules.{running, root, run, accepts}
 use Rattle.rules.specs.Derive.{checked, check}
 use Rattle.published.proofs.Calls.{check-derives}
 use Rattle.steps.specs.Opened.{placeOf, stepCount}
 use Rattle.steps.proofs.Form.{read-fine, read-steps, read-length, step-within}
 use Rattle.asking.specs.Asks.{Prepared}
-use Rattle.asking.proofs.Answers.{literal-small, asked-same}
 use Rattle.meaning.proofs.Derivations.{check-never, own-accepted}
 use Rattle.checking.specs.Checks.{checkedOf, Replayed, Checks}
 use Rattle.checking.specs.declared.Checked.{Checked}
@@ -30,25 +29,11 @@ use Rattle.checking.proofs.Same.{accepts-same}
 
 -- ---- rows 40 to 47
 
--- a run refuses by rows 45 to 47
-module _ (expand : ℕ → List (List ℕ)) (goals : List ℕ) (nodes : ℕ) where
-  run-number : (ss : List Step) (i : ℕ) (p : Progress) {number place : ℕ} → run expand goals nodes i ss p ≡ refused number place → 45 ≤ number
-  unfolding run ended advance
-  run-number [] i (running b waiting) {number} e = let q : number ≡ 47 = cc in omega arith
-  run-number [] i complete e = refused-no (sym e)
-  run-number (s ∷ ss) i complete {number} e = let q : number ≡ 46 = cc in omega arith
-  run-number (s ∷ ss) i (running b waiting) {number} {place} e = go (apply expand goals nodes s b waiting) refl (λ p m q f. run-number ss (suc i) p f)
-    where
-      go : (o : Outcome Progress) → apply expand goals nodes s b waiting ≡ o
-          → ((p : Progress) (m q : ℕ) → run expand goals nodes (suc i) ss p ≡ refused m q → 45 ≤ m) → 45 ≤ number
-      go (answer p) a r = r p number place (rw a at e)
-      go (refused m q) a r = let z : number ≡ 45 = cc (rw a at e) in omega arith
-
 -- the derivation's form is refused
 pub form-refused : (t : ℕ → Node) (n : ℕ) (goals w d : List ℕ) (f : Refusal) → stepCount d ≡ refused (f .number) (f .place)
     → Replayed t n goals w d w (Refused f)
 unfolding stepCount
-form-refused t n goals w d f e = record { answered = sym (passed-on (decodeSteps d) length _ e); work = λ g q h. refl }
+form-refused t n goals w d f e = record { answered = sym (passed-on (decodeSteps d) length _ e); work = λ number place q. refl }
 
 -- a derivation that was counted
 module _ (d : List ℕ) {count : ℕ} (e : stepCount d ≡ answer count) where
@@ -72,7 +57,7 @@ module _ (d : List ℕ) {count : ℕ} (e : stepCount d ≡ answer count) where
   steps-end {t} {n} {goals} {r = r} z q =
       record {
         answered = q ∙ z ∙ ap (_>>= accepts (expand t) goals n) (sym steps-read);
-        work = λ g s h. absurd (omega (arith, run-number (expand t) goals n (listFrom (stepAt d) 0 count) 0 (running root []) (sym (q ∙ z) ∙ ap checkedOf s)));
+        work = λ number place s. refused-no (sym s ∙ steps-read);
       }
 
 -- ---- the answer, and what it means
@@ -81,38 +66,34 @@ checked-accepted : (r : Checked) → checkedOf r ≡ fine → r ≡ Accepted
 checked-accepted Accepted e = refl
 checked-accepted (Refused f) e = refused-no e
 
-module _ (t : List ℕ) (goal : ℕ) (w d : List ℕ) (all : Bytes t) where
+module _ (t goals w d : List ℕ) (all : Bytes t) where
   -- the answer of the definition has the definition's meaning
-  checks : {w′ : List ℕ} (r : Checked) → checkedOf r ≡ check t goal w d → ((f : Refusal) → r ≡ Refused f → f .number < 45 → w′ ≡ w) → Checks t goal w d w′ r
+  checks : {w′ : List ℕ} (r : Checked) → checkedOf r ≡ check t goals w d
+      → ((number place : ℕ) → (asked t goals 0 0 (length w) >> decodeSteps d) ≡ refused number place → w′ ≡ w) → Checks t goals w d w′ r
   checks r e kept = record {
     answered = e;
     work = kept;
-    never = λ q. check-never t all goal w d (sym e ∙ ap checkedOf q);
-    ours = λ rs a q h s. checked-accepted r (e ∙ ap (check t goal w) s ∙ own-accepted t all goal w rs a q h);
-    published = λ q. check-derives t goal w d (sym e ∙ ap checkedOf q);
+    never = λ q. check-never t all goals w d (sym e ∙ ap checkedOf q);
+    ours = λ rs a q h s. checked-accepted r (e ∙ ap (check t goals w) s ∙ own-accepted t all goals w rs a q h);
+    published = λ q. check-derives t goals w d (sym e ∙ ap checkedOf q);
   }
 
-  module _ {l : ℕ} (e : l ≡ min goal 65535) where
-    refused-by : {number place : ℕ} → asked t (l ∷ []) 0 0 (length w) ≡ refused number place → check t goal w d ≡ refused number place
-    unfolding check
-    refused-by q = rw (← asked-same t all goal l e 0 0 (length w), q)
+  refused-by : {number place : ℕ} → asked t goals 0 0 (length w) ≡ refused number place → check t goals w d ≡ refused number place
+  unfolding check
+  refused-by q = rw q
 
-    pub refuses : (f : Refusal) → asked t (l ∷ []) 0 0 (length w) ≡ refused (f .number) (f .place) → Checks t goal w d w (Refused f)
-    refuses f q = checks (Refused f) (sym (refused-by q)) (λ g z h. refl)
+  pub refuses : (f : Refusal) → asked t goals 0 0 (length w) ≡ refused (f .number) (f .place) → Checks t goals w d w (Refused f)
+  refuses f q = checks (Refused f) (sym (refused-by q)) (λ number place z. refl)
 
-    module _ {x : List ℕ} {n : ℕ} (p : Prepared t (l ∷ []) 0 0 (length w) x n) where
-      same-goal : l ≡ goal
-      same-goal = literal-small n goal l (p .indexed .few) e (p .admitted .below .0)
+  module _ {x : List ℕ} {n : ℕ} (p : Prepared t goals 0 0 (length w) x n) where
+    -- the run over the index is that over the nodes
+    check-in : check t goals w d ≡ (decodeSteps d >>= accepts (expand (indexNode x)) goals n)
+    unfolding check checked
+    check-in = rw (p .answered, p .count) (go (decodeSteps d))
+      where
+        go : (o : Outcome (List Step)) → (o >>= accepts (expand (nodesOf (p .nodes))) goals n) ≡ (o >>= accepts (expand (indexNode x)) goals n)
+        go (answer ss) = sym (accepts-same n (indexNode x) goals (p .indexed .table) (p .admitted .below) (nodesOf (p .nodes)) (p .same) ss)
+        go (refused number place) = refl
 
-      -- the run over the index is that over the nodes
-      check-in : check t goal w d ≡ (decodeSteps d >>= accepts (expand (indexNode x)) (l ∷ []) n)
-      unfolding check checked
-      check-in = rw (← same-goal, p .answered, p .count) (go (decodeSteps d))
-        where
-          go : (o : Outcome (List Step)) → (o >>= accepts (expand (nodesOf (p .nodes))) (l ∷ []) n) ≡ (o >>= accepts (expand (indexNode x)) (l ∷ []) n)
-          go (answer ss) =
-              sym (accepts-same n (indexNode x) (l ∷ []) (p .indexed .table) (p .admitted .below) (nodesOf (p .nodes)) (p .same) ss)
-          go (refused number place) = refl
-
-      pub ends : {w′ : List ℕ} (r : Checked) → Replayed (indexNode x) n (l ∷ []) w d w′ r → Checks t goal w d w′ r
-      ends r h = checks r (h .answered ∙ sym check-in) (h .work)
+    pub ends : {w′ : List ℕ} (r : Checked) → Replayed (indexNode x) n goals w d w′ r → Checks t goals w d w′ r
+    ends r h = checks r (h .answered ∙ sym check-in) (λ number place q. h .work number place (rw (p .answered) at q))

@@ -1,11 +1,10 @@
 -- What check does: the answer of the definition `check`, and what the answer means. Assumes nothing.
 use mathlib.Core.Path.{_≡_}
-use mathlib.Core.List.{List, [], _∷_}
-use Prim.Native.Nat.{ℕ, _<_, _≤_}
+use mathlib.Core.List.{List}
+use Prim.Native.Nat.{ℕ, _≤_}
 use lib.ListN.{length}
 use Rattle.scope.specs.declared.Node.{Node}
-use Rattle.scope.specs.declared.Refusal.{Refusal}
-use Rattle.scope.specs.Outcome.{Outcome, answer, refused, fine, _>>=_}
+use Rattle.scope.specs.Outcome.{Outcome, answer, refused, fine, _>>_, _>>=_}
 use Rattle.calculus.specs.Expansion.{expand}
 use Rattle.calculus.specs.Order.{impossible, answerOf}
 use Rattle.calculus.specs.Decide.{searchOf, asked, Unsatisfiable}
@@ -24,18 +23,18 @@ checkedOf (Refused f) = refused (f .number) (f .place)
 -- the derivation d was read and its steps tried, over the nodes t
 pub record Replayed (t : ℕ → Node) (n : ℕ) (goals w d w′ : List ℕ) (r : Checked) : Type 0 where
   pub answered : checkedOf r ≡ (decodeSteps d >>= accepts (expand t) goals n)
-  pub work : (f : Refusal) → r ≡ Refused f → f .number < 45 → w′ ≡ w
+  pub work : (number place : ℕ) → decodeSteps d ≡ refused number place → w′ ≡ w
 
--- Check, of the table t, a goal, the work area w, which it leaves as w′, and the derivation d
-pub record Checks (t : List ℕ) (goal : ℕ) (w d w′ : List ℕ) (r : Checked) : Type 0 where
+-- Check, of the table t, a list of goals, the work area w, which it leaves as w′, and the derivation d
+pub record Checks (t goals w d w′ : List ℕ) (r : Checked) : Type 0 where
   -- 'Check accepts exactly when none of its refusals applies', and else the answer is the first row's that refuses
-  pub answered : checkedOf r ≡ check t goal w d
+  pub answered : checkedOf r ≡ check t goals w d
   -- 'The work area's contents after row 23 passes are free; before that unchanged': here a refusal by rows 40 to 44 changes none either
-  pub work : (f : Refusal) → r ≡ Refused f → f .number < 45 → w′ ≡ w
-  -- derivations of any author (demand 3): where one is accepted, no setting makes the goal true, whatever its bytes
-  pub never : r ≡ Accepted → Unsatisfiable t goal
-  -- our own (demand 3): the one derivation in the solver's order of a goal called impossible is accepted, where 65,536 blocks hold it
-  pub ours : (rs : List Node) → asked t (goal ∷ []) 0 0 (length w) ≡ answer rs → answerOf (searchOf rs (goal ∷ [])) ≡ impossible
-      → length (encodeSteps (derivationOf rs (goal ∷ []))) ≤ 33554432 → d ≡ encodeSteps (derivationOf rs (goal ∷ [])) → r ≡ Accepted
+  pub work : (number place : ℕ) → (asked t goals 0 0 (length w) >> decodeSteps d) ≡ refused number place → w′ ≡ w
+  -- derivations of any author (demand 3): where one is accepted, no setting makes all goals true, whatever its bytes
+  pub never : r ≡ Accepted → Unsatisfiable t goals
+  -- our own (demand 3): the one derivation in the solver's order of goals called impossible is accepted, where 65,536 blocks hold it
+  pub ours : (rs : List Node) → asked t goals 0 0 (length w) ≡ answer rs → answerOf (searchOf rs goals) ≡ impossible
+      → length (encodeSteps (derivationOf rs goals)) ≤ 33554432 → d ≡ encodeSteps (derivationOf rs goals) → r ≡ Accepted
   -- what is accepted is a derivation by the published rules
-  pub published : r ≡ Accepted → PublishedBytes t goal d
+  pub published : r ≡ Accepted → PublishedBytes t goals d

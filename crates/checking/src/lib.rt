@@ -1,5 +1,5 @@
-// Check: whether a derivation, of any author, shows that no setting makes a goal true. Nothing is written to the work area before
-// the table, the goal, the area and the derivation's form have passed.
+// Check: whether a derivation, of any author, shows that no setting makes all goals true. Nothing is written to the work area before
+// the table, the goals, the area and the derivation's form have passed.
 use scope::Refusal;
 use scope::Verdict;
 use steps::Opened;
@@ -37,16 +37,14 @@ fn replayed(x: &[u16], n: usize, goals: &[u16], work: &mut [u16], d: &[u8]) -> C
     }
 }
 
-// Whether the derivation is accepted: then no setting makes the goal true.
-pub fn check(t: &[u8], goal: usize, work: &mut [u16], d: &[u8]) -> Checked
-    ensures { λ r. ⌜ Checks (now (t .entry)) goal (now (work .entry)) (now (d .entry)) (now (work .exit)) r ⌝ }
+// Whether the derivation is accepted: then no setting makes all goals true.
+pub fn check(t: &[u8], goals: &[u16], work: &mut [u16], d: &[u8]) -> Checked
+    ensures { λ r. ⌜ Checks (now (t .entry)) (now (goals .entry)) (now (work .entry)) (now (d .entry)) (now (work .exit)) r ⌝ }
 {
-    let l = asking::literal(goal);
-    let goals = [l; 1];
     let mut x = [0u16; 18270];
-    let a = asking::ask(t, &goals, 0, 0, work.len(), &mut x);
+    let a = asking::ask(t, goals, 0, 0, work.len(), &mut x);
     match a {
         Counted::Refused(f) => Checked::Refused(f),
-        Counted::Nodes(n) => replayed(&x, n, &goals, work, d),
+        Counted::Nodes(n) => replayed(&x, n, goals, work, d),
     }
 }

@@ -1,8 +1,7 @@
 -- Where decide ends: at the first row's refusal, or with what the search came to. Assumes nothing.
 use mathlib.Core.Path.{_≡_, refl, sym, ap, _∙_}
-use mathlib.Core.Bool.{true}
-use mathlib.Core.List.{List, [], _∷_}
-use Prim.Native.Nat.{ℕ, min}
+use mathlib.Core.List.{List}
+use Prim.Native.Nat.{ℕ}
 use native.Mathlib.Omega.{arith}
 use lib.ListN.{length}
 use Rattle.scope.specs.declared.Refusal.{Refusal}
@@ -12,12 +11,12 @@ use Rattle.scope.specs.Calls.{evaluate}
 use Rattle.scope.proofs.Tests.{refused-no, bound}
 use Rattle.codec.specs.Valid.{Bytes}
 use Rattle.calculus.specs.Order.{Answer, possible, impossible, unfinished, answerOf}
+use Rattle.calculus.specs.Model.{All}
 use Rattle.calculus.specs.Decide.{Decided as Given, asked, decided, decide, settingsAfter, _⇔_}
 use Rattle.index.specs.Index.{indexNode}
 use Rattle.asking.specs.Asks.{Prepared}
-use Rattle.asking.proofs.Models.{evaluated-filled}
+use Rattle.asking.proofs.Models.{all-filled}
 use Rattle.asking.proofs.Nodes.{search-in, listed}
-use Rattle.asking.proofs.Answers.{literal-small, asked-same}
 use Rattle.meaning.proofs.Decisions.{decide-exact, decide-evaluates}
 use Rattle.deciding.specs.Decides.{Word, can, cannot, wordOf, decidedOf, Room, Solved, Decides}
 use Rattle.deciding.specs.declared.Decided.{Decided}
@@ -35,21 +34,21 @@ word-possible (possible G) e f = f G refl
 word-possible impossible e f = absurd (let z : _≡_ {A = ℕ} 0 1 = cc in omega arith)
 word-possible unfinished e f = absurd (let z : _≡_ {A = ℕ} 0 1 = cc in omega arith)
 
-module _ (t : List ℕ) (goal : ℕ) (s w : List ℕ) (all : Bytes t) (r : Decided) {s′ : List ℕ}
-    (answers : decidedOf r ≡ (decide t goal s w >>= λ d. answer (wordOf (d .verdict)))) (bytes : s′ ≡ settingsAfter s (decide t goal s w)) where
+module _ (t goals s w : List ℕ) (all : Bytes t) (r : Decided) {s′ : List ℕ}
+    (answers : decidedOf r ≡ (decide t goals s w >>= λ d. answer (wordOf (d .verdict)))) (bytes : s′ ≡ settingsAfter s (decide t goals s w)) where
   -- what was said is what the definition's answer says
-  said-by : {said : Word} → decidedOf r ≡ answer said → (d : Given) × (decide t goal s w ≡ answer d) × (answer (wordOf (d .verdict)) ≡ answer said)
-  said-by q = bound (decide t goal s w) (λ d. answer (wordOf (d .verdict))) (sym answers ∙ q)
+  said-by : {said : Word} → decidedOf r ≡ answer said → (d : Given) × (decide t goals s w ≡ answer d) × (answer (wordOf (d .verdict)) ≡ answer said)
+  said-by q = bound (decide t goals s w) (λ d. answer (wordOf (d .verdict))) (sym answers ∙ q)
 
-  satisfies : r ≡ Possible → evaluate t goal s′ ≡ answer Yes
+  satisfies : r ≡ Possible → All (λ g. evaluate t g s′ ≡ answer Yes) goals
   satisfies q =
       let b = said-by (ap decidedOf q) in
       let z : answer (wordOf (b .0 .verdict)) ≡ answer can = b .2 in
       let v : wordOf (b .0 .verdict) ≡ can = cc in
       word-possible (b .0 .verdict) v
-      (λ G g. ap (evaluate t goal) (bytes ∙ ap (settingsAfter s) (b .1)) ∙ decide-evaluates t goal s w all (b .1) g)
+      (λ G g. rw (bytes ∙ ap (settingsAfter s) (b .1)) (decide-evaluates t goals s w all (b .1) g))
 
-  pub decides : {w′ : List ℕ} → ((f : Refusal) → r ≡ Refused f → w′ ≡ w) → Decides t goal s w s′ w′ r
+  pub decides : {w′ : List ℕ} → ((f : Refusal) → r ≡ Refused f → w′ ≡ w) → Decides t goals s w s′ w′ r
   decides kept = record {
     answered = answers;
     settings = bytes;
@@ -59,39 +58,36 @@ module _ (t : List ℕ) (goal : ℕ) (s w : List ℕ) (all : Bytes t) (r : Decid
         let z : answer (wordOf (b .0 .verdict)) ≡ answer said = b .2 in
         let v : wordOf (b .0 .verdict) ≡ said = cc in
         let i = word-impossible (b .0 .verdict) in
-        let x = decide-exact t goal s w all (b .1) in
+        let x = decide-exact t goals s w all (b .1) in
         (λ c. x .0 (i .0 (v ∙ c)), λ none. sym v ∙ i .1 (x .1 none));
     satisfied = satisfies;
-    filled = λ q rs e. evaluated-filled t rs all e goal s′ true (satisfies q);
+    filled = λ q rs e. all-filled t rs all e goals s′ (satisfies q);
   }
 
 -- ---- where decide ends
 
-module _ (t : List ℕ) (goal : ℕ) (s w : List ℕ) (all : Bytes t) {l : ℕ} (e : l ≡ min goal 65535) where
-  refused-by : {number place : ℕ} → asked t (l ∷ []) 1024 (length s) (length w) ≡ refused number place → decide t goal s w ≡ refused number place
+module _ (t goals s w : List ℕ) (all : Bytes t) where
+  refused-by : {number place : ℕ} → asked t goals 1024 (length s) (length w) ≡ refused number place → decide t goals s w ≡ refused number place
   unfolding decide
-  refused-by q = rw (← asked-same t all goal l e 1024 (length s) (length w), q)
+  refused-by q = rw q
 
-  pub refuses : (f : Refusal) → asked t (l ∷ []) 1024 (length s) (length w) ≡ refused (f .number) (f .place) → Decides t goal s w s w (Refused f)
+  pub refuses : (f : Refusal) → asked t goals 1024 (length s) (length w) ≡ refused (f .number) (f .place) → Decides t goals s w s w (Refused f)
   refuses f q =
       let d = refused-by q in
-      decides t goal s w all (Refused f) (rw d) (rw d) (λ g z. refl)
+      decides t goals s w all (Refused f) (rw d) (rw d) (λ g z. refl)
 
-  module _ {x : List ℕ} {n : ℕ} (p : Prepared t (l ∷ []) 1024 (length s) (length w) x n) where
+  module _ {x : List ℕ} {n : ℕ} (p : Prepared t goals 1024 (length s) (length w) x n) where
     pub roomy : Room x n s w
     roomy = record { points = p .points; settings = p .admitted .settings; work = p .admitted .work }
 
-    same-goal : l ≡ goal
-    same-goal = literal-small n goal l (p .indexed .few) e (p .admitted .below .0)
-
-    ends-on : decide t goal s w ≡ answer (decided (p .nodes) (l ∷ []) s)
+    ends-on : decide t goals s w ≡ answer (decided (p .nodes) goals s)
     unfolding decide
-    ends-on = rw (← same-goal, p .answered)
+    ends-on = rw (p .answered)
 
-    pub ends : {s′ w′ : List ℕ} (r : Decided) → Solved (indexNode x) n (l ∷ []) s s′ r → Decides t goal s w s′ w′ r
+    pub ends : {s′ w′ : List ℕ} (r : Decided) → Solved (indexNode x) n goals s s′ r → Decides t goals s w s′ w′ r
     ends r h =
         let a = ap answerOf (search-in p) in
-        decides t goal s w all r
+        decides t goals s w all r
         (h .verdict ∙ ap (λ (y : Answer). answer (wordOf y)) a ∙ ap (_>>= λ d. answer (wordOf (d .verdict))) (sym ends-on))
         (h .settings ∙ rw (listed p, a) (ap (settingsAfter s) (sym ends-on)))
         (λ f q. refused-no (sym (ap decidedOf q) ∙ h .verdict))

@@ -14,12 +14,13 @@ use Rattle.scope.specs.Kleene.{Fills}
 use Rattle.scope.specs.Calls.{evaluate}
 use Rattle.calculus.specs.Expansion.{expand}
 use Rattle.calculus.specs.Order.{tree, Answer, possible, impossible, unfinished, answerOf}
+use Rattle.calculus.specs.Model.{All}
 use Rattle.calculus.specs.Decide.{settingsOn, decide, settingsAfter, Unsatisfiable, _⇔_}
 use Rattle.index.specs.Index.{indexNode}
 use Rattle.deciding.specs.declared.Decided.{Decided}
 use Rattle.deciding.specs.declared.Decided.the-variants.{Possible, Impossible, Refused}
 
--- what is said of a goal
+-- what is said of goals
 pub data Word : Type 0 where
   can : Word
   cannot : Word
@@ -48,17 +49,17 @@ pub record Solved (t : ℕ → Node) (n : ℕ) (goals s s′ : List ℕ) (r : De
   pub verdict : decidedOf r ≡ answer (wordOf (answerOf (tree (expand t) goals n [])))
   pub settings : s′ ≡ settingsOn (listFrom t 0 n) s (answerOf (tree (expand t) goals n []))
 
--- Decide, of the table t, a goal, and the settings s and the work area w, which it leaves as s′ and w′
-pub record Decides (t : List ℕ) (goal : ℕ) (s w s′ w′ : List ℕ) (r : Decided) : Type 0 where
+-- Decide, of the table t, a list of goals, and the settings s and the work area w, which it leaves as s′ and w′
+pub record Decides (t goals s w s′ w′ : List ℕ) (r : Decided) : Type 0 where
   -- the answer is that of the solver's order, or the first row's that refuses
-  pub answered : decidedOf r ≡ (decide t goal s w >>= λ d. answer (wordOf (d .verdict)))
+  pub answered : decidedOf r ≡ (decide t goals s w >>= λ d. answer (wordOf (d .verdict)))
   -- the settings bytes: 'Decide writes the settings only when possible'
-  pub settings : s′ ≡ settingsAfter s (decide t goal s w)
+  pub settings : s′ ≡ settingsAfter s (decide t goals s w)
   -- a refusal leaves the work area as it was
   pub work : (f : Refusal) → r ≡ Refused f → w′ ≡ w
-  -- impossible is said exactly when no setting makes the goal true (demand 3)
-  pub exact : (said : Word) → decidedOf r ≡ answer said → (said ≡ cannot) ⇔ Unsatisfiable t goal
-  -- possible: evaluate of the settings that were written answers yes (demand 3)
-  pub satisfied : r ≡ Possible → evaluate t goal s′ ≡ answer Yes
+  -- impossible is said exactly when no setting makes all goals true (demand 3)
+  pub exact : (said : Word) → decidedOf r ≡ answer said → (said ≡ cannot) ⇔ Unsatisfiable t goals
+  -- possible: evaluate of the settings that were written answers yes of each goal (demand 3)
+  pub satisfied : r ≡ Possible → All (λ g. evaluate t g s′ ≡ answer Yes) goals
   -- .. 'for every way of filling the 2s'
-  pub filled : r ≡ Possible → (rs : List Node) → decode t ≡ answer rs → (f : List ℕ) → Fills s′ f → truth f rs goal ≡ true
+  pub filled : r ≡ Possible → (rs : List Node) → decode t ≡ answer rs → (f : List ℕ) → Fills s′ f → All (λ g. truth f rs g ≡ true) goals

@@ -1,4 +1,4 @@
-// Decide: whether some setting makes a goal true, and such a setting.
+// Decide: whether one setting makes all goals true, and such a setting.
 use scope::Refusal;
 use searching::Found;
 use table::Counted;
@@ -82,16 +82,14 @@ fn solve(x: &[u16], n: usize, goals: &[u16], settings: &mut [u8], work: &mut [u1
     }
 }
 
-// Whether some setting makes the goal true; if so, the settings have such a one.
-pub fn decide(t: &[u8], goal: usize, settings: &mut [u8], work: &mut [u16]) -> Decided
-    ensures { λ r. ⌜ Decides (now (t .entry)) goal (now (settings .entry)) (now (work .entry)) (now (settings .exit)) (now (work .exit)) r ⌝ }
+// Whether one setting makes all goals true; if so, the settings have such a one.
+pub fn decide(t: &[u8], goals: &[u16], settings: &mut [u8], work: &mut [u16]) -> Decided
+    ensures { λ r. ⌜ Decides (now (t .entry)) (now (goals .entry)) (now (settings .entry)) (now (work .entry)) (now (settings .exit)) (now (work .exit)) r ⌝ }
 {
-    let l = asking::literal(goal);
-    let goals = [l; 1];
     let mut x = [0u16; 18270];
-    let a = asking::ask(t, &goals, 1024, settings.len(), work.len(), &mut x);
+    let a = asking::ask(t, goals, 1024, settings.len(), work.len(), &mut x);
     match a {
         Counted::Refused(r) => Decided::Refused(r),
-        Counted::Nodes(n) => solve(&x, n, &goals, settings, work),
+        Counted::Nodes(n) => solve(&x, n, goals, settings, work),
     }
 }

@@ -1,8 +1,7 @@
 -- Where derive ends: at the first row's refusal, or with what counting and writing came to. Assumes nothing.
 use mathlib.Core.Path.{_≡_, refl, sym, ap, _∙_}
-use mathlib.Core.List.{List, [], _∷_}
-use Prim.Native.Nat.{ℕ, _≤_, min}
-use native.Mathlib.Omega.{arith}
+use mathlib.Core.List.{List, []}
+use Prim.Native.Nat.{ℕ}
 use lib.ListN.{length}
 use Rattle.scope.specs.declared.Refusal.{Refusal}
 use Rattle.scope.specs.Outcome.{Outcome, answer, refused, _>>=_}
@@ -17,82 +16,77 @@ use Rattle.rules.specs.Derivation.{stepsOf}
 use Rattle.rules.specs.Derive.{derivationOf, Derived as Given, blocks, derived, derive, derivedAfter, check}
 use Rattle.asking.specs.Asks.{Prepared}
 use Rattle.asking.proofs.Nodes.{search-in}
-use Rattle.asking.proofs.Answers.{literal-small, asked-same}
 use Rattle.meaning.proofs.Derivations.{derive-open, derive-never, derived-accepted, derived-published}
 use Rattle.deriving.specs.Derives.{derivedOf, producedBy, produced, Produced, Derives}
 use Rattle.deriving.specs.declared.Derived.{Derived}
 use Rattle.deriving.specs.declared.Derived.the-variants.{Steps, Refused}
 use Rattle.deriving.proofs.Same.{derivation-same}
 
-module _ (t : List ℕ) (goal : ℕ) (w d : List ℕ) (all : Bytes t) where
+module _ (t goals w d : List ℕ) (all : Bytes t) where
   -- ---- the contract, where its first three fields hold
 
   module _ (r : Derived) {d′ : List ℕ}
-      (answers : derivedOf r ≡ (derive t goal w d >>= λ x. answer (x .steps))) (file : d′ ≡ derivedAfter d (derive t goal w d)) where
+      (answers : derivedOf r ≡ (derive t goals w d >>= λ x. answer (x .steps))) (file : d′ ≡ derivedAfter d (derive t goals w d)) where
     -- a step count is an answer's, and so are the bytes
-    counted : (k : ℕ) → r ≡ Steps k → (x : Given) × (derive t goal w d ≡ answer x) × (blocks (x .steps) (x .bytes) ≡ blocks k d′)
+    counted : (k : ℕ) → r ≡ Steps k → (x : Given) × (derive t goals w d ≡ answer x) × (blocks (x .steps) (x .bytes) ≡ blocks k d′)
     counted k q =
-        let b = bound (derive t goal w d) (λ x. answer (x .steps)) (sym answers ∙ ap derivedOf q) in
+        let b = bound (derive t goals w d) (λ x. answer (x .steps)) (sym answers ∙ ap derivedOf q) in
         let s : answer (b .0 .steps) ≡ answer k = b .2 in
         let z : b .0 .steps ≡ k = cc in
         (b .0, b .1, ap (λ (m : ℕ). blocks m (b .0 .bytes)) z ∙ ap (blocks k) (sym (file ∙ ap (derivedAfter d) (b .1))))
 
-    refusal : {number place : ℕ} → derivedOf r ≡ refused number place → derive t goal w d ≡ refused number place
-    refusal q = go (derive t goal w d) (sym answers ∙ q)
+    refusal : {number place : ℕ} → derivedOf r ≡ refused number place → derive t goals w d ≡ refused number place
+    refusal q = go (derive t goals w d) (sym answers ∙ q)
       where
         go : (o : Outcome Given) {number place : ℕ} → (o >>= λ x. answer (x .steps)) ≡ refused number place → o ≡ refused number place
         go (answer x) e = refused-no (sym e)
         go (refused n p) e = cc
 
-    derives : {w′ : List ℕ} → ((f : Refusal) → r ≡ Refused f → f .number ≤ 23 → w′ ≡ w) → Derives t goal w d w′ d′ r
+    derives : {w′ : List ℕ} → ((number place : ℕ) → asked t goals 0 0 (length w) ≡ refused number place → w′ ≡ w) → Derives t goals w d w′ d′ r
     derives kept = record {
       answered = answers;
       bytes = file;
       work = kept;
       never = λ k q.
           let c = counted k q in
-          derive-never t all goal w d (c .0) (c .1);
+          derive-never t all goals w d (c .0) (c .1);
       accepted = λ k q.
           let c = counted k q in
-          ap (check t goal w) (sym (c .2)) ∙ derived-accepted t all goal w d (c .0) (c .1);
+          ap (check t goals w) (sym (c .2)) ∙ derived-accepted t all goals w d (c .0) (c .1);
       published = λ k q.
           let c = counted k q in
-          rw (← c .2) (derived-published t all goal w d (c .0) (c .1));
-      complete = λ place q rs e. derive-open t all goal w d (refusal q) rs e;
+          rw (← c .2) (derived-published t all goals w d (c .0) (c .1));
+      complete = λ place q rs e. derive-open t all goals w d (refusal q) rs e;
     }
 
   -- ---- where derive ends
 
-  module _ {l : ℕ} (e : l ≡ min goal 65535) where
-    refused-by : {number place : ℕ} → asked t (l ∷ []) 0 0 (length w) ≡ refused number place → derive t goal w d ≡ refused number place
-    unfolding derive
-    refused-by q = rw (← asked-same t all goal l e 0 0 (length w), q)
+  refused-by : {number place : ℕ} → asked t goals 0 0 (length w) ≡ refused number place → derive t goals w d ≡ refused number place
+  unfolding derive
+  refused-by q = rw q
 
-    pub refuses : (f : Refusal) → asked t (l ∷ []) 0 0 (length w) ≡ refused (f .number) (f .place) → Derives t goal w d w d (Refused f)
-    refuses f q =
-        let z = refused-by q in
-        derives (Refused f) (rw z) (rw z) (λ g s h. refl)
+  pub refuses : (f : Refusal) → asked t goals 0 0 (length w) ≡ refused (f .number) (f .place) → Derives t goals w d w d (Refused f)
+  refuses f q =
+      let z = refused-by q in
+      derives (Refused f) (rw z) (rw z) (λ number place a. refl)
 
-    module _ {x : List ℕ} {n : ℕ} (p : Prepared t (l ∷ []) 0 0 (length w) x n) where
-      same-goal : l ≡ goal
-      same-goal = literal-small n goal l (p .indexed .few) e (p .admitted .below .0)
+  module _ {x : List ℕ} {n : ℕ} (p : Prepared t goals 0 0 (length w) x n) where
+    -- the steps over the index are those over the nodes
+    steps-in : stepsOf (expand (indexNode x)) goals [] (tree (expand (indexNode x)) goals n []) ≡ derivationOf (p .nodes) goals
+    steps-in =
+        derivation-same n (indexNode x) (nodesOf (p .nodes)) (p .same) goals (p .indexed .table) (p .admitted .below)
+        ∙ ap (λ (k : ℕ). stepsOf (expand (nodesOf (p .nodes))) goals [] (tree (expand (nodesOf (p .nodes))) goals k [])) (sym (p .count))
 
-      -- the steps over the index are those over the nodes
-      steps-in : stepsOf (expand (indexNode x)) (l ∷ []) [] (tree (expand (indexNode x)) (l ∷ []) n []) ≡ derivationOf (p .nodes) (l ∷ [])
-      steps-in =
-          derivation-same n (indexNode x) (nodesOf (p .nodes)) (p .same) (l ∷ []) (p .indexed .table) (p .admitted .below)
-          ∙ ap (λ (k : ℕ). stepsOf (expand (nodesOf (p .nodes))) (l ∷ []) [] (tree (expand (nodesOf (p .nodes))) (l ∷ []) k [])) (sym (p .count))
+    ends-on : derive t goals w d ≡ produced (indexNode x) n goals d
+    unfolding derive derived
+    ends-on =
+        rw (p .answered)
+        (ap (λ (s : Tree). producedBy s (derivationOf (p .nodes) goals) d) (sym (search-in p))
+        ∙ ap (λ (ss : List Step). producedBy (tree (expand (indexNode x)) goals n []) ss d) (sym steps-in))
 
-      ends-on : derive t goal w d ≡ produced (indexNode x) n (l ∷ []) d
-      unfolding derive derived
-      ends-on =
-          rw (← same-goal, p .answered)
-          (ap (λ (s : Tree). producedBy s (derivationOf (p .nodes) (l ∷ [])) d) (sym (search-in p))
-          ∙ ap (λ (ss : List Step). producedBy (tree (expand (indexNode x)) (l ∷ []) n []) ss d) (sym steps-in))
-
-      pub ends : {w′ d′ : List ℕ} (r : Derived) → Produced (indexNode x) n (l ∷ []) d d′ r → Derives t goal w d w′ d′ r
-      ends r h =
-          derives r
-          (h .answered ∙ ap (_>>= λ x. answer (x .steps)) (sym ends-on))
-          (h .bytes ∙ ap (derivedAfter d) (sym ends-on))
-          (λ f q s. absurd (omega (arith, h .later f q)))
+    pub ends : {w′ d′ : List ℕ} (r : Derived) → Produced (indexNode x) n goals d d′ r → Derives t goals w d w′ d′ r
+    ends r h =
+        derives r
+        (h .answered ∙ ap (_>>= λ x. answer (x .steps)) (sym ends-on))
+        (h .bytes ∙ ap (derivedAfter d) (sym ends-on))
+        (λ number place a. refused-no (sym a ∙ p .answered))

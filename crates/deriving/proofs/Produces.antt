@@ -75,8 +75,8 @@ module _ (t : ℕ → Node) (n : ℕ) (goals d : List ℕ) where
   steps-none : (G : List ℕ) → G ≡ [] → stepsFrom t n goals G ≡ steps
   steps-none G z = ap (λ (F : List ℕ). stepsOf (expand t) goals F (tree (expand t) goals (n - length G) G)) z ∙ ap (stepsOf (expand t) goals []) (from-none G z)
 
-  refusal : {number : ℕ} → 23 < number → produced t n goals d ≡ refused number 0 → Produced t n goals d d (Refused (record { number = number; place = 0 }))
-  refusal {number} h e = record { answered = rw e; bytes = rw e; later = λ f q. let z : number ≡ f .number = cc in omega arith }
+  refusal : {number : ℕ} → produced t n goals d ≡ refused number 0 → Produced t n goals d d (Refused (record { number = number; place = 0 }))
+  refusal e = record { answered = rw e; bytes = rw e }
 
   module _ {w₁ w₂ m₂ : List ℕ} {most : ℕ} {r : Tally} (z : gOf w₁ ≡ []) (m : most ≡ 126 * min (length d / 512) 65536)
       (c : Tallied t n goals w₁ w₂ m₂ (most + 1) 0 r) where
@@ -87,7 +87,7 @@ module _ (t : ℕ → Node) (n : ℕ) (goals d : List ℕ) where
     pub produced-open : r ≡ Open → Produced t n goals d d (Refused (record { number = 30; place = 0 }))
     produced-open e =
         let v : possible (gOf w₂) ≡ answerOf whole = rw e at found in
-        refusal (omega arith) (rw (← v))
+        refusal (rw (← v))
 
     module _ {k : ℕ} (e : r ≡ Shut k) where
       none : impossible ≡ answerOf whole
@@ -97,7 +97,7 @@ module _ (t : ℕ → Node) (n : ℕ) (goals d : List ℕ) where
       number = c .counted k e ∙ ap (λ (ss : List Step). atMost (most + 1) (0 + length ss)) (steps-none (gOf w₁) z)
 
       pub produced-over : most < k → Produced t n goals d d (Refused (record { number = 31; place = 0 }))
-      produced-over h = refusal (omega arith) (rw (← none) (row-over steps d (omega (arith, count-over most _ k number h))))
+      produced-over h = refusal (rw (← none) (row-over steps d (omega (arith, count-over most _ k number h))))
 
       -- the steps fit, and the search starts again
       module _ (h : k ≤ most) (w₃ : List ℕ) (y : gOf w₃ ≡ []) where
@@ -118,5 +118,4 @@ module _ (t : ℕ → Node) (n : ℕ) (goals d : List ℕ) where
         produced-steps q = record {
           answered = rw answers (ap answer exact);
           bytes = rw answers (q ∙ ap (λ (ss : List Step). written ss d) (steps-none (gOf w₃) y));
-          later = λ f v. absurd (let z : _≡_ {A = ℕ} 0 1 = cc in omega arith);
         }

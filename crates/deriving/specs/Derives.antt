@@ -1,11 +1,10 @@
 -- What derive does: the answer of the definition `derive`, its bytes, and what the answer means. Assumes nothing.
 use mathlib.Core.Path.{_≡_}
-use mathlib.Core.List.{List, [], _∷_, _++_}
-use Prim.Native.Nat.{ℕ, _<_, _≤_}
+use mathlib.Core.List.{List, [], _++_}
+use Prim.Native.Nat.{ℕ}
 use lib.Dec.{leb}
 use lib.ListN.{length, drop}
 use Rattle.scope.specs.declared.Node.{Node}
-use Rattle.scope.specs.declared.Refusal.{Refusal}
 use Rattle.scope.specs.Outcome.{Outcome, answer, refused, fine, require, _>>_, _>>=_}
 use Rattle.calculus.specs.Expansion.{expand}
 use Rattle.calculus.specs.Order.{Tree, tree, answerOf}
@@ -40,26 +39,25 @@ producedBy search ss d = require (isImpossible (answerOf search)) 30 0 >> row31 
 abbrev pub produced : (ℕ → Node) → ℕ → List ℕ → List ℕ → Outcome Given
 produced t n goals d = producedBy (tree (expand t) goals n []) (stepsOf (expand t) goals [] (tree (expand t) goals n [])) d
 
--- the search over the nodes t was counted and its derivation written; no refusal before the search's
+-- the search over the nodes t was counted and its derivation written
 pub record Produced (t : ℕ → Node) (n : ℕ) (goals d d′ : List ℕ) (r : Derived) : Type 0 where
   pub answered : derivedOf r ≡ (produced t n goals d >>= λ x. answer (x .steps))
   pub bytes : d′ ≡ derivedAfter d (produced t n goals d)
-  pub later : (f : Refusal) → r ≡ Refused f → 23 < f .number
 
--- Derive, of the table t, a goal, and the work area w and the derivation bytes d, which it leaves as w′ and d′
-pub record Derives (t : List ℕ) (goal : ℕ) (w d w′ d′ : List ℕ) (r : Derived) : Type 0 where
+-- Derive, of the table t, a list of goals, and the work area w and the derivation bytes d, which it leaves as w′ and d′
+pub record Derives (t goals w d w′ d′ : List ℕ) (r : Derived) : Type 0 where
   -- 'It answers the step count', of the derivation in the solver's order, or the first row's refusal
-  pub answered : derivedOf r ≡ (derive t goal w d >>= λ x. answer (x .steps))
+  pub answered : derivedOf r ≡ (derive t goals w d >>= λ x. answer (x .steps))
   -- the derivation's blocks: 'Bytes past its last block stay'
-  pub bytes : d′ ≡ derivedAfter d (derive t goal w d)
-  -- a refusal up to row 23 leaves the work area as it was
-  pub work : (f : Refusal) → r ≡ Refused f → f .number ≤ 23 → w′ ≡ w
-  -- a derivation: no setting makes the goal true
-  pub never : (k : ℕ) → r ≡ Steps k → Unsatisfiable t goal
+  pub bytes : d′ ≡ derivedAfter d (derive t goals w d)
+  -- a refusal by the rows 10 to 17, 62, 20 and 23 leaves the work area as it was
+  pub work : (number place : ℕ) → asked t goals 0 0 (length w) ≡ refused number place → w′ ≡ w
+  -- a derivation: no setting makes all goals true
+  pub never : (k : ℕ) → r ≡ Steps k → Unsatisfiable t goals
   -- .. and check accepts it
-  pub accepted : (k : ℕ) → r ≡ Steps k → check t goal w (blocks k d′) ≡ fine
+  pub accepted : (k : ℕ) → r ≡ Steps k → check t goals w (blocks k d′) ≡ fine
   -- .. and it is one by the published rules
-  pub published : (k : ℕ) → r ≡ Steps k → PublishedBytes t goal (blocks k d′)
-  -- 30, after rows 10 to 23: a setting makes the goal true
-  pub complete : (place : ℕ) → derivedOf r ≡ refused 30 place → (rs : List Node) → asked t (goal ∷ []) 0 0 (length w) ≡ answer rs
-      → (v : List ℕ) × Satisfies t goal v
+  pub published : (k : ℕ) → r ≡ Steps k → PublishedBytes t goals (blocks k d′)
+  -- 30, after rows 10 to 23: a setting makes all goals true
+  pub complete : (place : ℕ) → derivedOf r ≡ refused 30 place → (rs : List Node) → asked t goals 0 0 (length w) ≡ answer rs
+      → (v : List ℕ) × Satisfies t goals v

@@ -1,5 +1,5 @@
-// Derive: the derivation of an impossible goal in the solver's order, in blocks of a lent buffer. A first pass counts the steps, so
-// that nothing is written before it is known that the goal is impossible and that the blocks fit; the second writes them.
+// Derive: the derivation of impossible goals in the solver's order, in blocks of a lent buffer. A first pass counts the steps, so
+// that nothing is written before it is known that the goals are impossible and that the blocks fit; the second writes them.
 use counting::Tally;
 use scope::Refusal;
 use table::Counted;
@@ -60,16 +60,14 @@ fn produce(x: &[u16], n: usize, goals: &[u16], work: &mut [u16], d: &mut [u8]) -
     }
 }
 
-// The derivation of an impossible goal in the solver's order, written at the start of d, and how many steps it has.
-pub fn derive(t: &[u8], goal: usize, work: &mut [u16], d: &mut [u8]) -> Derived
-    ensures { λ r. ⌜ Derives (now (t .entry)) goal (now (work .entry)) (now (d .entry)) (now (work .exit)) (now (d .exit)) r ⌝ }
+// The derivation of impossible goals in the solver's order, written at the start of d, and how many steps it has.
+pub fn derive(t: &[u8], goals: &[u16], work: &mut [u16], d: &mut [u8]) -> Derived
+    ensures { λ r. ⌜ Derives (now (t .entry)) (now (goals .entry)) (now (work .entry)) (now (d .entry)) (now (work .exit)) (now (d .exit)) r ⌝ }
 {
-    let l = asking::literal(goal);
-    let goals = [l; 1];
     let mut x = [0u16; 18270];
-    let a = asking::ask(t, &goals, 0, 0, work.len(), &mut x);
+    let a = asking::ask(t, goals, 0, 0, work.len(), &mut x);
     match a {
         Counted::Refused(r) => Derived::Refused(r),
-        Counted::Nodes(n) => produce(&x, n, &goals, work, d),
+        Counted::Nodes(n) => produce(&x, n, goals, work, d),
     }
 }

@@ -29,12 +29,12 @@ same-word Impossible unfinished e = absurd (let z : _≡_ {A = ℕ} 0 1 = cc in 
 same-word (Refused f) a e = absurd (let z : _≡_ {A = ℕ} 0 1 = cc in omega arith)
 
 -- buffers that are long enough
-pub judged : (t : List ℕ) (goal : ℕ) (s w : List ℕ) (r : Decided) → 1024 ≤ length s → 32768 ≤ length w
-    → decidedOf r ≡ (decide t goal s w >>= λ d. answer (wordOf (d .verdict))) → Judged t goal r
+pub judged : (t : List ℕ) {goal l : ℕ} → l ≡ goal → (s w : List ℕ) (r : Decided) → 1024 ≤ length s → 32768 ≤ length w
+    → decidedOf r ≡ (decide t (l ∷ []) s w >>= λ d. answer (wordOf (d .verdict))) → Judged t goal r
 unfolding decide
-judged t goal s w r points area e rs reads inside =
+judged t {goal} z s w r points area e rs reads inside =
     same-word r (answerOf (searchOf rs (goal ∷ [])))
-    (e ∙ rw (asked-fine t (goal ∷ []) 1024 (length s) (length w) reads (record { below = (inside, tt); settings = points; work = area })))
+    (e ∙ rw (z, asked-fine t (goal ∷ []) 1024 (length s) (length w) reads (record { some = omega arith; most = omega arith; below = (inside, tt); settings = points; work = area })))
 
 -- a node's line, of the words of its two literals
 pub line-of : (rs : List Node) (n : ℕ) {yes no : List ℕ} → yes ≡ answerWord rs (2 * n) → no ≡ answerWord rs (2 * n + 1)

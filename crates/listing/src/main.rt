@@ -4,6 +4,7 @@
 use arguments::Loaded;
 use deciding::Decided;
 use table::Counted;
+ghost use mathlib.Core.Path.{_≡_};
 ghost use Prim.Native.Nat.{_+_, _*_, _<_, _≤_};
 ghost use lib.ListN.{length};
 ghost use Rattle.text.specs.Text.{Put};
@@ -20,13 +21,24 @@ fn say(out: &[u8], from: usize, to: usize, written: bool) -> bool
     arguments::say(&out[from..to])
 }
 
-// What decide says of a goal.
+// A literal as a 16-bit number.
+fn literal(l: usize) -> u16
+    requires { ⌜ l < 4032 ⌝ }
+    ensures { λ r. ⌜ r ≡ l ⌝ }
+{
+    l as u16
+}
+
+// What decide says of a goal by itself.
 fn verdict(t: &[u8], goal: usize) -> Decided
+    requires { ⌜ goal < 4032 ⌝ }
     ensures { λ r. ⌜ Judged (now (t .entry)) goal r ⌝ }
 {
+    let l = literal(goal);
+    let goals = [l; 1];
     let mut settings = [0u8; 1024];
     let mut work = [0u16; 32768];
-    deciding::decide(t, goal, &mut settings, &mut work)
+    deciding::decide(t, &goals, &mut settings, &mut work)
 }
 
 // Its word.

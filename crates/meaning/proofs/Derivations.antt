@@ -1,4 +1,4 @@
--- What check's and derive's answers mean: where a derivation is accepted, or derive writes one, no setting makes the goal true
+-- What check's and derive's answers mean: where a derivation is accepted, or derive writes one, no setting makes all goals true
 -- (`check-never`, `derive-never`); what derive writes is accepted (`derived-accepted`); 30 says that some setting does (`derive-open`).
 -- Assumes nothing.
 use mathlib.Core.Path.{_≡_, refl, sym, _∙_}
@@ -20,7 +20,7 @@ use Rattle.codec.proofs.Rows.{row}
 use Rattle.codec.proofs.Tables.{read-valid}
 use Rattle.calculus.specs.Expansion.{expand}
 use Rattle.calculus.specs.Order.{Answer, possible, impossible, unfinished, answerOf}
-use Rattle.calculus.specs.Model.{All, Table, Below}
+use Rattle.calculus.specs.Model.{All, Table, mostGoals, Below}
 use Rattle.calculus.specs.Decide.{nodesOf, searchOf, asked, Satisfies, Unsatisfiable}
 use Rattle.calculus.proofs.Asked.{asked-read}
 use Rattle.calculus.proofs.Lists.{all-at, all-imply}
@@ -33,7 +33,7 @@ use Rattle.rules.proofs.Sound.{check-sound}
 use Rattle.rules.proofs.Accepts.{derivation-accepted}
 use Rattle.rules.proofs.Steps.{Formed, derivation-formed}
 use Rattle.steps.proofs.Encode.{length-encode-steps, encode-steps-read}
-use Rattle.asking.proofs.Models.{table-of, model-of, literal-truth, evaluated-filled, none-satisfies, all-no, setting-satisfies}
+use Rattle.asking.proofs.Models.{table-of, model-of, literal-truth, satisfied-true, none-satisfies, all-no, setting-satisfies}
 use Rattle.published.specs.Bytes.{PublishedBytes}
 use Rattle.published.proofs.Calls.{check-derives}
 
@@ -52,7 +52,7 @@ module _ (t : List ℕ) (rs : List Node) (all : Bytes t) (e : decode t ≡ answe
       (all-imply (λ g. truth v rs g ≡ true) _ (λ g z. literal-truth v rs g ∙ z) goals h)
 
   -- goals that are called impossible
-  module _ (few : length goals ≤ 64) (q : answerOf (searchOf rs goals) ≡ impossible) where
+  module _ (few : length goals ≤ mostGoals) (q : answerOf (searchOf rs goals) ≡ impossible) where
     accepted : accepts (expand (nodesOf rs)) goals (length rs) (derivationOf rs goals) ≡ fine
     accepted = derivation-accepted (length rs) (nodesOf rs) goals table B q
 
@@ -128,47 +128,47 @@ module _ (rs : List Node) (goals d : List ℕ) where
 
 -- ---- the calls
 
-module _ (t : List ℕ) (all : Bytes t) (goal : ℕ) where
-  pub check-never : (w d : List ℕ) → check t goal w d ≡ fine → Unsatisfiable t goal
+module _ (t : List ℕ) (all : Bytes t) (goals : List ℕ) where
+  pub check-never : (w d : List ℕ) → check t goals w d ≡ fine → Unsatisfiable t goals
   unfolding check
   check-never w d q v h =
-      let b = bound (asked t (goal ∷ []) 0 0 (length w)) _ q in
-      let a = asked-read t (goal ∷ []) 0 0 (length w) (b .1) in
-      accepted-never t (b .0) all (a .0) (goal ∷ []) (a .1 .below) d (b .2) v (evaluated-filled t (b .0) all (a .0) goal v true (h .1) v (λ p k z. refl), tt)
+      let b = bound (asked t goals 0 0 (length w)) _ q in
+      let a = asked-read t goals 0 0 (length w) (b .1) in
+      accepted-never t (b .0) all (a .0) goals (a .1 .below) d (b .2) v (satisfied-true t (b .0) all (a .0) goals v h)
 
-  -- the derivation of a goal that is called impossible, where 65,536 blocks hold it
-  pub own-accepted : (w : List ℕ) (rs : List Node) → asked t (goal ∷ []) 0 0 (length w) ≡ answer rs → answerOf (searchOf rs (goal ∷ [])) ≡ impossible
-      → length (encodeSteps (derivationOf rs (goal ∷ []))) ≤ 33554432 → check t goal w (encodeSteps (derivationOf rs (goal ∷ []))) ≡ fine
+  -- the derivation of goals that are called impossible, where 65,536 blocks hold it
+  pub own-accepted : (w : List ℕ) (rs : List Node) → asked t goals 0 0 (length w) ≡ answer rs → answerOf (searchOf rs goals) ≡ impossible
+      → length (encodeSteps (derivationOf rs goals)) ≤ 33554432 → check t goals w (encodeSteps (derivationOf rs goals)) ≡ fine
   unfolding check
   own-accepted w rs e q h =
-      let a = asked-read t (goal ∷ []) 0 0 (length w) e in
-      rw e (own-checked t rs all (a .0) (goal ∷ []) (a .1 .below) (omega arith) q h)
+      let a = asked-read t goals 0 0 (length w) e in
+      rw e (own-checked t rs all (a .0) goals (a .1 .below) (a .1 .most) q h)
 
   module _ (w d : List ℕ) where
-    -- 30: some setting makes the goal true
-    pub derive-open : {place : ℕ} → derive t goal w d ≡ refused 30 place → (rs : List Node) → asked t (goal ∷ []) 0 0 (length w) ≡ answer rs
-        → (v : List ℕ) × Satisfies t goal v
+    -- 30: some setting makes all goals true
+    pub derive-open : {place : ℕ} → derive t goals w d ≡ refused 30 place → (rs : List Node) → asked t goals 0 0 (length w) ≡ answer rs
+        → (v : List ℕ) × Satisfies t goals v
     unfolding derive
     derive-open q rs e =
-        let a = asked-read t (goal ∷ []) 0 0 (length w) e in
-        open-or-cut (answerOf (searchOf rs (goal ∷ []))) (row-open rs (goal ∷ []) d (rw e at q))
-        (never-cut (length rs) (nodesOf rs) (goal ∷ []) (table-of t rs all (a .0)) (a .1 .below))
-        (λ G z. (all-no rs G, setting-satisfies t rs all (a .0) goal (a .1 .below .0) z))
+        let a = asked-read t goals 0 0 (length w) e in
+        open-or-cut (answerOf (searchOf rs goals)) (row-open rs goals d (rw e at q))
+        (never-cut (length rs) (nodesOf rs) goals (table-of t rs all (a .0)) (a .1 .below))
+        (λ G z. (all-no rs G, setting-satisfies t rs all (a .0) goals (a .1 .below) z))
 
-    module _ (x : Derived) (q : derive t goal w d ≡ answer x) where
-      of-nodes : (rs : List Node) × (asked t (goal ∷ []) 0 0 (length w) ≡ answer rs) × (derived rs (goal ∷ []) d ≡ answer x)
+    module _ (x : Derived) (q : derive t goals w d ≡ answer x) where
+      of-nodes : (rs : List Node) × (asked t goals 0 0 (length w) ≡ answer rs) × (derived rs goals d ≡ answer x)
       unfolding derive
-      of-nodes = bound (asked t (goal ∷ []) 0 0 (length w)) _ q
+      of-nodes = bound (asked t goals 0 0 (length w)) _ q
 
-      pub derive-never : Unsatisfiable t goal
+      pub derive-never : Unsatisfiable t goals
       derive-never =
-          let a = asked-read t (goal ∷ []) 0 0 (length w) (of-nodes .1) in
-          none-satisfies t (of-nodes .0) all (a .0) goal (a .1 .below .0) (met (of-nodes .0) (goal ∷ []) d x (of-nodes .2) .none)
+          let a = asked-read t goals 0 0 (length w) (of-nodes .1) in
+          none-satisfies t (of-nodes .0) all (a .0) goals (a .1 .below) (met (of-nodes .0) goals d x (of-nodes .2) .none)
 
-      pub derived-accepted : check t goal w (blocks (x .steps) (x .bytes)) ≡ fine
+      pub derived-accepted : check t goals w (blocks (x .steps) (x .bytes)) ≡ fine
       derived-accepted =
-          let m = met (of-nodes .0) (goal ∷ []) d x (of-nodes .2) in
+          let m = met (of-nodes .0) goals d x (of-nodes .2) in
           rw (m .file) (own-accepted w (of-nodes .0) (of-nodes .1) (m .none) (m .few))
 
-      pub derived-published : PublishedBytes t goal (blocks (x .steps) (x .bytes))
-      derived-published = check-derives t goal w (blocks (x .steps) (x .bytes)) derived-accepted
+      pub derived-published : PublishedBytes t goals (blocks (x .steps) (x .bytes))
+      derived-published = check-derives t goals w (blocks (x .steps) (x .bytes)) derived-accepted

@@ -1,6 +1,6 @@
 -- No refusal has the number 0, which tells a host that a call has answered. Assumes nothing.
 use mathlib.Core.Path.{_≡_, refl, sym}
-use mathlib.Core.Bool.{Bool, true, false, not}
+use mathlib.Core.Bool.{Bool, true, false, not, _&&_}
 use mathlib.Core.List.{List, [], _∷_}
 use Prim.Native.Nat.{ℕ, zero, suc, _+_, _*_, _/_, _<_}
 use native.Mathlib.Omega.{arith}
@@ -13,6 +13,7 @@ use Rattle.scope.specs.Table.{tables, nodeOf, nodeAt, formOk, rangeOk, orderOk,
 use Rattle.scope.proofs.Tests.{refused-no}
 use Rattle.calculus.specs.Expansion.{expand}
 use Rattle.calculus.specs.Order.{answerOf}
+use Rattle.calculus.specs.Model.{mostGoals}
 use Rattle.calculus.specs.Decide.{nodesOf, searchOf, goalRow, goalsTest, rowsTest, asked, decided, decide}
 use Rattle.rules.specs.declared.Step.{Step}
 use Rattle.rules.specs.Steps.{derivations, stepAt, stepOk, sizeOk, formTest, decodeSteps, encodeSteps}
@@ -90,25 +91,26 @@ unfolding asked rowsTest
 asked-numbered t goals needed points area =
     then (decode t) _ (table-numbered t)
     (λ rs. also (rowsTest (length rs) goals needed points area) (answer rs)
-    (also (goalsTest (length rs) goals) _ (each (goalRow (length rs) goals) (λ i. row (ltb (getD goals i 0) (2 * length rs)) 20 i (omega arith)) (length goals) 0)
+    (also (goalsTest (length rs) goals) _ (rowed (ltb 0 (length goals) && leb (length goals) mostGoals) 62 0 _ (omega arith)
+    (each (goalRow (length rs) goals) (λ i. row (ltb (getD goals i 0) (2 * length rs)) 20 i (omega arith)) (length goals) 0))
     (rowed (leb needed points) 21 0 _ (omega arith) (row (leb 32768 area) 23 0 (omega arith))))
     (gives rs))
 
 -- ---- the calls
 
-pub decide-numbered : (t : List ℕ) (goal : ℕ) (s w : List ℕ) → Numbered (decide t goal s w)
+pub decide-numbered : (t goals s w : List ℕ) → Numbered (decide t goals s w)
 unfolding decide
-decide-numbered t goal s w =
-    then (asked t (goal ∷ []) 1024 (length s) (length w)) _ (asked-numbered t (goal ∷ []) 1024 (length s) (length w))
-    (λ rs. gives (decided rs (goal ∷ []) s))
+decide-numbered t goals s w =
+    then (asked t goals 1024 (length s) (length w)) _ (asked-numbered t goals 1024 (length s) (length w))
+    (λ rs. gives (decided rs goals s))
 
-pub derive-numbered : (t : List ℕ) (goal : ℕ) (w d : List ℕ) → Numbered (derive t goal w d)
+pub derive-numbered : (t goals w d : List ℕ) → Numbered (derive t goals w d)
 unfolding derive derived
-derive-numbered t goal w d =
-    then (asked t (goal ∷ []) 0 0 (length w)) _ (asked-numbered t (goal ∷ []) 0 0 (length w))
+derive-numbered t goals w d =
+    then (asked t goals 0 0 (length w)) _ (asked-numbered t goals 0 0 (length w))
     (λ rs.
-    let size : ℕ = length (encodeSteps (derivationOf rs (goal ∷ []))) in
-    rowed (isImpossible (answerOf (searchOf rs (goal ∷ [])))) 30 0 _ (omega arith)
+    let size : ℕ = length (encodeSteps (derivationOf rs goals)) in
+    rowed (isImpossible (answerOf (searchOf rs goals))) 30 0 _ (omega arith)
     (rowed (leb size (length d)) 31 0 _ (omega arith) (rowed (leb size 33554432) 31 0 _ (omega arith) (gives _))))
 
 form-numbered : (d : List ℕ) → Numbered (decodeSteps d)
@@ -133,8 +135,8 @@ run-numbered e goals n i (s ∷ ss) (running b waiting) = go (apply e goals n s 
     go (answer p) q r = rw q (r p)
     go (refused number place) q r = rw q (refuses 45 i (omega arith))
 
-pub check-numbered : (t : List ℕ) (goal : ℕ) (w d : List ℕ) → Numbered (check t goal w d)
+pub check-numbered : (t goals w d : List ℕ) → Numbered (check t goals w d)
 unfolding check checked
-check-numbered t goal w d =
-    then (asked t (goal ∷ []) 0 0 (length w)) _ (asked-numbered t (goal ∷ []) 0 0 (length w))
-    (λ rs. then (decodeSteps d) _ (form-numbered d) (λ ss. run-numbered (expand (nodesOf rs)) (goal ∷ []) (length rs) 0 ss (running root [])))
+check-numbered t goals w d =
+    then (asked t goals 0 0 (length w)) _ (asked-numbered t goals 0 0 (length w))
+    (λ rs. then (decodeSteps d) _ (form-numbered d) (λ ss. run-numbered (expand (nodesOf rs)) goals (length rs) 0 ss (running root [])))

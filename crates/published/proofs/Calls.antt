@@ -1,6 +1,6 @@
 -- What check accepts, derive's bytes among it, is a derivation of the published calculus. Assumes nothing.
 use mathlib.Core.Path.{_≡_}
-use mathlib.Core.List.{List, [], _∷_}
+use mathlib.Core.List.{List}
 use Prim.Native.Nat.{ℕ}
 use lib.ListN.{length}
 use Rattle.scope.specs.Outcome.{fine}
@@ -13,15 +13,15 @@ use Rattle.rules.specs.Derive.{checked, check}
 use Rattle.published.specs.Bytes.{PublishedBytes}
 use Rattle.published.proofs.Derivations.{accepted-derives}
 
-pub check-derives : (t : List ℕ) (goal : ℕ) (work d : List ℕ) → check t goal work d ≡ fine → PublishedBytes t goal d
+pub check-derives : (t goals work d : List ℕ) → check t goals work d ≡ fine → PublishedBytes t goals d
 unfolding check checked
-check-derives t goal work d e =
-    let x = bound (asked t (goal ∷ []) 0 0 (length work)) _ e in
+check-derives t goals work d e =
+    let x = bound (asked t goals 0 0 (length work)) _ e in
     let z = bound (decodeSteps d) _ (x .2) in
     record {
       nodes = x .0;
       steps = z .0;
-      table = asked-read t (goal ∷ []) 0 0 (length work) (x .1) .0;
+      table = asked-read t goals 0 0 (length work) (x .1) .0;
       read = z .1;
-      derivation = accepted-derives (expand (nodesOf (x .0))) (goal ∷ []) (length (x .0)) (z .0) (z .2);
+      derivation = accepted-derives (expand (nodesOf (x .0))) goals (length (x .0)) (z .0) (z .2);
     }

@@ -1,7 +1,7 @@
 -- Demand 2, 'steps are those of the published DPLL rules with expandable literals', of the bytes that check and derive are lent.
 -- Assumes nothing.
 use mathlib.Core.Path.{_≡_}
-use mathlib.Core.List.{List, [], _∷_}
+use mathlib.Core.List.{List}
 use Prim.Native.Nat.{ℕ}
 use Rattle.scope.specs.declared.Node.{Node}
 use Rattle.scope.specs.Outcome.{answer}
@@ -12,10 +12,10 @@ use Rattle.rules.specs.declared.Step.{Step}
 use Rattle.rules.specs.Steps.{decodeSteps}
 use Rattle.published.specs.Reading.{Published}
 
--- the steps in the bytes d are, rule for rule, a derivation of ∅ ⊢ goal by Fig. 3, over the expansion of the table in the bytes t
-pub record PublishedBytes (t : List ℕ) (goal : ℕ) (d : List ℕ) : Type 0 where
+-- the steps in the bytes d are, rule for rule, a derivation of ∅ ⊢ goals by Fig. 3, over the expansion of the table in the bytes t
+pub record PublishedBytes (t goals d : List ℕ) : Type 0 where
   pub nodes : List Node
   pub steps : List Step
   pub table : decode t ≡ answer nodes
   pub read : decodeSteps d ≡ answer steps
-  pub derivation : Published (expand (nodesOf nodes)) (goal ∷ []) steps
+  pub derivation : Published (expand (nodesOf nodes)) goals steps

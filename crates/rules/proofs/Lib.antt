@@ -3,3 +3,4 @@ pub mod Laws
 pub mod Sound
 pub mod Accepts
 pub mod Steps
+pub mod OneGoal

@@ -1,5 +1,5 @@
--- 01, 'Derivations' and 'Where each call says no': derive and check. Assumes nothing.
-use mathlib.Core.List.{List, [], _∷_, _++_}
+-- 01, 'Derivations', 'Where each call says no' and 'Several goals together': derive and check. Assumes nothing.
+use mathlib.Core.List.{List, [], _++_}
 use mathlib.Core.Bool.{Bool, true, false}
 use Prim.Native.Nat.{ℕ, _+_, _*_, _/_}
 use lib.Dec.{leb}
@@ -43,9 +43,9 @@ derived rs goals d =
       bytes = encodeSteps (derivationOf rs goals) ++ drop (length (encodeSteps (derivationOf rs goals))) d;
     })))
 
--- rows 10 to 17, 20, 23, 30, 31
-unfoldable pub derive : List ℕ → ℕ → List ℕ → List ℕ → Outcome Derived
-derive t goal work d = asked t (goal ∷ []) 0 0 (length work) >>= λ rs. derived rs (goal ∷ []) d
+-- rows 10 to 17, 62, 20, 23, 30, 31
+unfoldable pub derive : List ℕ → List ℕ → List ℕ → List ℕ → Outcome Derived
+derive t goals work d = asked t goals 0 0 (length work) >>= λ rs. derived rs goals d
 
 -- the derivation bytes after a call: a refusal changes none
 abbrev pub derivedAfter : List ℕ → Outcome Derived → List ℕ
@@ -56,6 +56,6 @@ derivedAfter d (refused number place) = d
 unfoldable pub checked : List Node → List ℕ → List ℕ → Outcome (Unit {0})
 checked rs goals d = decodeSteps d >>= accepts (expand (nodesOf rs)) goals (length rs)
 
--- 'Check accepts exactly when none of its refusals applies': rows 10 to 17, 20, 23, then these
-unfoldable pub check : List ℕ → ℕ → List ℕ → List ℕ → Outcome (Unit {0})
-check t goal work d = asked t (goal ∷ []) 0 0 (length work) >>= λ rs. checked rs (goal ∷ []) d
+-- 'Check accepts exactly when none of its refusals applies': rows 10 to 17, 62, 20, 23, then these
+unfoldable pub check : List ℕ → List ℕ → List ℕ → List ℕ → Outcome (Unit {0})
+check t goals work d = asked t goals 0 0 (length work) >>= λ rs. checked rs goals d

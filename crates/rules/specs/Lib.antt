@@ -3,3 +3,4 @@ pub mod Steps
 pub mod Rules
 pub mod Derivation
 pub mod Derive
+pub mod OneGoal

@@ -81,10 +81,10 @@ module _ (goal : ℕ) (inside : ltb goal 20 ≡ true) where
   asks : (needed points area : ℕ) → needed ≤ points → 32768 ≤ area → asked tableA (goal ∷ []) needed points area ≡ answer nodesA
   asks needed points area long work =
       asked-fine tableA (goal ∷ []) needed points area reads
-      (record { below = (ltb-true goal (2 * length nodesA) goal-ok, tt); settings = long; work = work })
+      (record { some = omega arith; most = omega arith; below = (ltb-true goal (2 * length nodesA) goal-ok, tt); settings = long; work = work })
 
   decides : (s w : List ℕ) → 1024 ≤ length s → 32768 ≤ length w
-      → decide tableA goal s w ≡ answer (record { verdict = searchA goal; settings = settingsOn nodesA s (searchA goal) })
+      → decide tableA (goal ∷ []) s w ≡ answer (record { verdict = searchA goal; settings = settingsOn nodesA s (searchA goal) })
   unfolding decide
   decides s w long area = rw (asks 1024 (length s) (length w) long area)
 
@@ -104,7 +104,7 @@ module _ (goal : ℕ) (inside : ltb goal 20 ≡ true) where
     block : length (encodeSteps ss) ≡ 512
     block = omega (arith, length-encode-steps ss, sized)
 
-    checks : (w : List ℕ) → 32768 ≤ length w → check tableA goal w (encodeSteps ss) ≡ rulesA goal ss
+    checks : (w : List ℕ) → 32768 ≤ length w → check tableA (goal ∷ []) w (encodeSteps ss) ≡ rulesA goal ss
     unfolding check taken nodesA
     checks w area =
         let each : All (λ s. stepOk s ≡ true) ss = every-all stepOk ss (sized .2) in

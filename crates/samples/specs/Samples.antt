@@ -83,17 +83,17 @@ Finds p q (answer d) = (G : List ℕ) × (d .verdict ≡ found G) × (getD (d .s
 -- the work area and the other buffers are any that are long enough
 pub record Derived (goal : ℕ) (ss : List Step) : Type 0 where
   pub verdict : (s w : List ℕ) → 1024 ≤ length s → 32768 ≤ length w
-      → decide tableA goal s w ≡ answer (record { verdict = impossible; settings = s })
+      → decide tableA (goal ∷ []) s w ≡ answer (record { verdict = impossible; settings = s })
   pub derivation : (w d : List ℕ) → 32768 ≤ length w → 512 ≤ length d
-      → derive tableA goal w d ≡ answer (record { steps = length ss; bytes = encodeSteps ss ++ drop 512 d })
-  pub accepted : (w : List ℕ) → 32768 ≤ length w → check tableA goal w (encodeSteps ss) ≡ fine
+      → derive tableA (goal ∷ []) w d ≡ answer (record { steps = length ss; bytes = encodeSteps ss ++ drop 512 d })
+  pub accepted : (w : List ℕ) → 32768 ≤ length w → check tableA (goal ∷ []) w (encodeSteps ss) ≡ fine
 
 -- what a row claims
 abbrev pub Holds : Sample → Type 0
 Holds (alone x sum) = (length (encode (x ∷ [])) ≡ 512) × (wordAt (encode (x ∷ [])) 510 ≡ sum)
-Holds (possible goal p q) = (s w : List ℕ) → 1024 ≤ length s → 32768 ≤ length w → Finds p q (decide tableA goal s w)
+Holds (possible goal p q) = (s w : List ℕ) → 1024 ≤ length s → 32768 ≤ length w → Finds p q (decide tableA (goal ∷ []) s w)
 Holds (derived goal ss) = Derived goal ss
-Holds (checked goal ss number place) = (w : List ℕ) → 32768 ≤ length w → check tableA goal w (encodeSteps ss) ≡ refused number place
+Holds (checked goal ss number place) = (w : List ℕ) → 32768 ≤ length w → check tableA (goal ∷ []) w (encodeSteps ss) ≡ refused number place
 Holds (mayRead bytes) = (t : List ℕ) × (rs : List Node) × (length t ≡ bytes) × (decode t ≡ answer rs)
 Holds (tooLong bytes number) = (t : List ℕ) → length t ≡ bytes → decode t ≡ refused number 0
 Holds (pointReads p) = decode (encode (ATOM p ∷ [])) ≡ answer (ATOM p ∷ [])

@@ -55,7 +55,7 @@ returns-3 c =
     let k = c .before .before .before .before .before .before .before in
     let s = k .before .before .before .before .before .before in
     asks-some _ _ _ _ _ _ _
-    (prepares _ (answered k) (bytes s) _ (search needs) (c .before .before .build .ensures) _ _ _ _ (s .before .pre .0)
+    (prepares _ (answered k) (bytes s) _ (search needs) (c .before .before .build .ensures) _ _ _ _
     (rows-met _ _ _ _ _ (sym (c .before .before .before .before .before .before .rows .ensures) ∙ ap verdictOf (c .before .before .before .before .enum-told .given .1))))
 
 pub ask-spec : {M : Type 1} → statement M

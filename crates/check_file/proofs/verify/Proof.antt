@@ -35,7 +35,7 @@ same-length c = search needs
 returns : tie.Need-returns
 unfolding ascii
 returns c =
-    let args = c .before .before .before .before .before .before .before .before .before .before .before .before .before .args in
+    let args = c .before .before .before .before .before .before .before .before .before .before .before .before .before .before .args in
     let k = c .before .before .before .before .before .before .before .before .check in
     λ w area.
     subst (λ (s : List ℕ). Put (args .out .now) 0 s (c .before .before .put .last .0) (c .before .before .put .result))
@@ -46,7 +46,7 @@ same-length-2 c = search needs
 
 returns-2 : tie.Need-returns-2
 returns-2 c =
-    let args = c .before .before .before .before .before .before .before .before .before .before .before .before .before .args in
+    let args = c .before .before .before .before .before .before .before .before .before .before .before .before .before .before .args in
     let k = c .before .before .before .before .before .before .before .before .check in
     λ w area.
     subst (λ (s : List ℕ). Put (args .out .now) 0 s (c .before .before .refused .last .0) (c .before .before .refused .result))

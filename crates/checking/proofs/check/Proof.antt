@@ -10,14 +10,8 @@ use Rattle.checking.proofs.check.Tie as tie
 bytes : (c : tie.After-shared-slice-known) → Bytes (c .before .args .t .now)
 bytes c i = c .shared-slice-known .given i .fits
 
-literal-requires : tie.Need-literal-requires
-literal-requires c κs = search needs
-
 slice-aggregate-ask : tie.Need-slice-aggregate-ask
 slice-aggregate-ask c = search needs
-
-slice-aggregate-ask-2 : tie.Need-slice-aggregate-ask-2
-slice-aggregate-ask-2 c = search needs
 
 ask-requires : tie.Need-ask-requires
 ask-requires c κs = search needs
@@ -31,41 +25,33 @@ enum-known-a-2 c = search needs
 slice-aggregate-replayed : tie.Need-slice-aggregate-replayed
 slice-aggregate-replayed c = search needs
 
-slice-aggregate-replayed-2 : tie.Need-slice-aggregate-replayed-2
-slice-aggregate-replayed-2 c = search needs
-
 replayed-requires : tie.Need-replayed-requires
 replayed-requires c κs =
-    let p = c .before .before .before .before .before .before .before .ask .ensures .prepared _ (c .before .before .before .before .a2 .given .1) in
+    let p = c .before .before .before .before .before .before .ask .ensures .prepared _ (c .before .before .before .a2 .given .1) in
     (p .indexed, (p .literals, p .admitted .work))
 
 returns : tie.Need-returns
 returns c =
     let k = c .before .before .before .before in
-    refuses _ _ _ _ (bytes (k .before .before .before .before .before .before)) (k .before .before .before .literal .ensures) _ (ask-refused _ _ _ _ _ _ (k .ask .ensures) (c .before .a .given .1))
+    refuses _ _ _ _ (bytes (k .before .before .before .before .before)) _ (ask-refused _ _ _ _ _ _ (k .ask .ensures) (c .before .a .given .1))
 
 same-length : tie.Need-same-length
 same-length c = search needs
 
 returns-2 : tie.Need-returns-2
 returns-2 c =
-    let k = c .before .before .before .before .before .before .before .before .before .before in
-    ends _ _ _ _ (bytes (k .before .before .before .before .before .before)) (k .before .before .before .literal .ensures)
-    (k .ask .ensures .prepared _ (c .before .before .before .before .before .before .before .a2 .given .1)) _
-    (c .before .before .replayed .ensures)
+    let k = c .before .before .before .before .before .before .before .before .before in
+    ends _ _ _ _ (bytes (k .before .before .before .before .before)) (k .ask .ensures .prepared _ (c .before .before .before .before .before .before .a2 .given .1)) _ (c .before .before .replayed .ensures)
 
 pub check-spec : {M : Type 1} → statement M
 check-spec =
     tie.close
     (tie.spec
-    literal-requires
     slice-aggregate-ask
-    slice-aggregate-ask-2
     ask-requires
     enum-known-a
     enum-known-a-2
     slice-aggregate-replayed
-    slice-aggregate-replayed-2
     replayed-requires
     returns
     same-length

@@ -4,19 +4,26 @@ use Rattle.listing.proofs.Words.{judged}
 use Rattle.listing.proofs.verdict.Statement.{statement}
 use Rattle.listing.proofs.verdict.Tie as tie
 
+literal-requires : tie.Need-literal-requires
+literal-requires c κs = search needs
+
 slice-aggregate-decide : tie.Need-slice-aggregate-decide
 slice-aggregate-decide c = search needs
 
 slice-aggregate-decide-2 : tie.Need-slice-aggregate-decide-2
 slice-aggregate-decide-2 c = search needs
 
+slice-aggregate-decide-3 : tie.Need-slice-aggregate-decide-3
+slice-aggregate-decide-3 c = search needs
+
 decide-requires : tie.Need-decide-requires
 decide-requires c κs = search needs
 
 returns : tie.Need-returns
 returns c =
-    judged _ _ _ _ (c .before .before .decide .result) (search needs) (search needs) (c .before .before .decide .ensures .answered)
+    judged _ (c .before .before .before .before .before .before .literal .ensures) _ _ (c .before .before .decide .result) (search needs) (search needs) (c .before .before .decide .ensures .answered)
 
 pub verdict-spec : {M : Type 1} → statement M
 verdict-spec =
-    tie.close (tie.spec slice-aggregate-decide slice-aggregate-decide-2 decide-requires returns)
+    tie.close
+    (tie.spec literal-requires slice-aggregate-decide slice-aggregate-decide-2 slice-aggregate-decide-3 decide-requires returns)
