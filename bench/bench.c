@@ -261,12 +261,18 @@ static void searches(void)
     }
 }
 
-/* Not among those that count: a node with 2,013 parents, which are all looked at whenever it joins or leaves. */
+/* Not among those that count: a node with 2,013 parents, which are all looked at whenever it joins or leaves; and long stretches of met
+ * clauses, which a split looks through. */
 static void wide(void)
 {
     deepest(&now);
     times t = measure(decide, &now, "decide");
     report(&now, "(decide)", t, (double)ps.moves, "moves");
+    for (unsigned n = 0; n <= 100; n = n ? 2 * n : 25) {
+        stretches(&now, n);
+        t = measure(decide, &now, "decide");
+        report(&now, "(decide)", t, (double)ps.moves, "moves");
+    }
 }
 
 #ifdef HAVE_DERIVE

@@ -169,6 +169,22 @@ static void random_list(a_case *c, unsigned n, unsigned seed, size_t goals)
 
 static void random_clauses(a_case *c, unsigned n, unsigned seed) { random_list(c, n, seed, 1); }
 
+/* Nine choices that have no part in the clash, each behind a stretch of n points whose clauses are met: what looking for an open clause costs. */
+static void stretches(a_case *c, unsigned n)
+{
+    enum { CHOICES = 9 };
+    unsigned p = 0, u = atom(1000), v = atom(1001), all = none;
+    for (unsigned i = 0; i < 4; i++)
+        all = chain(AND, all, node(OR, u ^ (i & 1), v ^ (i >> 1)));
+    for (unsigned k = 0; k < CHOICES; k++) {
+        for (unsigned i = 0; i < n; i++)
+            all = chain(AND, all, atom(p++));
+        unsigned left = atom(p++), right = atom(p++);
+        all = chain(AND, all, node(OR, left, right));
+    }
+    write_case(c, "stretches", n, all);
+}
+
 /* A table of so many nodes whose goals are all decided quickly: 96 points, then operations mostly of nodes far back. */
 static void easy(a_case *c, unsigned n, unsigned seed)
 {

@@ -1,4 +1,5 @@
-/* evaluate TABLE LITERAL [POINT ..]: the truth of a literal of a table file, where the points named are yes and all others no. */
+/* evaluate TABLE LITERAL [POINT ..]: the truth of a literal of a table file, where the points named are yes, those
+ * with a ? behind them may go either way, and all others are no. */
 #include "../include/bevaridhom.h"
 #include <stdio.h>
 #include <stdlib.h>
@@ -12,20 +13,26 @@ int main(int argc, char **argv)
         return 2;
     }
     size_t len = fread(table, 1, sizeof table, file);
+    if (ferror(file)) {
+        perror(argv[1]);
+        return 2;
+    }
     fclose(file);
     for (int i = 3; i < argc; i++) {
-        unsigned long point = strtoul(argv[i], NULL, 10);
+        char *end;
+        unsigned long point = strtoul(argv[i], &end, 10);
         if (point >= BEV_POINTS) {
             fprintf(stderr, "points are 0 to %d\n", BEV_POINTS - 1);
             return 2;
         }
-        settings[point] = 1;
+        settings[point] = *end == '?' ? 2 : 1;
     }
     bev_truth v = bev_evaluate(table, len, strtoul(argv[2], NULL, 10), settings, sizeof settings);
     if (v.number) {
         printf("refused %u at %zu\n", v.number, v.place);
         return 1;
     }
-    printf("%s\n", v.truth ? "yes" : "no");
-    return 0;
+    static const char *const truths[] = { "no", "yes", "unknown" };
+    puts(truths[v.truth]);
+    return fflush(stdout) ? 2 : 0;
 }

@@ -18,15 +18,20 @@ static uint16_t add(uint8_t kind, uint16_t a, uint16_t b)
     return (uint16_t)v.literal;
 }
 
+static const char *word(bev_decided d)
+{
+    return d.number ? "refused" : d.possible ? "possible" : "impossible";
+}
+
 int main(void)
 {
     uint16_t storm = add(BEV_ATOM, 0, 0), go_around = add(BEV_ATOM, 1, 0);
     uint16_t rule = add(BEV_IMP, storm, go_around);                 /* a storm implies a go-around */
     uint16_t goals[] = { rule, storm, (uint16_t)(go_around + 1) };  /* the rule, and a storm; and no go-around */
     bev_decided d = bev_decide(table, used, goals, 2, settings, sizeof settings, work, BEV_WORK);
-    printf("%s: storm %d, go-around %d\n", d.possible ? "possible" : "impossible", settings[0], settings[1]);
+    printf("%s: storm %d, go-around %d\n", word(d), settings[0], settings[1]);
     d = bev_decide(table, used, goals, 3, settings, sizeof settings, work, BEV_WORK);
-    printf("%s\n", d.possible ? "possible" : "impossible");
+    puts(word(d));
     bev_derived steps = bev_derive(table, used, goals, 3, work, BEV_WORK, derivation, sizeof derivation);
     for (size_t k = 0; k < steps.steps; k++) {
         bev_stepped s = bev_step(derivation, sizeof derivation, k);

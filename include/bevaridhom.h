@@ -10,8 +10,8 @@
  * Areas. An area that a call may write (buffer, settings, work, derivation of bev_derive) must not overlap another area of the same
  * call. NULL is fine where the length is 0. A work area and a list of goals are aligned as uint16_t.
  *
- * Goals. A list of goals is 1 to BEV_GOALS literals of the table; the same one may stand in it again, and so may its negation. The goals
- * are possible where one setting makes all of them true, else impossible. Clause 0 is that of the first goal, clause 1 that of the
+ * Goals. A list of goals is 1 to BEV_GOALS literals of the table; the same one may stand in it again, and so may its negation. A literal
+ * of a table is below 4,032; a larger number must not be cut to 16 bits: hand on UINT16_MAX, which row 20 refuses. The goals are possible where one setting makes all of them true, else impossible. Clause 0 is that of the first goal, clause 1 that of the
  * second, and so on; the other clauses follow. Row 62 is tested just before row 20: 62 the list is empty or has over BEV_GOALS; 20 a goal
  * is not below 2 x nodes, and place is the index, from 0, of the first such goal in the list.
  *
@@ -64,7 +64,7 @@ bev_counted bev_count(const uint8_t *table, size_t table_len);
 bev_node bev_record(const uint8_t *table, size_t table_len, size_t literal);
 
 /* The truth (0 no, 1 yes, 2 unknown) of a literal under the first 1,024 settings bytes, by strong Kleene tables: a yes or no holds for
- * every way of filling the 2s, and where no byte is 2 nothing is unknown. Later bytes are not read. Refusals: 10 to 17, 20 at
+ * every way of filling the 2s, and where no byte is 2 nothing is unknown. Compare with 1: 2 is not 0 either. Later bytes are not read. Refusals: 10 to 17, 20 at
  * place 0, 21, 22 a byte above 2, at the point. */
 bev_truth bev_evaluate(const uint8_t *table, size_t table_len, size_t literal, const uint8_t *settings, size_t settings_len);
 
@@ -73,7 +73,8 @@ bev_truth bev_evaluate(const uint8_t *table, size_t table_len, size_t literal, c
 bev_added bev_add(uint8_t *buffer, size_t buffer_len, size_t used, const uint8_t record[BEV_RECORD]);
 
 /* Whether one setting makes every goal true (1 possible, 0 impossible); if so the first 1,024 settings bytes become the setting that
- * the solver's order ends on, with 2 for each point that may go either way: bev_evaluate says yes of each goal. Needs a work area of
+ * the solver's order ends on, with 2 for each point that it leaves open, those that the table does not name among them: bev_evaluate
+ * says yes of each goal, and so it does for every way of filling the 2s with 0 and 1. Else the settings stay. Needs a work area of
  * BEV_WORK numbers; every refusal leaves it as it was. Refusals: 10 to 17, 62, 20, 21, 23. */
 bev_decided bev_decide(const uint8_t *table, size_t table_len, const uint16_t *goals, size_t goals_len, uint8_t *settings, size_t settings_len,
                        uint16_t *work, size_t work_len);

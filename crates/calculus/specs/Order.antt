@@ -100,7 +100,7 @@ moveOf ss =
     (Split (literalAt ss (firstOf isMany ss)))))
 
 module _ (expand : ℕ → List (List ℕ)) (goals : List ℕ) where
-  -- 'The clause list is {goal}, then the expansions of G's literals in the order they joined; clauses number from 0.'
+  -- 'The starting clauses are one per goal, in list order, numbered from 0', then 'the expansions of G's literals in the order they joined'
   unfoldable pub clauses : List ℕ → List (List ℕ)
   clauses [] = map (_∷ []) goals
   clauses (l ∷ G) = clauses G ++ expand l

@@ -14,7 +14,7 @@ use Rattle.rules.specs.Steps.{encodeSteps, decodeSteps}
 use Rattle.rules.specs.Rules.{accepts}
 use Rattle.rules.specs.Derivation.{stepsOf}
 
--- 'A goal called impossible has one derivation in the solver's order'
+-- 'A goal called impossible has one derivation in the solver's order', and so has a list of goals
 abbrev pub derivationOf : List Node → List ℕ → List Step
 derivationOf rs goals = stepsOf (expand (nodesOf rs)) goals [] (searchOf rs goals)
 
@@ -32,7 +32,7 @@ pub record Derived : Type 0 where
 abbrev pub blocks : ℕ → List ℕ → List ℕ
 blocks k d = take (512 * ((k + 125) / 126)) d
 
--- what derive answers of the nodes of a table; 30: 'goal possible'; 31: 'more bytes needed than lent or than 65,536 blocks'
+-- what derive answers of the nodes of a table; 30: 'goal possible', here all of them together; 31: 'more bytes needed than lent or than 65,536 blocks'
 unfoldable pub derived : List Node → List ℕ → List ℕ → Outcome Derived
 derived rs goals d =
     require (isImpossible (answerOf (searchOf rs goals))) 30 0
