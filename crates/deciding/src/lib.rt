@@ -63,16 +63,14 @@ fn set_points(x: &[u16], n: usize, work: &[u16], settings: &mut [u8])
     }
 }
 
-// The search of goals over an index, from the start: whether there is a model; if so, the settings become its own.
+// The goals put to an index: whether there is a model; if so, the settings become its own.
 fn solve(x: &[u16], n: usize, goals: &[u16], settings: &mut [u8], work: &mut [u16]) -> Decided
     requires { ⌜ Indexed (now x) n ⌝ }
     requires { ⌜ Goals n (now goals) ⌝ }
     requires { ⌜ Room (now x) n (now settings) (now work) ⌝ }
     ensures { λ r. ⌜ Solved (indexNode (now (x .entry))) n (now (goals .entry)) (now (settings .entry)) (now (settings .exit)) r ⌝ }
 {
-    let mut masks = [0u64; 33];
-    solver::start(x, n, goals, work, &mut masks);
-    let found = searching::search(x, n, goals, work, &mut masks);
+    let found = searching::solve(x, n, goals, work);
     match found {
         Found::Closed => Decided::Impossible,
         Found::Model => {

@@ -1,14 +1,14 @@
 -- What the search's functions leave of the work area and its sets: the literals held, and what the search from them ends on.
 -- Assumes nothing.
 use mathlib.Core.Path.{_≡_}
-use mathlib.Core.List.{List}
+use mathlib.Core.List.{List, []}
 use Prim.Native.Nat.{ℕ, _-_, _≤_}
 use lib.ListN.{length, drop}
 use Rattle.scope.specs.declared.Node.{Node}
 use Rattle.calculus.specs.Expansion.{expand}
 use Rattle.calculus.specs.Order.{move, tree, Answer, possible, impossible, answerOf}
 use Rattle.calculus.specs.declared.Move.the-variants.{Split}
-use Rattle.state.specs.Work.{gOf}
+use Rattle.state.specs.Work.{gOf, Ready}
 use Rattle.state.specs.Holds.{Holds}
 use Rattle.searching.specs.declared.Stop.{Stop}
 use Rattle.searching.specs.declared.Stop.the-variants.{Closed as Shut, Model as Open, Fork}
@@ -43,3 +43,8 @@ pub record Searched (t : ℕ → Node) (n : ℕ) (goals w w′ m′ : List ℕ) 
   pub holds : Holds t n goals w′ m′
   pub grows : Extends (gOf w) (gOf w′)
   pub answered : foundOf r (gOf w′) ≡ result t n goals (gOf w)
+
+-- the goals were put from the start, with nothing held: the answer of the whole tree, with the final literals where there is a model
+pub record Solved (t : ℕ → Node) (n : ℕ) (goals w′ : List ℕ) (r : Found) : Type 0 where
+  pub ready : Ready n w′
+  pub answered : foundOf r (gOf w′) ≡ answerOf (tree (expand t) goals n [])

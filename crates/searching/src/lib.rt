@@ -1,11 +1,14 @@
 // The search: recursive, a call for each branch of a split, so the number of undecided nodes falls at each call. The work area is carried
 // along, and taken back to a split before its right branch.
 use calculus::Move;
+ghost use Prim.Native.Nat.{_≤_};
+ghost use lib.ListN.{length};
 ghost use Rattle.calculus.specs.Model.{Goals};
 ghost use Rattle.index.specs.Index.{indexNode};
 ghost use Rattle.index.specs.Indexed.{Indexed};
+ghost use Rattle.state.specs.Work.{area};
 ghost use Rattle.state.specs.Holds.{Holds};
-ghost use Rattle.searching.specs.Search.{Settled, Searched};
+ghost use Rattle.searching.specs.Search.{Settled, Searched, Solved};
 
 // Where the units end: at a conflict, at a model, or at a split on a literal.
 pub enum Stop {
@@ -72,4 +75,16 @@ pub fn search(x: &[u16], n: usize, goals: &[u16], work: &mut [u16], masks: &mut 
             }
         }
     }
+}
+
+// A question put from the start: whether the goals have a model, which the work area then holds.
+pub fn solve(x: &[u16], n: usize, goals: &[u16], work: &mut [u16]) -> Found
+    requires { ⌜ Indexed (now x) n ⌝ }
+    requires { ⌜ Goals n (now goals) ⌝ }
+    requires { ⌜ area ≤ length (now work) ⌝ }
+    ensures { λ r. ⌜ Solved (indexNode (now (x .entry))) n (now (goals .entry)) (now (work .exit)) r ⌝ }
+{
+    let mut masks = [0u64; 33];
+    solver::start(x, n, goals, work, &mut masks);
+    search(x, n, goals, work, &mut masks)
 }
