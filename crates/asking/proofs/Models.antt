@@ -173,15 +173,13 @@ module _ (rs : List Node) (G : List ℕ) where
   no-byte : (p : ℕ) → getD all-no p 0 ≡ getD (settingOf rs G) p 0 % 2
   no-byte p = List·getD-map (_% 2) (settingOf rs G) p 0
 
-  no-fills : Fills (settingOf rs G ++ []) all-no
-  no-fills p h k =
-      let e : getD (settingOf rs G ++ []) p 0 ≡ getD (settingOf rs G) p 0 = ap (λ (s : List ℕ). getD s p 0) (append-nil (settingOf rs G)) in
-      omega (arith, no-byte p, setting-small rs G p, e, k)
+  pub no-fills : Fills (settingOf rs G) all-no
+  no-fills p h k = omega (arith, no-byte p, setting-small rs G p, k)
 
-  no-two : NoTwo all-no
+  pub no-two : NoTwo all-no
   no-two p h k = omega (arith, no-byte p)
 
-  no-taken : settingsTest all-no ≡ fine
+  pub no-taken : settingsTest all-no ≡ fine
   no-taken = taken all-no (omega (arith, length-map (settingOf rs G) (_% 2), setting-length rs G)) (λ p h. omega (arith, no-byte p))
 
 module _ (t : List ℕ) (rs : List Node) (all : Bytes t) (e : decode t ≡ answer rs) where
@@ -218,14 +216,17 @@ module _ (t : List ℕ) (rs : List Node) (all : Bytes t) (e : decode t ≡ answe
       pub setting-yes : (rest : List ℕ) → All (λ g. evaluate t g (settingOf rs G ++ rest) ≡ answer Yes) goals
       setting-yes rest = evaluates (settingOf rs G ++ rest) (setting-taken rs G rest) (made-yes t rs all e goals B q rest)
 
-      pub setting-satisfies : Satisfies t goals (all-no rs G)
-      setting-satisfies = (
-        no-two rs G,
-        evaluates (all-no rs G) (no-taken rs G)
-            (all-imply (λ g. truth (all-no rs G) rs g ≡ true) (λ g. truth₃ (all-no rs G) rs g ≡ Yes)
-            (λ g z. two-valued (all-no rs G) rs g (no-two rs G) (points-of t rs all e) ∙ ap sure z) goals
-            (filled-true t rs all e goals B q [] (all-no rs G) (no-fills rs G))),
+      -- every way of filling its 2s makes all goals true
+      pub filling-satisfies : (f : List ℕ) → Fills (settingOf rs G) f → NoTwo f → settingsTest f ≡ fine → Satisfies t goals f
+      filling-satisfies f fills two ok = (
+        two,
+        evaluates f ok
+            (all-imply (λ g. truth f rs g ≡ true) (λ g. truth₃ f rs g ≡ Yes) (λ g z. two-valued f rs g two (points-of t rs all e) ∙ ap sure z) goals
+            (filled-true t rs all e goals B q [] f (rw (append-nil (settingOf rs G)) fills))),
       )
+
+      pub setting-satisfies : Satisfies t goals (all-no rs G)
+      setting-satisfies = filling-satisfies (all-no rs G) (no-fills rs G) (no-two rs G) (no-taken rs G)
 
     -- impossible exactly when no setting makes all goals true
     pub search-exact : (answerOf (searchOf rs goals) ≡ impossible) ⇔ Unsatisfiable t goals
