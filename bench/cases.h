@@ -186,7 +186,7 @@ static void stretches(a_case *c, unsigned n)
 }
 
 /* A table of so many nodes whose goals are all decided quickly: 96 points, then operations mostly of nodes far back. */
-static void easy(a_case *c, unsigned n, unsigned seed)
+static void easy_nodes(unsigned n, unsigned seed)
 {
     b_seed = 88172645463325252u + seed * 104729;
     for (unsigned i = 0; i < 96; i++)
@@ -198,7 +198,36 @@ static void easy(a_case *c, unsigned n, unsigned seed)
         if (x != y)
             node(kind, 2 * x + pick(2), 2 * y + pick(2));
     }
+}
+
+static void easy(a_case *c, unsigned n, unsigned seed)
+{
+    easy_nodes(n, seed);
     write_case(c, "easy", n, 2 * (n - 1));
+}
+
+/* The same with a list of 64 goals that are impossible together: any literals; or 63 points and, among them, that not all are yes, which
+ * are all needed. */
+static void clashing(a_case *c, unsigned n, unsigned seed)
+{
+    p_list all = { P_GOALS, { 0 } };
+    easy_nodes(n, seed);
+    for (size_t i = 0; i < P_GOALS; i++)
+        all.goal[i] = (uint16_t)pick(2 * n);
+    write_list(c, "any goals", seed, all);
+}
+
+static void all_needed(a_case *c, unsigned n)
+{
+    p_list all = { P_GOALS, { 0 } };
+    unsigned both = none;
+    for (unsigned i = 0; i < P_GOALS - 1; i++) {
+        all.goal[i < 30 ? i : i + 1] = (uint16_t)atom(i);
+        both = chain(AND, both, atom(i));
+    }
+    all.goal[30] = (uint16_t)no(both);
+    easy_nodes(n, 1);
+    write_list(c, "all needed", n, all);
 }
 
 /* TRUE, a point, AND(not TRUE, point), then IMP(not previous, not TRUE): over 2,000 nested splits. */

@@ -402,12 +402,17 @@ static inline void p_steps(p_sink *s, unsigned rule, unsigned place)
     p_step(s, rule, 0, k);
 }
 
-static void p_start(const p_list *g)
+/* The nodes up to the highest goal's. */
+static size_t p_nodes(const p_list *g)
 {
     size_t nodes = 0;
     for (size_t i = 0; i < g->count; i++)
         nodes = g->goal[i] / 2u >= nodes ? g->goal[i] / 2u + 1 : nodes;
-    p_link(nodes);
+    return nodes;
+}
+
+static void p_start(const p_list *g, size_t nodes)
+{
     memset(ps.value, 0, 2 * nodes);
     ps.value[P_TRUE] = 1;
     ps.value[P_FALSE] = 2;
@@ -450,11 +455,11 @@ static inline int p_join_goals(const p_list *g, p_sink *steps, uint64_t *moves)
     return 1;
 }
 
-/* The search of a list of goals from nothing: 1 possible, 0 impossible. */
-static inline int p_search(const p_list *g, p_sink *steps)
+/* The search of a list of goals from nothing, over nodes that are linked: 1 possible, 0 impossible. */
+static inline int p_put(const p_list *g, size_t nodes, p_sink *steps)
 {
     uint64_t moves = 0;
-    p_start(g);
+    p_start(g, nodes);
     if (!p_join_goals(g, steps, &moves)) {
         ps.moves = moves + 1;
         return 0;
@@ -486,6 +491,13 @@ static inline int p_search(const p_list *g, p_sink *steps)
     return !ps.summary[P_CONFLICT];
 }
 
+static inline int p_search(const p_list *g, p_sink *steps)
+{
+    size_t nodes = p_nodes(g);
+    p_link(nodes);
+    return p_put(g, nodes, steps);
+}
+
 /* The table's rows, then rows 62 and 20. */
 static p_refusal p_asked(const uint8_t *t, size_t len, const p_list *g)
 {
@@ -515,6 +527,39 @@ static int p_decide(const uint8_t *t, size_t len, const p_list *g, uint8_t *sett
             settings[r >> 16 & 65535] = ps.trail[q] % 2 == 0;
     }
     return 1;
+}
+
+/* Clash: how many indices are kept, or the refusal; the moves are those of all questions. The nodes are linked once. */
+static size_t p_clash(const uint8_t *t, size_t len, const p_list *g, uint8_t kept[P_GOALS], p_refusal *no)
+{
+    memset(kept, 0, P_GOALS);
+    *no = p_asked(t, len, g);
+    if (no->number)
+        return 0;
+    size_t nodes = p_nodes(g);
+    p_list left = *g;
+    p_link(nodes);
+    int possible = p_put(g, nodes, NULL);
+    uint64_t moves = ps.moves;
+    for (size_t i = 0; i < left.count; i++)
+        kept[i] = (uint8_t)i;
+    for (size_t at = g->count; at-- > 0 && !possible;) {
+        size_t behind = --left.count - at;
+        memmove(left.goal + at, left.goal + at + 1, sizeof left.goal[0] * behind);
+        int needed = p_put(&left, nodes, NULL);
+        moves += ps.moves;
+        if (needed) {
+            memmove(left.goal + at + 1, left.goal + at, sizeof left.goal[0] * behind);
+            left.goal[at] = g->goal[at];
+            left.count++;
+        } else {
+            memmove(kept + at, kept + at + 1, behind);
+            kept[left.count] = 0;
+        }
+    }
+    ps.moves = moves;
+    *no = p_no(possible ? 63 : 0, 0);
+    return possible ? 0 : left.count;
 }
 
 /* Derive: the step count, or the refusal; a first search counts. */

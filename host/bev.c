@@ -40,6 +40,11 @@ static const struct command commands[] = {
       "A list has 1 to 64 goals, which are literals; the same one may stand in it again.\n"
       "  --out FILE   the setting as 1,024 bytes, for eval; written where the goals are possible\n",
       run_decide, 2, INT_MAX, TAKES_OUT },
+    { "clash", "TABLE GOAL..", "of impossible goals, the few to argue about",
+      "Walks the list from last to first and drops a goal if the others left are still impossible together. Prints\n"
+      "a line for each goal kept: its index in the list, from 0, its literal, and what it says. They are impossible\n"
+      "together, and without any one of them the others are possible. Goals that are possible: refused 63.\n",
+      run_clash, 2, INT_MAX, 0 },
     { "derive", "TABLE GOAL.. -o FILE", "writes the derivation of impossible goals",
       "Prints the number of steps. Goals that one setting makes true have none: refused 30.\n",
       run_derive, 2, INT_MAX, TAKES_OUT },

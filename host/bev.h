@@ -76,6 +76,11 @@ void print_record(const bev_node *n);
 const char *parse_record(const char *text, uint8_t record[BEV_RECORD]);
 bool parse_number(const char *text, size_t *number);
 
+/* ---- show.c ---- */
+
+/* What a node says, in words of its operands. */
+void print_words(const struct nodes *nodes, const bev_node *n);
+
 /* ---- commands ---- */
 
 int run_list(const struct words *w);
@@ -83,6 +88,7 @@ int run_show(const struct words *w);
 int run_add(const struct words *w);
 int run_eval(const struct words *w);
 int run_decide(const struct words *w);
+int run_clash(const struct words *w);
 int run_derive(const struct words *w);
 int run_check(const struct words *w);
 int run_steps(const struct words *w);

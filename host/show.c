@@ -35,7 +35,7 @@ static void print_operand(const struct nodes *nodes, uint16_t literal)
     printf("%s%s %u", literal % 2 ? "not " : "", n->kind == BEV_ATOM ? "point" : "node", n->kind == BEV_ATOM ? n->a : literal / 2u);
 }
 
-static void print_words(const struct nodes *nodes, const bev_node *n)
+void print_words(const struct nodes *nodes, const bev_node *n)
 {
     static const char *const between[] = { [BEV_AND] = " and ", [BEV_OR] = " or ", [BEV_IMP] = " then ", [BEV_IFF] = " if and only if " };
     if (n->kind == BEV_TRUE) {

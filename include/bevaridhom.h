@@ -3,9 +3,9 @@
  * Answers. A call takes any bytes and any lengths and answers a struct by value. Its number is 0 when the call answered; otherwise it
  * is the number of the first refusal that applies, place says where (docs/REFUSALS.md), and every other value is 0.
  *
- * Bytes lent. A refusal leaves every lent byte as it was, with two exceptions. The work area is free from row 23 on: bev_derive may
- * have changed it where it answers 30 or 31, and bev_check where it answers 45, 46 or 47; a call that answers may always have. And
- * after 51 or 52 the buffer of bev_dimacs is free.
+ * Bytes lent. A refusal leaves every lent byte as it was, with two exceptions. The work area is free from row 23 on: bev_clash may have
+ * changed it where it answers 63, bev_derive where it answers 30 or 31, and bev_check where it answers 45, 46 or 47; a call that answers
+ * may always have. And after 51 or 52 the buffer of bev_dimacs is free.
  *
  * Areas. An area that a call may write (buffer, settings, work, derivation of bev_derive) must not overlap another area of the same
  * call. NULL is fine where the length is 0. A work area and a list of goals are aligned as uint16_t.
@@ -27,9 +27,10 @@
 extern "C" {
 #endif
 
-/* The version of these calls: 1.0 the base, 1.1 with bev_dimacs, 2.0 with points that may go either way, 3.0 with lists of goals. */
+/* The version of these calls: 1.0 the base, 1.1 with bev_dimacs, 2.0 with points that may go either way, 3.0 with lists of goals, 3.1
+ * with bev_clash. */
 #define BEV_VERSION_MAJOR 3
-#define BEV_VERSION_MINOR 0
+#define BEV_VERSION_MINOR 1
 
 #define BEV_POINTS 1024             /* points of a setting, a byte each: 0 no, 1 yes, 2 either way */
 #define BEV_GOALS 64                /* goals of the longest list */
@@ -51,6 +52,7 @@ typedef struct { uint16_t number; size_t place; size_t nodes; } bev_counted;
 typedef struct { uint16_t number; size_t place; uint8_t kind; uint16_t a; uint16_t b; } bev_node;
 typedef struct { uint16_t number; size_t place; uint8_t truth; } bev_truth;
 typedef struct { uint16_t number; size_t place; uint8_t possible; } bev_decided;
+typedef struct { uint16_t number; size_t place; size_t count; uint8_t kept[64]; } bev_clashed;
 typedef struct { uint16_t number; size_t place; size_t literal; size_t used; } bev_added;
 typedef struct { uint16_t number; size_t place; size_t steps; } bev_derived;
 typedef struct { uint16_t number; size_t place; } bev_checked;
@@ -78,6 +80,13 @@ bev_added bev_add(uint8_t *buffer, size_t buffer_len, size_t used, const uint8_t
  * BEV_WORK numbers; every refusal leaves it as it was. Refusals: 10 to 17, 62, 20, 21, 23. */
 bev_decided bev_decide(const uint8_t *table, size_t table_len, const uint16_t *goals, size_t goals_len, uint8_t *settings, size_t settings_len,
                        uint16_t *work, size_t work_len);
+
+/* Of goals that are impossible together, the few to argue about: the list is walked from last to first, and a goal is dropped if the others
+ * left are still impossible together. Answers how many are kept and their indices in the list, in rising order; entries past the count
+ * are 0. The goals kept are impossible together, and leaving out any single one of them makes the others possible; the empty list counts
+ * as possible. The table is read once. The work area as for bev_decide, free also after 63. Refusals: 10 to 17, 62, 20, 23, 63 the goals
+ * are possible together. */
+bev_clashed bev_clash(const uint8_t *table, size_t table_len, const uint16_t *goals, size_t goals_len, uint16_t *work, size_t work_len);
 
 /* Writes the derivation, in the solver's order, of goals that are impossible together, and answers its step count: the derivation is the
  * blocks that hold these steps, 126 in a full one; the bytes past its last block stay. The work area as for bev_decide, free also after

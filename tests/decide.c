@@ -6,19 +6,6 @@
 #include "tables.h"
 #include <pthread.h>
 
-/* Whether some choice of the first points makes every goal true. */
-static int by_truth_table(const uint8_t *t, unsigned points, const o_list *g)
-{
-    static uint8_t s[1024];
-    for (unsigned w = 0; w < 1u << points; w++) {
-        for (unsigned p = 0; p < points; p++)
-            s[p] = w >> p & 1;
-        if (o_all_true(t, s, g))
-            return 1;
-    }
-    return 0;
-}
-
 /* Whether every way of filling the 2s of the first points makes every goal true. */
 static int filled(const uint8_t *t, const uint8_t *s, unsigned points, const o_list *g)
 {

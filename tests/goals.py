@@ -1,11 +1,11 @@
-"""bev decide, derive, check and steps on made tables, with single goals and lists: the answers against truth tables by brute force, the
+"""bev decide, clash, derive, check and steps on made tables, with single goals and lists: the answers against truth tables by brute force, the
 solver's order and the derivation rules in plain Python, and every refusal that a file or a list of goals can meet."""
 import os
 import random
 import re
 
 from command import ANSWERED, IMPOSSIBLE, POSSIBLE, REFUSED, get, put
-from tables import A, ATOM, TRUE, checked, derivation, edited, expansion, full_table, parity, possible_together, search, setting_of, some_goals, some_table, table, truths
+from tables import A, AND, ATOM, IFF, IMP, OR, TRUE, checked, derivation, edited, expansion, full_table, parity, possible_together, search, setting_of, some_goals, some_table, table, truths
 
 def goal_lists(rng, records, count):
     """Each literal by itself, and so many lists."""
@@ -51,13 +51,51 @@ def deciding(bev, folder, rounds):
     put(name, table(A + [A[3]]))
     bev.refuses(17, 10, "decide", name, 99, about=f"{name}, node 10")
 
+def few(records, goals):
+    """The indices of the goals that the walk from last to first keeps, its questions put to truth tables; None where they are possible."""
+    if possible_together(records, goals):
+        return None
+    kept = list(range(len(goals)))
+    for i in reversed(range(len(goals))):
+        rest = [j for j in kept if j != i]
+        if not possible_together(records, [goals[j] for j in rest]):
+            kept = rest
+    return kept
+
+def said(records, literal):
+    """A literal in words."""
+    def operand(l):
+        kind, a, _ = records[l // 2]
+        return ("not " if l % 2 else "") + (f"point {a}" if kind == ATOM else f"node {l // 2}")
+    kind, a, b = records[literal // 2]
+    if kind == ATOM:
+        return operand(literal)
+    words = "always yes" if kind == TRUE else ("if " if kind == IMP else "") + operand(a) + {AND: " and ", OR: " or ", IMP: " then ", IFF: " if and only if "}[kind] + operand(b)
+    return f"not ({words})" if literal % 2 else words
+
+def clashing(bev, folder, rounds):
+    name, rng, sizes = os.path.join(folder, "t"), random.Random(8), set()
+    for records in [A, [(TRUE, 0, 0)], [(ATOM, 1023, 0)]] + [some_table(rng, 2 + i % 4, 10 + i) for i in range(rounds)]:
+        put(name, table(records))
+        for goals in [[0, 1], [1, 0, 1]] + [some_goals(rng, records) for _ in range(8)]:
+            kept = few(records, goals)
+            if kept is None:
+                bev.refuses(63, 0, "clash", name, *goals, about=goals[0] if len(goals) == 1 else "the goals")
+            else:
+                sizes.add(len(kept))
+                bev.answers(ANSWERED, "".join(f"{i} {goals[i]}: {said(records, goals[i])}\n" for i in kept), "clash", name, *goals)
+    assert {1, 2} <= sizes, sizes
+    put(name, table(A))
+    bev.answers(ANSWERED, "1 0: point 0\n2 1: not point 0\n", "clash", name, 6, 0, 1, 2)
+    bev.answers(ANSWERED, "1 13: not (always yes)\n", "clash", "-", 0, 13, stdin=table(A))
+
 def list_rows(bev, folder):
     """Rows 62 and 20, in each command: the table first, then the length of the list, then the first goal that is none."""
     t, d, bad = (os.path.join(folder, n) for n in "tdb")
     put(t, table(A))
     put(d, derivation(search(A, [18])[1]))
     put(bad, table(A)[:511])
-    commands = [lambda t, *g: ("decide", t, *g), lambda t, *g: ("derive", t, *g, "-o", d + "x"), lambda t, *g: ("check", t, *g, d), lambda t, *g: ("steps", d, t, *g)]
+    commands = [lambda t, *g: ("decide", t, *g), lambda t, *g: ("clash", t, *g), lambda t, *g: ("derive", t, *g, "-o", d + "x"), lambda t, *g: ("check", t, *g, d), lambda t, *g: ("steps", d, t, *g)]
     for words in commands:
         for goal in (20, 4032, 65535, 65536, 2 ** 32 + 18, 2 ** 64 - 1):
             bev.refuses(20, 0, *words(t, goal), about=f"{goal})")
@@ -270,6 +308,7 @@ def longest(bev, t, d, points):
 
 def test(bev, folder, rounds, points):
     deciding(bev, folder, rounds)
+    clashing(bev, folder, rounds)
     list_rows(bev, folder)
     evaluating(bev, folder)
     checking(bev, folder, rounds)

@@ -22,6 +22,12 @@ static void run_decide(void)
     EXPECT(bev_decide(deep, sizeof deep, goals, BEV_GOALS, settings, BEV_POINTS, work, BEV_WORK).number == 0);
 }
 
+static void run_clash(void)
+{
+    bev_clashed v = bev_clash(deep, sizeof deep, goals, BEV_GOALS, work, BEV_WORK);
+    EXPECT(v.number == 0 && v.count == 1 && v.kept[0] == 0);
+}
+
 static void run_add(void)
 {
     uint8_t r[8];
@@ -72,7 +78,7 @@ int main(void)
 {
     static const struct { const char *name; void (*call)(void); } calls[] = {
         { "count", run_count }, { "record", run_record }, { "evaluate", run_evaluate }, { "add", run_add }, { "decide", run_decide },
-        { "derive", run_derive }, { "check", run_check }, { "open", run_open }, { "dimacs", run_dimacs },
+        { "clash", run_clash }, { "derive", run_derive }, { "check", run_check }, { "open", run_open }, { "dimacs", run_dimacs },
     };
     deep_table(deep);
     for (int i = 0; i < BEV_GOALS; i++)

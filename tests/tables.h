@@ -1,4 +1,5 @@
-/* What the C tests share: counting of checks, a work area between canaries, records, random tables, the deepest table. */
+/* What the C tests share: counting of checks, a work area between canaries, records, random tables, truth tables by brute force, the deepest
+ * table. */
 #ifndef TABLES_H
 #define TABLES_H
 
@@ -111,6 +112,19 @@ static o_list any_list(size_t nodes)
     for (size_t i = 0; i < 65; i++)
         g.goal[i] = (uint16_t)(pick(rare) ? pick(2 * (unsigned)nodes) : pick(2) ? 2 * (unsigned)nodes + pick(3) : 65535 - pick(3));
     return g;
+}
+
+/* Whether some choice of the first points makes every goal true. */
+static int by_truth_table(const uint8_t *t, unsigned points, const o_list *g)
+{
+    static uint8_t s[1024];
+    for (unsigned w = 0; w < 1u << points; w++) {
+        for (unsigned p = 0; p < points; p++)
+            s[p] = w >> p & 1;
+        if (o_all_true(t, s, g))
+            return 1;
+    }
+    return 0;
 }
 
 /* TRUE, ATOM, AND(¬TRUE, ATOM), then a chain IMP(¬previous, ¬TRUE): over 2,000 nested splits, and every branch closes. */

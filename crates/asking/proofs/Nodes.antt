@@ -17,7 +17,7 @@ use Rattle.record.specs.Place.{placeOf}
 use Rattle.table.proofs.Rows.{counted, record-within}
 use Rattle.calculus.specs.Expansion.{expand}
 use Rattle.calculus.specs.Order.{tree}
-use Rattle.calculus.specs.Model.{Table}
+use Rattle.calculus.specs.Model.{Table, Below}
 use Rattle.calculus.specs.Decide.{nodesOf, searchOf, Admitted}
 use Rattle.calculus.proofs.Asked.{asked-fine}
 use Rattle.index.specs.Index.{indexSize, mostNodes, always, indexNode, Built}
@@ -81,11 +81,14 @@ module _ (t : List ℕ) {nodes : ℕ} (e : tableCount t ≡ answer nodes) where
 -- ---- what is prepared
 
 module _ {t goals : List ℕ} {needed lent area : ℕ} {x : List ℕ} {n : ℕ} (p : Prepared t goals needed lent area x n) where
-  -- the search over the index is that over the nodes
+  -- a search over the index is that over the nodes
+  pub searches-in : (ls : List ℕ) → Below n ls → tree (expand (indexNode x)) ls n [] ≡ searchOf (p .nodes) ls
+  searches-in ls b =
+      search-same n (indexNode x) (nodesOf (p .nodes)) (p .same) ls (p .indexed .table) b
+      ∙ ap (λ (k : ℕ). tree (expand (nodesOf (p .nodes))) ls k []) (sym (p .count))
+
   pub search-in : tree (expand (indexNode x)) goals n [] ≡ searchOf (p .nodes) goals
-  search-in =
-      search-same n (indexNode x) (nodesOf (p .nodes)) (p .same) goals (p .indexed .table) (p .admitted .below)
-      ∙ ap (λ (k : ℕ). tree (expand (nodesOf (p .nodes))) goals k []) (sym (p .count))
+  search-in = searches-in goals (p .admitted .below)
 
   -- the index lists the nodes
   pub listed : listFrom (indexNode x) 0 n ≡ p .nodes

@@ -1,4 +1,4 @@
--- What a host is told of decide, derive, check and the DIMACS reader, whatever case the answer is. Assumes nothing.
+-- What a host is told of decide, clash, derive, check and the DIMACS reader, whatever case the answer is. Assumes nothing.
 use mathlib.Core.Path.{_≡_, _∙_, ap, sym, refl}
 use mathlib.Core.Bool.{true}
 use mathlib.Core.List.{List, [], _∷_}
@@ -28,6 +28,9 @@ use Rattle.meaning.proofs.Numbers.{decide-numbered, derive-numbered, check-numb
 use Rattle.deciding.specs.declared.Decided.{Decided}
 use Rattle.deciding.specs.declared.Decided.the-variants.{Possible, Impossible, Refused}
 use Rattle.deciding.specs.Decides.{can, cannot, wordOf, decidedOf, Decides}
+use Rattle.clashing.specs.declared.Clashed.{Clashed}
+use Rattle.clashing.specs.Clash.{clash}
+use Rattle.clashing.specs.Clashes.{clashedOf, Clashes}
 use Rattle.rules.specs.Derive.{derive}
 use Rattle.deriving.specs.declared.Derived.{Derived}
 use Rattle.deriving.specs.declared.Derived.the-variants.{Steps, Refused as NotDerived}
@@ -41,7 +44,8 @@ use Rattle.adding.specs.Added.{addedOf}
 use Rattle.cnf.specs.Text.{File, fileOf}
 use Rattle.cnf.specs.Reader.{Means, Turns}
 use Rattle.cnfread.specs.Reads.{Reads}
-use Rattle.bevaridhom.specs.Answers.{decideAnswer, HostDecides, deriveAnswer, HostDerives, checkAnswer, HostChecks, markAnswer, Unmet, HostReads}
+use Rattle.bevaridhom.specs.declared.BevClashed.{BevClashed}
+use Rattle.bevaridhom.specs.Answers.{decideAnswer, HostDecides, clashAnswer, HostClashes, deriveAnswer, HostDerives, checkAnswer, HostChecks, markAnswer, Unmet, HostReads}
 
 -- a refusal of what is made of an answer is the answer's
 of-refused : {A B : Type 0} (x : Outcome A) (f : A → B) {number place : ℕ} → refused number place ≡ (x >>= λ a. answer (f a)) → x ≡ refused number place
@@ -88,6 +92,19 @@ module _ (t goals s w s′ w′ : List ℕ) where
         satisfied = satisfied-by d′ h;
         filled = filled-by d′ h;
       }
+
+-- ---- clash
+
+-- the answer with its fields under the names of C
+abbrev hosted : Clashed → BevClashed
+hosted r = record { number = r .number; place = r .place; count = r .count; kept = r .kept }
+
+hosted-same : (o : Outcome (List ℕ)) → hosted (clashedOf o) ≡ clashAnswer o
+hosted-same (answer is) = refl
+hosted-same (refused number place) = refl
+
+pub told-clash : (t goals w w′ : List ℕ) {r : Clashed} → Clashes t goals w w′ r → HostClashes t goals w w′ (hosted r)
+told-clash t goals w w′ h = record { answered = ap hosted (h .answered) ∙ hosted-same (clash t goals w); work = h .work; kept = h .kept; exact = h .exact }
 
 -- ---- derive
 

@@ -1,9 +1,9 @@
 -- The answers for a host in C: number 0 and the values, or the refusal's number and place and every value 0. Assumes nothing.
 use mathlib.Core.Path.{_≡_}
 use mathlib.Core.Bool.{true}
-use mathlib.Core.List.{List, [], _∷_}
-use Prim.Native.Nat.{ℕ, _≤_}
-use lib.ListN.{length, take}
+use mathlib.Core.List.{List, [], _∷_, _++_}
+use Prim.Native.Nat.{ℕ, _-_, _≤_}
+use lib.ListN.{length, take, replicate}
 use Rattle.scope.specs.declared.Node.{Node}
 use Rattle.scope.specs.declared.Truth.{Truth}
 use Rattle.scope.specs.declared.Truth.the-variants.{Yes, No, Unknown}
@@ -13,12 +13,14 @@ use Rattle.scope.specs.Truth.{truth}
 use Rattle.scope.specs.Kleene.{NoTwo, Fills}
 use Rattle.scope.specs.Calls.{Added, settingsTest, evaluate}
 use Rattle.calculus.specs.Order.{impossible, answerOf}
-use Rattle.calculus.specs.Model.{All}
-use Rattle.calculus.specs.Decide.{searchOf, Decided, asked, decide, settingsAfter, Unsatisfiable, _⇔_}
+use Rattle.calculus.specs.Model.{All, mostGoals}
+use Rattle.calculus.specs.Decide.{searchOf, Decided, asked, decide, settingsAfter, Satisfies, Unsatisfiable, _⇔_}
 use Rattle.rules.specs.Steps.{encodeSteps, decodeSteps}
 use Rattle.rules.specs.Derive.{derivationOf, blocks, derive, derivedAfter, check}
 use Rattle.published.specs.Bytes.{PublishedBytes}
 use Rattle.deciding.specs.Decides.{Word, can, cannot, nothing, wordOf}
+use Rattle.clashing.specs.Clash.{clash}
+use Rattle.clashing.specs.Clashes.{Clashing}
 use Rattle.adding.specs.declared.Mark.{Mark}
 use Rattle.cnf.specs.Text.{File, fileOf}
 use Rattle.cnf.specs.Meaning.{clausesTrue}
@@ -29,6 +31,7 @@ use Rattle.bevaridhom.specs.declared.BevRecord.{BevRecord}
 use Rattle.bevaridhom.specs.declared.BevTruth.{BevTruth}
 use Rattle.bevaridhom.specs.declared.BevAdded.{BevAdded}
 use Rattle.bevaridhom.specs.declared.BevDecided.{BevDecided}
+use Rattle.bevaridhom.specs.declared.BevClashed.{BevClashed}
 use Rattle.bevaridhom.specs.declared.BevDerived.{BevDerived}
 use Rattle.bevaridhom.specs.declared.BevChecked.{BevChecked}
 use Rattle.bevaridhom.specs.declared.BevOpened.{BevOpened}
@@ -80,6 +83,20 @@ pub record HostDecides (t goals s w s′ w′ : List ℕ) (r : BevDecided) : Typ
   pub exact : r .number ≡ 0 → (r .possible ≡ 0) ⇔ Unsatisfiable t goals
   pub satisfied : r .possible ≡ 1 → All (λ g. evaluate t g s′ ≡ answer Yes) goals
   pub filled : r .possible ≡ 1 → (rs : List Node) → decode t ≡ answer rs → (f : List ℕ) → Fills s′ f → All (λ g. truth f rs g ≡ true) goals
+
+-- the indices kept and their count, 0 past them
+abbrev pub clashAnswer : Outcome (List ℕ) → BevClashed
+clashAnswer (answer is) = record { number = 0; place = 0; count = length is; kept = is ++ replicate (mostGoals - length is) 0 }
+clashAnswer (refused n p) = record { number = n; place = p; count = 0; kept = replicate mostGoals 0 }
+
+-- clash for a host: the walk's list, a work area that a refusal by the rows 10 to 17, 62, 20 and 23 leaves as it was, and what the answer
+-- means: the goals kept are impossible together, and without any single one of them one setting makes the others true; behind these rows
+-- 63 is said exactly when one setting makes all goals true
+pub record HostClashes (t goals w w′ : List ℕ) (r : BevClashed) : Type 0 where
+  pub answered : r ≡ clashAnswer (clash t goals w)
+  pub work : (number place : ℕ) → asked t goals 0 0 (length w) ≡ refused number place → w′ ≡ w
+  pub kept : r .number ≡ 0 → Clashing t goals (take (r .count) (r .kept))
+  pub exact : (rs : List Node) → asked t goals 0 0 (length w) ≡ answer rs → (r .number ≡ 63) ⇔ ((v : List ℕ) × Satisfies t goals v)
 
 abbrev pub deriveAnswer : Outcome ℕ → BevDerived
 deriveAnswer (answer n) = record { number = 0; place = 0; steps = n }

@@ -3,7 +3,7 @@ ghost use mathlib.Core.Path.{_≡_};
 ghost use Rattle.scope.specs.Calls.{tableCount, tableRecord, evaluate, add, bytesAfter};
 ghost use Rattle.steps.specs.Opened.{stepCount};
 ghost use Rattle.step_reader.specs.Handed.{stepHanded};
-ghost use Rattle.bevaridhom.specs.Answers.{countAnswer, recordAnswer, truthNumber, truthAnswer, addAnswer, openAnswer, stepAnswer, HostDecides, HostDerives, HostChecks, HostReads};
+ghost use Rattle.bevaridhom.specs.Answers.{countAnswer, recordAnswer, truthNumber, truthAnswer, addAnswer, openAnswer, stepAnswer, HostDecides, HostClashes, HostDerives, HostChecks, HostReads};
 use adding::Added;
 use checking::Checked;
 use deciding::Decided;
@@ -174,6 +174,29 @@ pub extern "C" fn bev_decide(t: &[u8], goals: &[u16], s: &mut [u8], w: &mut [u16
             place: f.place,
             possible: 0,
         },
+    }
+}
+
+#[repr(C)]
+pub struct BevClashed {
+    pub number: u16,
+    pub place: usize,
+    pub count: usize,
+    pub kept: [u8; 64],
+}
+
+// The few of goals that are impossible together to argue about: their indices, in rising order.
+#[no_mangle]
+pub extern "C" fn bev_clash(t: &[u8], goals: &[u16], w: &mut [u16]) -> BevClashed
+    ensures { λ r. ⌜ HostClashes (now (t .entry)) (now (goals .entry)) (now (w .entry)) (now (w .exit)) r ⌝ }
+{
+    let c = clashing::clash(t, goals, w);
+    let kept = c.kept;
+    BevClashed {
+        number: c.number,
+        place: c.place,
+        count: c.count,
+        kept,
     }
 }
 

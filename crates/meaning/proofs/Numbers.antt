@@ -24,14 +24,14 @@ pub record Numbered {A : Type 0} (x : Outcome A) : Type 0 where
   pub positive : (number place : ℕ) → x ≡ refused number place → 0 < number
 
 module _ {A : Type 0} where
-  gives : (a : A) → Numbered (answer a)
+  pub gives : (a : A) → Numbered (answer a)
   gives a = record { positive = λ number place e. refused-no (sym e) }
 
   refuses : (number place : ℕ) → 0 < number → Numbered {A = A} (refused number place)
   refuses number place h = record { positive = λ m q e. let z : number ≡ m = cc in omega arith }
 
   -- one row, and what comes after it
-  rowed : (t : Bool) (number place : ℕ) (next : Outcome A) → 0 < number → Numbered next → Numbered (require t number place >> next)
+  pub rowed : (t : Bool) (number place : ℕ) (next : Outcome A) → 0 < number → Numbered next → Numbered (require t number place >> next)
   rowed true number place next h k = k
   rowed false number place next h k = refuses number place h
 
@@ -39,7 +39,7 @@ module _ {A : Type 0} where
   also (answer tt) y h k = k
   also (refused number place) y h k = refuses number place (h .positive number place refl)
 
-  then : {B : Type 0} (x : Outcome B) (f : B → Outcome A) → Numbered x → ((b : B) → Numbered (f b)) → Numbered (x >>= f)
+  pub then : {B : Type 0} (x : Outcome B) (f : B → Outcome A) → Numbered x → ((b : B) → Numbered (f b)) → Numbered (x >>= f)
   then (answer b) f h k = k b
   then (refused number place) f h k = refuses number place (h .positive number place refl)
 
@@ -86,7 +86,7 @@ table-numbered t =
     (rowed (lengthOk (length t)) 10 0 (first (blockRows t) 0 (length t / 512)) (omega arith) (each (blockRows t) (blocks-numbered t) (length t / 512) 0))
     (gives (listFrom (nodeAt t) 0 (recordsIn tables t)))
 
-asked-numbered : (t goals : List ℕ) (needed points area : ℕ) → Numbered (asked t goals needed points area)
+pub asked-numbered : (t goals : List ℕ) (needed points area : ℕ) → Numbered (asked t goals needed points area)
 unfolding asked rowsTest
 asked-numbered t goals needed points area =
     then (decode t) _ (table-numbered t)

@@ -1,21 +1,26 @@
 -- What an answer says: of any kind of truths, and of a table's settings. Assumes nothing.
 use mathlib.Core.Path.{_≡_}
-use mathlib.Core.List.{List}
+use mathlib.Core.List.{List, []}
 use mathlib.Core.Bool.{Bool, true, false}
 use Prim.Native.Nat.{ℕ}
+use lib.ListN.{length}
 use Rattle.scope.specs.declared.Node.{Node}
 use Rattle.scope.specs.declared.Truth.{Truth}
 use Rattle.scope.specs.declared.Truth.the-variants.{Yes, No, Unknown}
 use Rattle.scope.specs.Outcome.{Outcome, answer, refused, fine}
 use Rattle.scope.specs.Kleene.{NoTwo, Fills}
 use Rattle.scope.specs.Calls.{settingsTest, evaluate}
-use Rattle.calculus.specs.Order.{Answer, possible, impossible, unfinished, answerOf, settingOf}
-use Rattle.calculus.specs.Decide.{searchOf}
+use Rattle.calculus.specs.Expansion.{expand}
+use Rattle.calculus.specs.Order.{tree, Answer, possible, impossible, unfinished, answerOf, settingOf}
+use Rattle.calculus.specs.Decide.{nodesOf}
 use Rattle.calculus.specs.Model.{All}
 
--- what the search of a list of literals over a table's nodes ends on
+-- what the search of a list of literals ends on: over n nodes, and over a table's
+abbrev pub asks : (ℕ → Node) → ℕ → List ℕ → Answer
+asks t n ls = answerOf (tree (expand t) ls n [])
+
 abbrev pub answered : List Node → List ℕ → Answer
-answered rs ls = answerOf (searchOf rs ls)
+answered rs = asks (nodesOf rs) (length rs)
 
 -- The literals that fit are answered: possible with a list G where some truths go by G and all that do make them true, impossible where
 -- none make them true

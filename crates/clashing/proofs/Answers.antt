@@ -1,0 +1,149 @@
+-- Where clash ends: at the first row's refusal, or with the walk; and what its answer means. Assumes nothing.
+use mathlib.Core.Path.{_≡_, refl, sym, ap, ap₂, _∙_}
+use mathlib.Core.List.{List, [], _++_}
+use mathlib.Core.Bool.{Bool, true, false, false≢true}
+use Prim.Native.Nat.{ℕ, _*_, _-_, _<_}
+use native.Mathlib.Omega.{arith}
+use lib.ListN.{length, take, replicate}
+use lib.Seq.{take-append-seam}
+use Rattle.scope.specs.declared.Node.{Node}
+use Rattle.scope.specs.declared.Refusal.{Refusal}
+use Rattle.scope.specs.Outcome.{Outcome, answer, refused, require, _>>_}
+use Rattle.scope.specs.Table.{decode}
+use Rattle.scope.proofs.Tests.{refused-no, bound}
+use Rattle.codec.specs.Valid.{Bytes}
+use Rattle.calculus.specs.Order.{Answer, answerOf}
+use Rattle.calculus.specs.Model.{Below, mostGoals}
+use Rattle.calculus.specs.Decide.{Admitted, asked, Satisfies, _⇔_}
+use Rattle.calculus.proofs.Asked.{asked-read}
+use Rattle.rules.specs.Derive.{isImpossible}
+use Rattle.index.specs.Index.{indexNode}
+use Rattle.asking.specs.Asks.{Prepared}
+use Rattle.asking.proofs.Nodes.{search-in, searches-in}
+use Rattle.meaning.proofs.Numbers.{Numbered, gives, rowed, then, asked-numbered}
+use Rattle.questions.specs.Indices.{picked, upTo}
+use Rattle.questions.specs.Asking.{asks, answered, Decides, Setting, says, FilledBy}
+use Rattle.questions.proofs.Answers.{picked-fit, is-possible, not-impossible}
+use Rattle.questions.proofs.Settings.{made, making, some-node, decides}
+use Rattle.clashing.specs.Clash.{clashes, walk, argued, clash}
+use Rattle.clashing.specs.Clashes.{clashedOf, Clashing, Clashes}
+use Rattle.clashing.specs.declared.Clashed.{Clashed}
+use Rattle.clashing.proofs.Walks.{walk-same, walk-rises, walk-clashes}
+use Rattle.clashing.proofs.Keeps.{clashes-same, clashes-whole, no-clash, a-clash, kept-needed}
+
+-- ---- what the goals kept are
+
+module _ (t : List ℕ) (rs : List Node) (all : Bytes t) (e : decode t ≡ answer rs) (goals : List ℕ) (b : Below (length rs) goals) (some : 0 < length goals) where
+  abbrev D : Decides Setting (says t) (FilledBy rs) (λ l. l < 2 * length rs) (answered rs)
+  D = decides t rs all e (some-node (length rs) goals b some)
+
+  -- goals without a clash are made true by a setting, goals with one by none
+  settled : (is : List ℕ) → clashes (answered rs) goals is ≡ false → (v : List ℕ) × Satisfies t (picked goals is) v
+  settled is q =
+      let s = no-clash Setting (says t) (FilledBy rs) (λ l. l < 2 * length rs) (answered rs) D goals b is q in
+      (s .0 .0, made t (picked goals is) (s .0) (s .1))
+
+  pub clashing : isImpossible (answered rs goals) ≡ true → Clashing t goals (walk (clashes (answered rs) goals) (length goals) [])
+  unfolding upTo
+  clashing q =
+      let test : List ℕ → Bool = clashes (answered rs) goals in
+      let n : ℕ = length goals in
+      record {
+        rising = walk-rises test n n [] (omega arith) tt;
+        together = λ v s.
+            a-clash Setting (says t) (FilledBy rs) (λ l. l < 2 * length rs) (answered rs) D goals b (walk test n [])
+            (walk-clashes test n [] (clashes-whole (answered rs) goals some q)) (v, s .0) (making t (picked goals (walk test n [])) (v, s .0) (s .1));
+        single = λ a c j z. settled (a ++ c) (kept-needed Setting (says t) (FilledBy rs) (λ l. l < 2 * length rs) (answered rs) D goals b n a c j z);
+      }
+
+  -- 63 is said exactly when a setting makes all goals true
+  pub possible-exact : (isImpossible (answered rs goals) ≡ false) ⇔ ((v : List ℕ) × Satisfies t goals v)
+  possible-exact = (
+    λ q.
+        let s = not-impossible Setting (says t) (FilledBy rs) (λ l. l < 2 * length rs) (answered rs) D goals b q in
+        (s .0 .0, made t goals (s .0) (s .1)),
+    λ s.
+        ap isImpossible (is-possible Setting (says t) (FilledBy rs) (λ l. l < 2 * length rs) (answered rs) D goals b (s .0, s .1 .0)
+        (making t goals (s .0, s .1 .0) (s .1 .1)) .1),
+  )
+
+-- ---- the contract, of the definition's answer
+
+-- the indices shown are those of the answer
+shown : (is : List ℕ) → take (clashedOf (answer is) .count) (clashedOf (answer is) .kept) ≡ is
+shown is = take-append-seam is (replicate (mostGoals - length is) 0)
+
+clash-numbered : (t goals w : List ℕ) → Numbered (clash t goals w)
+unfolding clash
+clash-numbered t goals w =
+    then (asked t goals 0 0 (length w)) _ (asked-numbered t goals 0 0 (length w))
+    (λ rs. rowed (isImpossible (answered rs goals)) 63 0 _ (omega arith) (gives (walk (clashes (answered rs) goals) (length goals) [])))
+
+module _ (t goals w : List ℕ) (all : Bytes t) where
+  clash-asked : {rs : List Node} → asked t goals 0 0 (length w) ≡ answer rs → clash t goals w ≡ argued (answered rs) goals
+  unfolding clash
+  clash-asked q = rw q
+
+  -- an answer is the walk's, of goals that are impossible together
+  of-walk : {is : List ℕ} → clash t goals w ≡ answer is → Clashing t goals is
+  unfolding clash
+  of-walk {is} q =
+      let r = bound (asked t goals 0 0 (length w)) _ q in
+      let a = asked-read t goals 0 0 (length w) (r .1) in
+      go (r .0) a (isImpossible (answered (r .0) goals)) refl (r .2)
+    where
+      go : (rs : List Node) → (decode t ≡ answer rs) × Admitted (length rs) goals 0 0 (length w) → (b : Bool) → isImpossible (answered rs goals) ≡ b
+          → (require b 63 0 >> answer (walk (clashes (answered rs) goals) (length goals) [])) ≡ answer is → Clashing t goals is
+      go rs a true z q =
+          let s : walk (clashes (answered rs) goals) (length goals) [] ≡ is = cc in
+          rw s at (clashing t rs all (a .0) goals (a .1 .below) (a .1 .some) z)
+      go rs a false z q = refused-no q
+
+  kept-by : (o : Outcome (List ℕ)) → clash t goals w ≡ o → clashedOf o .number ≡ 0 → Clashing t goals (take (clashedOf o .count) (clashedOf o .kept))
+  kept-by (answer is) q z = rw (shown is) (of-walk q)
+  kept-by (refused number place) q z = absurd (omega (arith, clash-numbered t goals w .positive number place q))
+
+  exact-by : (rs : List Node) → asked t goals 0 0 (length w) ≡ answer rs → (clashedOf (argued (answered rs) goals) .number ≡ 63) ⇔ ((v : List ℕ) × Satisfies t goals v)
+  exact-by rs q =
+      let a = asked-read t goals 0 0 (length w) q in
+      go (isImpossible (answered rs goals)) refl (possible-exact t rs all (a .0) goals (a .1 .below) (a .1 .some))
+    where
+      go : (b : Bool) → isImpossible (answered rs goals) ≡ b → (isImpossible (answered rs goals) ≡ false) ⇔ ((v : List ℕ) × Satisfies t goals v)
+          → (clashedOf (require b 63 0 >> answer (walk (clashes (answered rs) goals) (length goals) [])) .number ≡ 63) ⇔ ((v : List ℕ) × Satisfies t goals v)
+      go true z x = (λ e. absurd (omega arith), λ s. absurd (false≢true (sym (x .1 s) ∙ z)))
+      go false z x = (λ e. x .0 z, λ s. refl)
+
+  pub clashes-by : {w′ : List ℕ} (r : Clashed) → r ≡ clashedOf (clash t goals w)
+      → ((number place : ℕ) → asked t goals 0 0 (length w) ≡ refused number place → w′ ≡ w) → Clashes t goals w w′ r
+  clashes-by r e kept = record {
+    answered = e;
+    work = kept;
+    kept = rw e (kept-by (clash t goals w) refl);
+    exact = λ rs q. rw (e ∙ ap clashedOf (clash-asked q)) (exact-by rs q);
+  }
+
+  -- ---- where clash ends
+
+  pub refuses : (r : Clashed) (f : Refusal) → r ≡ clashedOf (refused (f .number) (f .place)) → asked t goals 0 0 (length w) ≡ refused (f .number) (f .place)
+      → Clashes t goals w w r
+  unfolding clash
+  refuses r f e q = clashes-by r (e ∙ rw q) (λ number place z. refl)
+
+  module _ {x : List ℕ} {n : ℕ} (p : Prepared t goals 0 0 (length w) x n) where
+    -- the questions over the index are those over the nodes
+    same-answers : (is : List ℕ) → asks (indexNode x) n (picked goals is) ≡ answered (p .nodes) (picked goals is)
+    same-answers is =
+        let a = asked-read t goals 0 0 (length w) (p .answered) in
+        let d = D t (p .nodes) all (a .0) goals (a .1 .below) (a .1 .some) in
+        let fits : Below (length (p .nodes)) (picked goals is) =
+        picked-fit Setting (says t) (FilledBy (p .nodes)) (λ l. l < 2 * length (p .nodes)) (answered (p .nodes)) d goals (a .1 .below) is in
+        ap answerOf (searches-in p (picked goals is) (rw (p .count) at fits))
+
+    same : argued (asks (indexNode x) n) goals ≡ argued (answered (p .nodes)) goals
+    same =
+        ap₂ (λ (a : Answer) (is : List ℕ). require (isImpossible a) 63 0 >> answer is) (ap answerOf (search-in p))
+        (walk-same (clashes (asks (indexNode x) n) goals) (clashes (answered (p .nodes)) goals)
+        (clashes-same (asks (indexNode x) n) goals (answered (p .nodes)) same-answers) (length goals) [])
+
+    pub ends : {w′ : List ℕ} (r : Clashed) → r ≡ clashedOf (argued (asks (indexNode x) n) goals) → Clashes t goals w w′ r
+    ends r e = clashes-by r (e ∙ ap clashedOf (same ∙ sym (clash-asked (p .answered)))) (λ number place z. refused-no (sym z ∙ p .answered))
