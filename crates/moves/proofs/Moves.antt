@@ -155,7 +155,7 @@ module _ {t : ℕ → Node} {n : ℕ} {goals w m : List ℕ} (few : n ≤ mostNo
   none-false f = no-goal isEmpty (λ k i. goal-unfalse (valueOf G (getD goals k 0)) (getD goals k 0) (f k i))
 
   true-goal : waitingOf w ≡ 0 → (k : ℕ) → k < length goals → valueCode (valueOf G (getD goals k 0)) ≡ 1
-  true-goal z k i = ap valueCode (H .waiting .over z k i)
+  true-goal z k i = ap valueCode (H .waiting .over k (omega (arith, i, z)))
 
   pub without : waitingOf w ≡ 0 → Without 2 goals G
   without z k i e = omega (arith, e, true-goal z k i)
@@ -284,7 +284,7 @@ module _ {t : ℕ → Node} {n : ℕ} {goals w m : List ℕ} (few : n ≤ mostNo
             (λ p a. bit-false (some isOne (S p)) (sym (H .entered p a .unit) ∙ none p (omega (arith, a, most))))
 
         no-open-goal : some isOpen (C 0) ≡ false
-        no-open-goal = no-goal isOpen (λ k i. rw (H .waiting .over z₀ k i))
+        no-open-goal = no-goal isOpen (λ k i. rw (H .waiting .over k (omega (arith, i, z₀))))
 
         -- none before q is open
         closed-before : (p : ℕ) → p < q → some isOpen (S p) ≡ false

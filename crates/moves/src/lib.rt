@@ -13,7 +13,7 @@ ghost use Rattle.index.specs.Indexed.{Indexed};
 ghost use Rattle.clause.specs.Coded.{Coded};
 ghost use Rattle.clause.specs.Templates.{rows};
 ghost use Rattle.state.specs.Work.{area, tail, litAt, gOf, Ready, Numbered, cursorOf, conflictOf, waitingOf};
-ghost use Rattle.state.specs.Holds.{Holds, statesAt};
+ghost use Rattle.state.specs.Holds.{Holds, Waiting, statesAt};
 ghost use Rattle.moves.specs.Place.{placeNumber, Placed, Kept, Reasoned, Without, FirstGoal, CellSet, FirstOpen, Moved};
 
 // The cells of the work area.
@@ -31,13 +31,14 @@ const NONE: usize = 2016;
 // The places of the goals' clauses; before them stand four for each position.
 const GOALS: usize = 8064;
 
-// The first goal of a value, or how many there are.
+// The first goal of a value, not that of a true one, or how many there are.
 fn goal_of(n: usize, goals: &[u16], work: &[u16], v: u16) -> usize
     requires { ⌜ Ready n (now work) ⌝ }
     requires { ⌜ (n ≤ mostNodes) × Goals n (now goals) ⌝ }
+    requires { ⌜ Waiting (now goals) (gOf (now work)) (waitingOf (now work)) × (v ≡ 1 → ⊥) ⌝ }
     ensures { λ r. ⌜ FirstGoal (now (goals .entry)) (gOf (now (work .entry))) v r ⌝ }
 {
-    let mut k = 0;
+    let mut k = goals.len() - work[WAITING] as usize;
     while k < goals.len() {
         if state::value(n, work, goals[k]) == v {
             return k;

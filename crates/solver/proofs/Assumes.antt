@@ -18,7 +18,7 @@ use Rattle.index.specs.Index.{indexNode, mostNodes}
 use Rattle.index.specs.Indexed.{Indexed}
 use Rattle.units.specs.Units.{member, positions}
 use Rattle.clause.specs.Coded.{statesOf, Coded}
-use Rattle.state.specs.Work.{tail, litAt, entryOf, baseOf, cursorAt, cursorOf, conflictOf, held, gOf, trail, Ready, Numbered, trailAt, literalsAt, basesAt, valuesAt, cursorsAt, area}
+use Rattle.state.specs.Work.{tail, litAt, entryOf, baseOf, cursorAt, cursorOf, conflictOf, waitingOf, held, gOf, trail, Ready, Numbered, trailAt, literalsAt, basesAt, valuesAt, cursorsAt, area}
 use Rattle.state.specs.Holds.{statesAt, Entered, Closed, AllMet, Holds}
 use Rattle.state.specs.Changes.{Pushed, baseSet}
 use Rattle.state.proofs.Areas.{room-left, held-below, held-still, base-most, ready-same}
@@ -162,10 +162,15 @@ module _ {x goals w m : List ℕ} {n l : ℕ} (I : Indexed x n) (H : Holds (inde
 
           -- what `wait` asks
           pub served : Served goals w₄
-          served z k i =
-              rw list₄
-              (value-stays (gOf w) l (f .1) (getD goals k 0) holds (λ o. let z : _≡_ {A = ℕ} 0 1 = cc in omega arith)
-              (H .waiting .over (sym (cell₄ 2 (omega arith) (λ e. omega (arith, e))) ∙ z) k i))
+          served =
+              let z : waitingOf w₄ ≡ waitingOf w = cell₄ 2 (omega arith) (λ e. omega (arith, e)) in
+              record {
+                few = omega (arith, z, H .waiting .few);
+                over = λ k i.
+                    rw list₄
+                    (value-stays (gOf w) l (f .1) (getD goals k 0) holds (λ o. let z : _≡_ {A = ℕ} 0 1 = cc in omega arith)
+                    (H .waiting .over k (omega (arith, i, z))));
+              }
 
           -- ---- at the end
 

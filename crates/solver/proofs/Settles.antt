@@ -25,14 +25,16 @@ code-holds holds e = refl
 code-holds fails e = absurd (omega arith)
 code-holds undecided e = absurd (omega arith)
 
-pub waiting-on : {goals G : List ℕ} (k v : ℕ) → k < length goals → v ≡ valueCode (valueOf G (getD goals k 0)) → (v ≡ 1 → ⊥) → Waiting goals G 1
-waiting-on k v i e d = record {
-  over = λ z. absurd (omega (arith, z));
+pub waiting-on : {goals G : List ℕ} (k v : ℕ) → k < length goals → ((i : ℕ) → i < k → valueOf G (getD goals i 0) ≡ holds)
+    → v ≡ valueCode (valueOf G (getD goals k 0)) → (v ≡ 1 → ⊥) → Waiting goals G (length goals - k)
+waiting-on k v i f e d = record {
+  few = omega arith;
+  over = λ j b. f j (omega (arith, b, i));
   on = λ z. (k, i, λ y. d (e ∙ ap valueCode y));
 }
 
 pub waiting-over : {goals G : List ℕ} → ((k : ℕ) → k < length goals → valueOf G (getD goals k 0) ≡ holds) → Waiting goals G 0
-waiting-over f = record { over = λ z. f; on = λ z. absurd (z refl) }
+waiting-over f = record { few = omega arith; over = λ k b. f k (omega (arith, b)); on = λ z. absurd (z refl) }
 
 -- ---- the cells are set
 
@@ -141,7 +143,7 @@ module _ {n to : ℕ} {w₀ w : List ℕ} (few : n ≤ mostNodes) (v : Leaving n
 
 -- none waited
 pub awaited-none : {goals w : List ℕ} → Served goals w → waitingOf w ≡ 0 → Awaited goals w w
-awaited-none {goals} {w} s z = record { size = refl; waiting = rw z (waiting-over (s z)); other = λ i e. refl }
+awaited-none {goals} {w} s z = record { size = refl; waiting = rw z (waiting-over (λ k i. s .over k (omega (arith, i, z)))); other = λ i e. refl }
 
 pub awaited : {goals w : List ℕ} {v : ℕ} → 2 < length w → Waiting goals (gOf w) v → Awaited goals w (set w 2 v)
 awaited {goals} {w} {v} b a = record {

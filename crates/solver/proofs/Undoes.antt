@@ -108,7 +108,8 @@ module _ (t : ℕ → Node) (goals : List ℕ) {n : ℕ} {w w′ m′ : List ℕ
   waits : Waiting goals (gOf w) (length goals)
   unfolding valueOf mem
   waits = record {
-    over = λ e k i. absurd (omega (arith, e, i));
+    few = omega arith;
+    over = λ k i. absurd (omega (arith, i));
     on = λ e. (0, omega (arith, e), λ y. never (sym (ap (λ (G : List ℕ). valueOf G (getD goals 0 0)) empty-list) ∙ y));
   }
     where

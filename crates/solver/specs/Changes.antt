@@ -2,7 +2,7 @@
 use mathlib.Core.Path.{_≡_}
 use mathlib.Core.Logic.{_⊎_}
 use mathlib.Core.List.{List}
-use Prim.Native.Nat.{ℕ, _*_, _/_, _%_, _<_, _≤_}
+use Prim.Native.Nat.{ℕ, _-_, _*_, _/_, _%_, _<_, _≤_}
 use lib.ListN.{getD, length}
 use Rattle.scope.specs.declared.Node.{Node}
 use Rattle.calculus.specs.Order.{holds, valueOf}
@@ -51,11 +51,12 @@ Touchable t n node w m = Walk t n node (4 * n) w m w m
 
 -- ---- the goals
 
--- where none waits, every goal is true
-abbrev pub Served : List ℕ → List ℕ → Type 0
-Served goals w = waitingOf w ≡ 0 → (k : ℕ) → k < length goals → valueOf (gOf w) (getD goals k 0) ≡ holds
+-- the goals before those that wait are true
+pub record Served (goals w : List ℕ) : Type 0 where
+  pub few : waitingOf w ≤ length goals
+  pub over : (k : ℕ) → k < length goals - waitingOf w → valueOf (gOf w) (getD goals k 0) ≡ holds
 
--- a goal waits exactly if one is not true, and nothing else is changed
+-- those that wait begin with one that is not true, and nothing else is changed
 pub record Awaited (goals w w′ : List ℕ) : Type 0 where
   pub size : length w′ ≡ length w
   pub waiting : Waiting goals (gOf w) (waitingOf w′)

@@ -88,16 +88,17 @@ fn touch(x: &[u16], n: usize, work: &mut [u16], masks: &mut [u64], node: usize)
     }
 }
 
-// Whether some goal is not true.
+// How many goals wait: the first that is not true, and all behind it.
 fn waits(n: usize, goals: &[u16], work: &[u16]) -> u16
     requires { ⌜ Ready n (now work) ⌝ }
     requires { ⌜ (n ≤ mostNodes) × Goals n (now goals) ⌝ }
+    requires { ⌜ Served (now goals) (now work) ⌝ }
     ensures { λ r. ⌜ Waiting (now (goals .entry)) (gOf (now (work .entry))) r ⌝ }
 {
-    let mut k = 0;
+    let mut k = goals.len() - work[WAITING] as usize;
     while k < goals.len() {
         if state::value(n, work, goals[k]) != 1 {
-            return 1;
+            return (goals.len() - k) as u16;
         }
         k += 1;
     }

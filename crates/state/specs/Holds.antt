@@ -2,7 +2,7 @@
 use mathlib.Core.Path.{_≡_}
 use mathlib.Core.Bool.{true}
 use mathlib.Core.List.{List}
-use Prim.Native.Nat.{ℕ, _<_, _≤_}
+use Prim.Native.Nat.{ℕ, _-_, _<_, _≤_}
 use lib.ListN.{getD, length}
 use Rattle.scope.specs.declared.Node.{Node}
 use Rattle.calculus.specs.Order.{State, met, holds, valueOf, isEmpty, isOne, some, bit, move}
@@ -30,9 +30,10 @@ Closed t G r c = c < mostNodes → (c < r 0) × (some isEmpty (statesAt t G r c)
 abbrev pub AllMet : (ℕ → Node) → List ℕ → (ℕ → ℕ) → ℕ → Type 0
 AllMet t G r c = (q : ℕ) → q < c → All (λ s. s ≡ met) (statesAt t G r q)
 
--- v is 0 exactly if every goal is true
+-- the goals but the last v are true; where v is not 0, some goal is not
 pub record Waiting (goals G : List ℕ) (v : ℕ) : Type 0 where
-  pub over : v ≡ 0 → (k : ℕ) → k < length goals → valueOf G (getD goals k 0) ≡ holds
+  pub few : v ≤ length goals
+  pub over : (k : ℕ) → k < length goals - v → valueOf G (getD goals k 0) ≡ holds
   pub on : (v ≡ 0 → ⊥) → (k : ℕ) × (k < length goals) × (valueOf G (getD goals k 0) ≡ holds → ⊥)
 
 pub record Holds (t : ℕ → Node) (n : ℕ) (goals w m : List ℕ) : Type 0 where

@@ -1,4 +1,4 @@
--- The layout of the work area: four cells (the cursor, the first conflict, whether a goal waits, the place of the last move), and from 4 on
+-- The layout of the work area: four cells (the cursor, the first conflict, how many goals wait, the place of the last move), and from 4 on
 -- the trail: how many literals are held true, the literals in the order they joined, each node's entry, how many clauses stand before each
 -- literal's, each literal's value, and the cursor as each literal joined. Assumes nothing.
 use mathlib.Core.Path.{_≡_}
@@ -45,7 +45,7 @@ abbrev pub area : ℕ
 area = 32768
 
 -- the cells: every clause of the positions before the first is met; the first position with a clause that is all false, or `mostNodes`;
--- 0 if every goal is true; the clause that the last move is on
+-- how many goals wait, 0 if every one is true; the clause that the last move is on
 abbrev pub cursorOf : List ℕ → ℕ
 cursorOf w = getD w 0 0
 

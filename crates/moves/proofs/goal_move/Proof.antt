@@ -44,7 +44,9 @@ returns-2 : tie.Need-returns-2
 returns-2 c = search needs
 
 goal-of-requires-2 : tie.Need-goal-of-requires-2
-goal-of-requires-2 c κs = search needs
+goal-of-requires-2 c κs =
+    let s = c .before .before .before .before .before .before .before .before .before .before in
+    (s .pre .1 .1 .0 .ready, ((s .pre .0 .few, s .pre .1 .0), (s .pre .1 .1 .0 .waiting, λ e. omega (arith, e))))
 
 add-keep-2 : tie.Need-add-keep-2
 add-keep-2 c = search needs

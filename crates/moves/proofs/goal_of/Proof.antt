@@ -1,5 +1,5 @@
 -- `moves::goal_of` meets its contract. The invariant: no goal passed has the value. Assumes nothing.
-use mathlib.Core.Path.{_≡_, sym, _∙_}
+use mathlib.Core.Path.{_≡_, sym, ap, _∙_}
 use Prim.Native.Nat.{ℕ, _-_, _*_, _<_, _≤_}
 use native.Mathlib.Decide.{ℕ-discrete}
 use lib.ListN.{length, getD}
@@ -18,8 +18,19 @@ Inv-loop n goals work v k₀ k = (k ≤ length goals) × ((i : ℕ) → i < k �
 abbrev μ-loop : tie.MeasureT-loop
 μ-loop n goals work v k₀ k = length goals - k
 
+shared-slice-read-k : tie.Need-shared-slice-read-k Inv-loop μ-loop
+shared-slice-read-k c = search needs
+
+cast-k : tie.Need-cast-k Inv-loop μ-loop
+cast-k c = search needs
+
+sub-k : tie.Need-sub-k Inv-loop μ-loop
+sub-k c = omega (arith, c .before .before .before .pre .1 .1 .0 .few)
+
 loop-holds : tie.Need-loop-holds Inv-loop μ-loop
-loop-holds c = (omega arith, λ i b. absurd (omega (arith, b)))
+loop-holds c =
+    let s = c .before .before .before in
+    (omega arith, λ i b e. s .pre .1 .1 .1 (sym e ∙ ap valueCode (s .pre .1 .1 .0 .over i (omega (arith, b)))))
 
 mul-value : tie.Need-mul-value Inv-loop μ-loop
 mul-value c = search needs
@@ -29,8 +40,8 @@ shared-slice-read-value c = search needs
 
 value-requires : tie.Need-value-requires Inv-loop μ-loop
 value-requires c κs =
-    let s = c .before .before .before .before .before in
-    (s .pre .0, (s .pre .1 .0, all-at (λ l. l < 2 * s .args .n) (s .args .goals .now) (c .before .before .loop .k) 0 (s .pre .1 .1 .below) (c .before .loop-test .taken)))
+    let s = c .before .before .before .before .before .before in
+    (s .pre .0, (s .pre .1 .0 .0, all-at (λ l. l < 2 * s .args .n) (s .args .goals .now) (c .before .before .loop .k) 0 (s .pre .1 .0 .1 .below) (c .before .loop-test .taken)))
 
 returns : tie.Need-returns Inv-loop μ-loop
 returns c =
@@ -57,6 +68,9 @@ goal-of-spec =
     (tie.spec
     Inv-loop
     μ-loop
+    shared-slice-read-k
+    cast-k
+    sub-k
     loop-holds
     mul-value
     shared-slice-read-value

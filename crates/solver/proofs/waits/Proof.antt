@@ -22,8 +22,19 @@ Inv-loop n goals work k₀ k = (k ≤ length goals) × ((i : ℕ) → i < k → 
 abbrev μ-loop : tie.MeasureT-loop
 μ-loop n goals work k₀ k = length goals - k
 
+shared-slice-read-k : tie.Need-shared-slice-read-k Inv-loop μ-loop
+shared-slice-read-k c = search needs
+
+cast-k : tie.Need-cast-k Inv-loop μ-loop
+cast-k c = search needs
+
+sub-k : tie.Need-sub-k Inv-loop μ-loop
+sub-k c = omega (arith, c .before .before .before .pre .1 .1 .few)
+
 loop-holds : tie.Need-loop-holds Inv-loop μ-loop
-loop-holds c = (omega arith, λ i b. absurd (omega (arith, b)))
+loop-holds c =
+    let s = c .before .before .before in
+    (omega arith, λ i b. s .pre .1 .1 .over i (omega (arith, b)))
 
 mul-value : tie.Need-mul-value Inv-loop μ-loop
 mul-value c = search needs
@@ -33,11 +44,19 @@ shared-slice-read-value c = search needs
 
 value-requires : tie.Need-value-requires Inv-loop μ-loop
 value-requires c κs =
-    let s = c .before .before .before .before .before in
-    (s .pre .0, (s .pre .1 .0, all-at (λ l. l < 2 * s .args .n) (s .args .goals .now) (c .before .before .loop .k) 0 (s .pre .1 .1 .below) (c .before .loop-test .taken)))
+    let s = c .before .before .before .before .before .before in
+    (s .pre .0, (s .pre .1 .0 .0, all-at (λ l. l < 2 * s .args .n) (s .args .goals .now) (c .before .before .loop .k) 0 (s .pre .1 .0 .1 .below) (c .before .loop-test .taken)))
+
+sub-result : tie.Need-sub-result Inv-loop μ-loop
+sub-result c = search needs
+
+cast-result : tie.Need-cast-result Inv-loop μ-loop
+cast-result c = omega (arith, c .before .before .before .before .before .before .before .before .pre .1 .0 .1 .most)
 
 returns : tie.Need-returns Inv-loop μ-loop
-returns c = waiting-on (c .before .before .before .before .loop .k) (c .before .value .result) (c .before .before .before .loop-test .taken) (c .before .value .ensures) (c .if1 .taken)
+returns c =
+    let k = c .before .before .before .before in
+    waiting-on (k .loop .k) (c .before .value .result) (c .before .before .before .loop-test .taken) (k .loop .inv .1) (c .before .value .ensures) (c .if1 .taken)
 
 add-k : tie.Need-add-k Inv-loop μ-loop
 add-k c = search needs
@@ -48,7 +67,7 @@ loop-less c = search needs
 loop-again : tie.Need-loop-again Inv-loop μ-loop
 loop-again c =
     let loop = c .before .before .before .before .loop in
-    let s = c .before .before .before .before .before .before .before in
+    let s = c .before .before .before .before .before .before .before .before in
     let here : valueOf (gOf (s .args .work .now)) (getD (s .args .goals .now) (loop .k) 0) ≡ holds = code-holds _ (sym (c .before .value .ensures) ∙ c .if1 .left) in (
       omega (arith, c .before .before .before .loop-test .taken),
       λ i b. step i b (ℕ-discrete i (loop .k)) here (loop .inv .1),
@@ -65,10 +84,15 @@ waits-spec =
     (tie.spec
     Inv-loop
     μ-loop
+    shared-slice-read-k
+    cast-k
+    sub-k
     loop-holds
     mul-value
     shared-slice-read-value
     value-requires
+    sub-result
+    cast-result
     returns
     add-k
     loop-less
