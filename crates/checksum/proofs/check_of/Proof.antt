@@ -1,21 +1,22 @@
--- `checksum::check_of` meets its contract: antt computes the 510 weights, and they are the constant.
--- Assumes nothing.
-use mathlib.Core.Path.{refl}
+-- `checksum::check_of` meets its contract: the weighted sum of the columns is the block's. Assumes nothing.
+use mathlib.Core.Path.{_∙_}
 use borrow.Author.Needs.{needs}
-use Rattle.scope.specs.Block.{weight}
-use Rattle.scope.specs.Table.{listFrom}
+use Rattle.checksum.proofs.Sums.{columns-check}
 use Rattle.checksum.proofs.check_of.Statement.{statement}
 use Rattle.checksum.proofs.check_of.Tie as tie
+
+columns-requires : tie.Need-columns-requires
+columns-requires c κs = search needs
 
 slice-aggregate-weighed : tie.Need-slice-aggregate-weighed
 slice-aggregate-weighed c = search needs
 
 weighed-requires : tie.Need-weighed-requires
-unfolding listFrom weight
-weighed-requires c κs = (c .before .before .pre, refl)
+weighed-requires c κs = search needs
 
 returns : tie.Need-returns
-returns c = search needs
+returns c = c .weighed .ensures ∙ columns-check (c .before .before .columns .ensures)
 
 pub check-of-spec : {M : Type 1} → statement M
-check-of-spec = tie.close (tie.spec slice-aggregate-weighed weighed-requires returns)
+check-of-spec =
+    tie.close (tie.spec columns-requires slice-aggregate-weighed weighed-requires returns)
