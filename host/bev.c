@@ -49,8 +49,9 @@ static const struct command commands[] = {
       "Prints the number of steps. Goals that one setting makes true have none: refused 30.\n",
       run_derive, 2, INT_MAX, TAKES_OUT },
     { "check", "TABLE GOAL.. FILE", "whether a derivation shows that goals are impossible",
-      "FILE, the last word, may be by any author, for this table and these goals in this order. Prints\n"
-      "`accepted`, or the refusal with the step where it fails.\n",
+      "FILE, the last word, may be by any author, for this table and these goals in this order. A derivation that\n"
+      "names its goals, as those of derive do, is accepted for no others. Prints `accepted`, or the refusal with the\n"
+      "step where it fails.\n",
       run_check, 3, INT_MAX, 0 },
     { "steps", "FILE [TABLE GOAL..]", "a derivation's steps; with table and goals, why each holds",
       "The steps on one line, R5.0 for a removal in clause 5 at position 0. With TABLE and GOAL.. a line a step:\n"

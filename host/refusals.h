@@ -48,6 +48,7 @@ static const struct refusal refusals[] = {
     { 61, ABOUT_FILE, "the body is malformed, a variable is over V, or the clauses are not C", "0", "dimacs" },
     { 62, ABOUT_GOALS, "the list of goals is empty or has over 64", "0", "decide, clash, derive, check" },
     { 63, ABOUT_GOALS, "the goals are possible together", "0", "clash" },
+    { 64, ABOUT_FILE, "a step that names a goal is wrong, missing or late", "step", "check" },
 };
 
 #endif

@@ -168,6 +168,8 @@ static void take_clause_step(struct replay *r, const bev_stepped *s)
 /* Whether a step speaks of what is there: check has said so of every step that is taken. */
 static bool speaks_of_what_is_there(const struct replay *r, const bev_stepped *s)
 {
+    if (s->rule == BEV_RULE_G)
+        return true;
     if (s->rule == BEV_RULE_S)
         return s->value < 2 * r->nodes->count && r->held_count < NODES_MAX;
     return s->value < r->clauses && (s->rule != BEV_RULE_R || s->position < r->clause[s->value].width);
@@ -181,10 +183,12 @@ static void explain(struct replay *r, const bev_stepped *s, bool holds)
     if (holds && s->rule == BEV_RULE_S) {
         printf(" %u is undecided: it is held, and %u once its branch has closed", s->value, s->value ^ 1u);
         open_split(r, s->value);
+    } else if (holds && s->rule == BEV_RULE_G) {
+        printf(" %u is a goal: the list has it at this place", s->value);
     } else if (holds) {
         take_clause_step(r, s);
     } else {
-        if (s->rule != BEV_RULE_S && s->value < r->clauses)
+        if (s->rule != BEV_RULE_S && s->rule != BEV_RULE_G && s->value < r->clauses)
             print_clause(&r->clause[s->value]);
         else
             fputs(": ", stdout);
@@ -222,7 +226,7 @@ static int explain_file(const struct bytes *file, const struct bytes *table, con
     uint16_t work[BEV_WORK];
     bev_opened d = bev_open(file->at, file->len);
     bev_checked c = bev_check(table->at, table->len, goals->literal, goals->count, work, BEV_WORK, file->at, file->len);
-    if (c.number && (c.number < 45 || c.number > 47))
+    if (c.number && c.number != 64 && (c.number < 45 || c.number > 47))
         return refuse(c.number, c.place, of);
     int status = FAILED;
     struct replay *r = calloc(1, sizeof *r);

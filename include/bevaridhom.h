@@ -4,7 +4,7 @@
  * is the number of the first refusal that applies, place says where (docs/REFUSALS.md), and every other value is 0.
  *
  * Bytes lent. A refusal leaves every lent byte as it was, with two exceptions. The work area is free from row 23 on: bev_clash may have
- * changed it where it answers 63, bev_derive where it answers 30 or 31, and bev_check where it answers 45, 46 or 47; a call that answers
+ * changed it where it answers 63, bev_derive where it answers 30 or 31, and bev_check where it answers 45, 46, 47 or 64; a call that answers
  * may always have. And after 51 or 52 the buffer of bev_dimacs is free.
  *
  * Areas. An area that a call may write (buffer, settings, work, derivation of bev_derive) must not overlap another area of the same
@@ -28,7 +28,8 @@ extern "C" {
 #endif
 
 /* The version of these calls: 1.0 the base, 1.1 with bev_dimacs, 2.0 with points that may go either way, 3.0 with lists of goals, 3.1
- * with bev_clash. */
+ * with bev_clash, 3.1 with
+ * derivations that name their goals. */
 #define BEV_VERSION_MAJOR 3
 #define BEV_VERSION_MINOR 1
 
@@ -45,8 +46,8 @@ extern "C" {
 /* Kinds of a node. */
 enum { BEV_TRUE = 1, BEV_ATOM = 2, BEV_AND = 3, BEV_OR = 4, BEV_IMP = 5, BEV_IFF = 6 };
 
-/* Rules of a step: unit, removal of a false literal, erasure of a met clause, conflict, split. */
-enum { BEV_RULE_U = 85, BEV_RULE_R = 82, BEV_RULE_E = 69, BEV_RULE_C = 67, BEV_RULE_S = 83 };
+/* Rules of a step: unit, removal of a false literal, erasure of a met clause, conflict, split, the name of a goal. */
+enum { BEV_RULE_U = 85, BEV_RULE_R = 82, BEV_RULE_E = 69, BEV_RULE_C = 67, BEV_RULE_S = 83, BEV_RULE_G = 71 };
 
 typedef struct { uint16_t number; size_t place; size_t nodes; } bev_counted;
 typedef struct { uint16_t number; size_t place; uint8_t kind; uint16_t a; uint16_t b; } bev_node;
@@ -88,15 +89,17 @@ bev_decided bev_decide(const uint8_t *table, size_t table_len, const uint16_t *g
  * are possible together. */
 bev_clashed bev_clash(const uint8_t *table, size_t table_len, const uint16_t *goals, size_t goals_len, uint16_t *work, size_t work_len);
 
-/* Writes the derivation, in the solver's order, of goals that are impossible together, and answers its step count: the derivation is the
- * blocks that hold these steps, 126 in a full one; the bytes past its last block stay. The work area as for bev_decide, free also after
+/* Writes the derivation, in the solver's order, of goals that are impossible together, and answers its step count: a G for each goal,
+ * in list order, then the steps of the search. The derivation is the blocks that hold these steps, 126 in a full one; the bytes past its
+ * last block stay. The work area as for bev_decide, free also after
  * 30 and 31. Refusals: 10 to 17, 62, 20, 23, 30 the goals are possible, 31 more bytes are needed than lent or than 65,536 blocks. */
 bev_derived bev_derive(const uint8_t *table, size_t table_len, const uint16_t *goals, size_t goals_len, uint16_t *work, size_t work_len,
                        uint8_t *derivation, size_t derivation_len);
 
-/* Whether a derivation, by whatever author, shows that the goals are impossible together: number 0 accepted. The work area as for
- * bev_decide, free also after 45 to 47. Refusals: 10 to 17, 62, 20, 23, 40 to 44 for its form, 45 and 46 at the step where it fails, 47
- * at the step count where its steps end with a branch open. */
+/* Whether a derivation, by whatever author, shows that the goals are impossible together: number 0 accepted. One whose first step is a G
+ * is accepted for the goals that it names and no other list; it need not name them. The work area as for bev_decide, free also after 45,
+ * 46, 47 and 64. Refusals: 10 to 17, 62, 20, 23, 40 to 44 for its form, then 46, 64 (a G wrong, missing or late) and 45 at the step
+ * where it fails, 47 at the step count where its steps end with a branch open. */
 bev_checked bev_check(const uint8_t *table, size_t table_len, const uint16_t *goals, size_t goals_len, uint16_t *work, size_t work_len,
                       const uint8_t *derivation, size_t derivation_len);
 

@@ -9,6 +9,7 @@
 enum { ROOM = 1 << 20, STEPS = 200000 };
 static uint8_t lent[ROOM + GUARD], expected[ROOM + GUARD];
 static uint8_t taken[STEPS][4];
+static unsigned long others;
 
 static void fill(uint8_t *p, size_t n)
 {
@@ -63,6 +64,32 @@ static void bytes_are(const uint8_t *t, size_t len, const o_list *g, const uint8
     EXPECT(told(check(t, len, g, d, size), o_checked(t, o_table(t, len).nodes, g, d, size)) && whole());
 }
 
+/* Bytes that name their goals are accepted for no other list. */
+static void named(const uint8_t *t, size_t len, size_t nodes, const o_list *g, const uint8_t *d, size_t size)
+{
+    o_list other = *g;
+    size_t i = pick((unsigned)g->count);
+    switch (pick(4)) {
+    case 0:
+        other.goal[i] = (uint16_t)pick(2 * (unsigned)nodes);
+        break;
+    case 1:
+        other.count = 1 + i;
+        break;
+    case 2:
+        if (other.count < 64)
+            other.goal[other.count++] = g->goal[i];
+        break;
+    default:
+        other.goal[i] = g->goal[0];
+        other.goal[0] = g->goal[i];
+    }
+    int same = other.count == g->count && memcmp(other.goal, g->goal, sizeof *g->goal * g->count) == 0;
+    bev_checked v = check(t, len, &other, d, size);
+    EXPECT(v.number == (same ? 0 : 64) && told(v, o_checked(t, nodes, &other, d, size)));
+    others += !same;
+}
+
 /* The steps that the reader hands out of bytes. */
 static void read_back(const uint8_t *d, size_t size, const o_steps *right)
 {
@@ -87,6 +114,7 @@ static void derived(const uint8_t *t, size_t len, const o_list *g, const o_steps
     EXPECT(memcmp(lent, expected, room + GUARD) == 0 && whole());
     bytes_are(t, len, g, lent, size);
     EXPECT(check(t, len, g, lent, size).number == 0);
+    named(t, len, o_table(t, len).nodes, g, lent, size);
     read_back(lent, size, right);
     fill(lent, room);
     v = derive(t, len, g, lent, size - 1);
@@ -94,11 +122,12 @@ static void derived(const uint8_t *t, size_t len, const o_list *g, const o_steps
     EXPECT(v.number == 31 && v.place == 0 && v.steps == 0 && memcmp(lent, expected, size) == 0);
 }
 
-/* One change to a list of steps: another letter, position, value, a step left out, twice, or two exchanged. */
+/* One change to a list of steps, as often as not near its head: another letter, position, value, a step left out, twice, or two exchanged. */
 static size_t changed(uint8_t (*s)[4], size_t n)
 {
     static const uint8_t letters[] = { 85, 82, 69, 67, 83, 71, 0 };
-    size_t k = pick((unsigned)n), m = pick((unsigned)n);
+    unsigned among = pick(2) || n < 4 ? (unsigned)n : 4;
+    size_t k = pick(among), m = pick(among);
     uint8_t hold[4];
     switch (pick(6)) {
     case 0:
@@ -164,11 +193,16 @@ static int author_step(o_author *a, const uint8_t *t, size_t nodes, int rule, ui
     return kind;
 }
 
-/* A derivation by another author: any step that a rule allows, E steps and splits on any literal among them, until it is complete. */
+/* A derivation by another author, who may name the goals: any step that a rule allows, E steps and splits on any literal among them,
+ * until it is complete. */
 static size_t another(const uint8_t *t, size_t nodes, const o_list *g, uint8_t (*out)[4], size_t room)
 {
     static o_author a;
     size_t n = 0, tries = 0;
+    for (int names = pick(2) == 0; names && n < g->count; n++) {
+        uint8_t s[4] = { 71, 0, (uint8_t)g->goal[n], (uint8_t)(g->goal[n] >> 8) };
+        memcpy(out[n], s, 4);
+    }
     a.depth = 0;
     a.now = o_root(g);
     while (a.now && n < room && tries < 400) {
@@ -185,7 +219,7 @@ static size_t another(const uint8_t *t, size_t nodes, const o_list *g, uint8_t (
     return complete;
 }
 
-static unsigned long numbers[48];
+static unsigned long numbers[65];
 static uint8_t other[20001][4];
 
 /* Impossible goals: what derive writes, and what another author does. */
@@ -199,6 +233,8 @@ static void impossible(const uint8_t *t, size_t len, size_t nodes, const o_list 
         size_t size = o_steps_build(expected, (const uint8_t (*)[4])other, n);
         EXPECT(check(t, len, g, expected, size).number == 0);
         bytes_are(t, len, g, expected, size);
+        numbers[2] += other[0][0] == 71;
+        numbers[3] += other[0][0] != 71;
         for (size_t k = 0; k < n; k++)
             numbers[1] += other[k][0] == 69;
     }
@@ -260,14 +296,16 @@ static void random_goals(void)
             lists[is_possible] += k >= 2 * n;
         }
     }
-    printf("random goals: %lu derived and checked, %lu possible, of these lists %lu and %lu; %lu E steps of other authors; refused at", numbers[0],
-        numbers[30], lists[0], lists[1], numbers[1]);
-    for (int k = 41; k < 48; k++) {
+    printf("random goals: %lu derived and checked, %lu possible, of these lists %lu and %lu; other authors: %lu with and %lu without names, %lu E steps; "
+           "%lu other lists; refused at",
+        numbers[0], numbers[30], lists[0], lists[1], numbers[2], numbers[3], numbers[1], others);
+    for (int k = 41; k < 65; k = k == 47 ? 64 : k + 1) {
         printf(" %d: %lu", k, numbers[k]);
         EXPECT(numbers[k] > 20);
     }
     printf("\n");
     EXPECT(numbers[0] > 500 && numbers[30] > 1000 && numbers[1] > 1000 && lists[0] > 500 && lists[1] > 500);
+    EXPECT(numbers[2] > 200 && numbers[3] > 200 && others > 300);
 }
 
 static uint8_t small[512], kept[1024];
@@ -331,11 +369,11 @@ static void refusals(void)
         }
     EXPECT(check(small, len, &no, NULL, 0).number == 40 && bev_open(NULL, 0).number == 40 && bev_open(kept, 511).number == 40);
     EXPECT(bev_step(NULL, 0, 0).number == 40 && bev_step(kept, 511, 0).number == 40 && bev_step(kept, 512, 0).number == 41);
-    EXPECT(derive(small, len, &no, kept, 1024).steps == 2 && check(small, len, &no, kept, 512).number == 0);
+    EXPECT(derive(small, len, &no, kept, 1024).steps == 3 && check(small, len, &no, kept, 512).number == 0);
     EXPECT(told(check(small, len, &no, kept, 1024), o_no(42, 0)));
-    EXPECT(told(check(small, len, &other_point, kept, 512), o_no(45, 1)));
-    EXPECT(derive(small, len, &apart, kept, 512).steps == 3 && check(small, len, &apart, kept, 512).number == 0);
-    EXPECT(told(check(small, len, &both, kept, 512), o_no(45, 1)));
+    EXPECT(told(check(small, len, &other_point, kept, 512), o_no(64, 0)));
+    EXPECT(derive(small, len, &apart, kept, 512).steps == 6 && check(small, len, &apart, kept, 512).number == 0);
+    EXPECT(told(check(small, len, &both, kept, 512), o_no(64, 2)));
     EXPECT(whole());
     printf("refusals\n");
 }
@@ -365,35 +403,69 @@ static void sample(const uint8_t *t, o_list g, const char *steps, unsigned numbe
     static uint8_t s[64][4], d[512];
     size_t n = parse_steps(steps, s), size = o_steps_build(d, (const uint8_t (*)[4])s, n);
     EXPECT(told(check(t, 512, &g, d, size), o_no(number, place)));
-    if (number == 0) {
+    if (number == 0 && s[0][0] == 'G') {
         EXPECT(derive(t, 512, &g, lent, 512).steps == n && memcmp(lent, d, 512) == 0);
     }
 }
 
-static void samples(void)
+static uint8_t table_a[512];
+
+static void make_table_a(void)
 {
-    static uint8_t t[512], r[10][8];
+    static uint8_t r[10][8];
     static const unsigned a[10][3] = { { 2, 0, 0 }, { 2, 1, 0 }, { 3, 0, 2 }, { 4, 0, 2 }, { 5, 0, 2 }, { 6, 0, 2 }, { 1, 0, 0 }, { 3, 4, 7 }, { 6, 0, 3 }, { 3, 10, 16 } };
     for (int i = 0; i < 10; i++)
         rec(r[i], a[i][0], a[i][1], a[i][2]);
-    o_build(t, (const uint8_t (*)[8])r, 10);
+    o_build(table_a, (const uint8_t (*)[8])r, 10);
+}
+
+static void samples(const uint8_t *t)
+{
+    sample(t, o_one(13), "G13 U0 C1", 0, 0);
+    sample(t, o_one(14), "G14 U0 U1 U2 U3 R5.0 C5", 0, 0);
+    sample(t, o_one(18), "G18 U0 U1 U2 S1 R4.0 U4 R6.0 R6.1 C6 R3.0 U3 R5.0 R5.1 C5", 0, 0);
     sample(t, o_one(13), "U0 C1", 0, 0);
-    sample(t, o_one(14), "U0 U1 U2 U3 R5.0 C5", 0, 0);
     sample(t, o_one(18), "U0 U1 U2 S1 R4.0 U4 R6.0 R6.1 C6 R3.0 U3 R5.0 R5.1 C5", 0, 0);
     sample(t, o_one(13), "C1", 45, 0);
     sample(t, o_one(13), "U0", 47, 1);
     sample(t, o_one(13), "U0 C1 C1", 46, 2);
     sample(t, o_one(6), "U0 S0 C1", 45, 2);
-    sample(t, (o_list){ 2, { 10, 16 } }, "U0 U1 S1 R3.0 U3 R5.0 R5.1 C5 R2.0 U2 R4.0 R4.1 C4", 0, 0);
-    sample(t, (o_list){ 3, { 0, 0, 1 } }, "U0 R2.0 C2", 0, 0);
-    sample(t, (o_list){ 2, { 2, 13 } }, "U0 U1 C2", 0, 0);
+    sample(t, (o_list){ 2, { 10, 16 } }, "G10 G16 U0 U1 S1 R3.0 U3 R5.0 R5.1 C5 R2.0 U2 R4.0 R4.1 C4", 0, 0);
+    sample(t, (o_list){ 3, { 0, 0, 1 } }, "G0 G0 G1 U0 R2.0 C2", 0, 0);
+    sample(t, (o_list){ 2, { 2, 13 } }, "G2 G13 U0 U1 C2", 0, 0);
     sample(t, (o_list){ 3, { 0, 0, 1 } }, "U0 U1", 45, 1);
     sample(t, (o_list){ 3, { 0, 0, 1 } }, "U0 E1 R2.0 C2 C2", 46, 4);
     sample(t, (o_list){ 2, { 16, 10 } }, "U1 U0 S2 R3.1 U3 R5.0", 45, 5);
     printf("samples\n");
 }
 
-/* Lists of one goal: derive's answers and bytes are those of the calls that took one goal, here as a sum over random tables. */
+/* The goals that a derivation names, by number and place: a G wrong, missing, one too many, late, after the end, with a position. */
+static void heads(const uint8_t *t)
+{
+    o_list two = { 2, { 2, 13 } };
+    sample(t, two, "G13 G2 U0 U1 C2", 64, 0);
+    sample(t, two, "G2 G12 U0 U1 C2", 64, 1);
+    sample(t, two, "G2 G2 U0 U1 C2", 64, 1);
+    sample(t, two, "G2 U0 U1 C2", 64, 1);
+    sample(t, two, "G2 C9", 64, 1);
+    sample(t, two, "G2", 64, 1);
+    sample(t, two, "G2 G13", 47, 2);
+    sample(t, two, "G2 G13 G13 U0 U1 C2", 64, 2);
+    sample(t, two, "G2 G13 U0 G13 C2", 64, 3);
+    sample(t, two, "G2 G13 U0 U1 C2 G2", 46, 5);
+    sample(t, two, "G2 G13 C0 G2", 45, 2);
+    sample(t, two, "U0 G2 U1 C2", 64, 1);
+    sample(t, two, "U0 U1 C2 G2", 46, 3);
+    sample(t, two, "U0 U1 G9", 64, 2);
+    sample(t, two, "C0 G2", 45, 0);
+    sample(t, two, "G2.1 G13 U0 U1 C2", 44, 0);
+    sample(t, two, "G2 G13 U0 U1 G2.1", 44, 4);
+    sample(t, o_one(13), "G13 G13 U0 C1", 64, 1);
+    printf("heads\n");
+}
+
+/* Lists of one goal: without its G, a derivation's steps are those of the calls that took one goal, here as a sum over their blocks and
+ * random tables. */
 static void as_before(void)
 {
     static uint8_t t[16384];
@@ -404,9 +476,13 @@ static void as_before(void)
         for (size_t l = 0; l < 2 * n; l++) {
             o_list g = o_one(l);
             bev_derived v = derive(t, len, &g, lent, ROOM);
-            sum = 31 * (31 * sum + v.number) + v.steps;
-            for (size_t i = 0; i < 512 * ((v.steps + 125) / 126); i++)
-                sum = 31 * sum + lent[i];
+            size_t steps = v.number ? 0 : v.steps - 1;
+            for (size_t i = 0; i < steps; i++)
+                memcpy(taken[i], o_step_at(lent, i + 1), 4);
+            size_t size = o_steps_build(expected, (const uint8_t (*)[4])taken, steps);
+            sum = 31 * (31 * sum + v.number) + steps;
+            for (size_t i = 0; i < size; i++)
+                sum = 31 * sum + expected[i];
         }
     }
     EXPECT(sum == 0xd72b1944e672547d);
@@ -544,7 +620,9 @@ int main(void)
     if (!full)
         return 2;
     refusals();
-    samples();
+    make_table_a();
+    samples(table_a);
+    heads(table_a);
     random_goals();
     as_before();
     deepest();

@@ -137,6 +137,9 @@ def explained(records, goals, steps):
     for rule, p, k in steps:
         clauses = [([g], "a goal") for g in goals] + [(c, f"of {l}") for l in held for c in expansion(records, l)]
         start = "  " * len(waiting) + text((rule, p, k))
+        if rule == "G":
+            lines.append(f"{start} {k} is a goal")
+            continue
         if rule == "S":
             lines.append(f"{start} {k} is undecided")
             waiting.append((held + [k ^ 1], set(struck)))
@@ -154,7 +157,7 @@ def explained(records, goals, steps):
 
 def spoiled(rng, steps, nodes):
     """Steps with one left out, doubled, exchanged, or changed."""
-    steps, i = list(steps), rng.randrange(len(steps))
+    steps, i = list(steps), rng.randrange(len(steps) if rng.randrange(2) else min(3, len(steps)))
     way = rng.randrange(5)
     if way == 0:
         del steps[i]
@@ -164,7 +167,7 @@ def spoiled(rng, steps, nodes):
         j = rng.randrange(len(steps))
         steps[i], steps[j] = steps[j], steps[i]
     elif way == 3:
-        rule = rng.choice("URECS")
+        rule = rng.choice("URECSG")
         steps[i] = (rule, rng.randrange(2) if rule == "R" else 0, rng.choice([steps[i][2], rng.randrange(2 * nodes), 65535]))
     else:
         steps.append(rng.choice(steps))
@@ -185,7 +188,7 @@ def explains(bev, records, goals, steps, t, d):
     lines = out.split("\n")[:-1]
     if verdict:
         last = lines.pop()
-        shown = lines.pop() if verdict[0] != 47 else "may not stand here"
+        shown = lines.pop() if verdict[1] < len(steps) else "may not stand here"
         if status != REFUSED or not last.startswith("refused %d at %d: " % verdict) or not shown.endswith("may not stand here"):
             bev.wrong(("steps", *goals), (status, out), verdict)
     elif status != ANSWERED:
@@ -203,7 +206,8 @@ def checking(bev, folder, rounds):
             if not steps:
                 continue
             assert checked(records, goals, steps) is None
-            for tried in [steps] + [spoiled(rng, steps, len(records)) for _ in range(4)]:
+            unnamed = steps[len(goals):]
+            for tried in [steps, unnamed] + [spoiled(rng, steps, len(records)) for _ in range(4)]:
                 if tried:
                     put(d, derivation(tried))
                     says(bev, checked(records, goals, tried), "check", t, *goals, d, about=f"{d}, step ")
@@ -211,7 +215,8 @@ def checking(bev, folder, rounds):
     wording(bev, t, d)
     forms(bev, t, d)
 
-WORDS_18 = """U0 {18}, a goal: 18 is the one literal left, so it is held
+WORDS_18 = """G18 18 is a goal: the list has it at this place
+U0 {18}, a goal: 18 is the one literal left, so it is held
 U1 {10}, of 18: 10 is the one literal left, so it is held
 U2 {16}, of 18: 16 is the one literal left, so it is held
 S1 1 is undecided: it is held, and 0 once its branch has closed
@@ -227,7 +232,8 @@ R5.0 {1, 3}, of 16: 1 is false, since 0 is held, and is struck
 R5.1 {[1], 3}, of 16: 3 is false, since 2 is held, and is struck
 C5 {[1], [3]}, of 16: every literal is struck, so the branch closes, the last one
 """
-WORDS_13 = """U0 {13}, a goal: 13 is the one literal left, so it is held
+WORDS_13 = """G13 13 is a goal: the list has it at this place
+U0 {13}, a goal: 13 is the one literal left, so it is held
 C1 {}, of 13: it is empty, so the branch closes, the last one
 """
 WORDS_LIST = """U0 {0}, a goal: 0 is the one literal left, so it is held
@@ -240,15 +246,26 @@ def wording(bev, t, d):
     """Every rule in full, with an erasure, which the solver's order never has."""
     put(t, table(A))
     steps = search(A, [18])[1]
-    for goals, steps, words in (([18], steps[:4] + [("E", 0, 3)] + steps[4:], WORDS_18), ([0, 0, 1], [("U", 0, 0), ("E", 0, 1), ("R", 0, 2), ("C", 0, 2)], WORDS_LIST),
+    for goals, steps, words in (([18], steps[:5] + [("E", 0, 3)] + steps[5:], WORDS_18), ([0, 0, 1], [("U", 0, 0), ("E", 0, 1), ("R", 0, 2), ("C", 0, 2)], WORDS_LIST),
                                 ([13], search(A, [13])[1], WORDS_13)):
         put(d, derivation(steps))
         bev.answers(ANSWERED, "accepted\n", "check", t, *goals, d)
         bev.answers(ANSWERED, words, "steps", d, t, *goals)
     put(d, derivation(steps + steps[-1:]))
-    bev.refuses(46, 2, "steps", d, t, 13, about=f"{d}, step 2", before=WORDS_13 + "C1 {}, of 13: may not stand here\n")
-    put(d, derivation(steps[:1]))
-    bev.refuses(47, 1, "steps", d, t, 13, about=f"{d}, step count 1", before=WORDS_13.split("\n")[0] + "\n")
+    bev.refuses(46, 3, "steps", d, t, 13, about=f"{d}, step 3", before=WORDS_13 + "C1 {}, of 13: may not stand here\n")
+    put(d, derivation(steps[:2]))
+    bev.refuses(47, 2, "steps", d, t, 13, about=f"{d}, step count 2", before="".join(WORDS_13.splitlines(True)[:2]))
+    named(bev, t, d, steps)
+
+def named(bev, t, d, steps):
+    """A derivation for the wrong goals, a name too many, a late one, and a file that ends before its goals are named."""
+    first = "G13 13 is a goal: the list has it at this place\n"
+    for goals, tried, place, before in (([12], steps, 0, "G13: may not stand here\n"), ([13, 13], steps, 1, first + "U0 {13}, a goal: may not stand here\n"),
+                                        ([13], steps[:1] + steps, 1, first + "G13: may not stand here\n"), ([13, 13], steps[:1], 1, first),
+                                        ([13], steps[1:2] + steps[:1], 1, WORDS_13.splitlines(True)[1] + "G13: may not stand here\n")):
+        put(d, derivation(tried))
+        bev.refuses(64, place, "check", t, *goals, d, about=f"{d}, step ")
+        bev.refuses(64, place, "steps", d, t, *goals, about=f"{d}, step ", before=before)
 
 def forms(bev, t, d):
     """Rows 40 to 44, and the longest derivations."""
@@ -257,7 +274,7 @@ def forms(bev, t, d):
     long = derivation([("S", 0, 0)] * 300)
     for data, want in [(good + bytes(512), (42, 0)), (good[:100] + b"\1" + good[101:], (41, 0)), (long[:-2] + b"xx", (41, 2)), (b"", (40, 0)), (good[:511], (40, 0)),
                        (good + b"x", (40, 0)), (edited(good, 0, 70), (42, 0)), (edited(good, 1, 127), (42, 0)), (edited(good, 300, 1), (43, 0)),
-                       (edited(good, 4, 84), (44, 0)), (edited(good, 5, 1), (44, 0)), (edited(good, 4 + 4 * 4 + 1, 2), (44, 4)), (edited(long, 512 * 2 + 2, 1), (42, 2)),
+                       (edited(good, 4, 84), (44, 0)), (edited(good, 5, 1), (44, 0)), (edited(good, 4 + 4 * 5 + 1, 2), (44, 5)), (edited(long, 512 * 2 + 2, 1), (42, 2)),
                        (bytes(33554432), (42, 0)), (bytes(33554433), (40, 0)), (bytes(33554944), (40, 0))]:
         put(d, data)
         bev.refuses(*want, "check", t, 18, d, about=d)

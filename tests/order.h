@@ -148,14 +148,17 @@ static inline o_told o_goals(const o_list *g, size_t nodes)
     return o_no(0, 0);
 }
 
-/* Decide of a readable table and a list of goals in it: 1 possible with the settings (2 for a point of neither sign), or 0. */
+/* Decide of a readable table and a list of goals in it: 1 possible with the settings (2 for a point of neither sign), or 0; and the steps,
+ * a G for each goal before those of the search. */
 static inline int o_decide(const uint8_t *t, const o_list *g, uint8_t *settings, o_steps *d)
 {
     static o_state s;
     s.count = s.clauses = 0;
     memset(s.value, 0, sizeof s.value);
-    for (size_t i = 0; i < g->count; i++)
+    for (size_t i = 0; i < g->count; i++) {
         o_clause_of(&s, 1, g->goal[i], 0);
+        o_step(d, 71, 0, g->goal[i]);
+    }
     if (!o_search(&s, t, d))
         return 0;
     memset(settings, 2, 1024);

@@ -44,7 +44,7 @@ static inline unsigned o_block_bad(const uint8_t *b, size_t j, int last)
 
 static inline int o_step_bad(const uint8_t *s)
 {
-    return !(s[0] == 82 && s[1] <= 1) && !(s[1] == 0 && (s[0] == 85 || s[0] == 69 || s[0] == 67 || s[0] == 83));
+    return !(s[0] == 82 && s[1] <= 1) && !(s[1] == 0 && (s[0] == 85 || s[0] == 69 || s[0] == 67 || s[0] == 83 || s[0] == 71));
 }
 
 /* Rows 40 to 44, and the step count. */
@@ -111,7 +111,12 @@ static inline o_branch *o_root(const o_list *g)
     return b;
 }
 
-/* Each step in turn and the end: 0, or 45 to 47 with its place. */
+/* Whether a derivation that opens with a G must have one at step i, and whether the step is wrong for it. */
+static inline int o_name_due(const uint8_t *d, const o_list *g, size_t i) { return d[4] == 71 && i < g->count; }
+
+static inline int o_name_bad(const uint8_t *s, const o_list *g, size_t i) { return s[0] != 71 || o_word(s + 2) != g->goal[i]; }
+
+/* Each step in turn and the end: 0, or 45 to 47 and 64 with its place. */
 static inline o_told o_run(const uint8_t *t, size_t nodes, const o_list *g, const uint8_t *d, size_t steps)
 {
     static o_branch *waiting[2100];
@@ -123,6 +128,11 @@ static inline o_told o_run(const uint8_t *t, size_t nodes, const o_list *g, cons
         int value = (int)o_word(s + 2);
         if (!b)
             v = o_no(46, i);
+        else if (o_name_due(d, g, i)) {
+            if (o_name_bad(s, g, i))
+                v = o_no(64, i);
+        } else if (s[0] == 71)
+            v = o_no(64, i);
         else if (s[0] == 83) {
             if ((size_t)value >= 2 * nodes || o_value(&b->s, value))
                 v = o_no(45, i);
@@ -146,7 +156,7 @@ static inline o_told o_run(const uint8_t *t, size_t nodes, const o_list *g, cons
             }
     }
     if (!v.number && b)
-        v = o_no(47, steps);
+        v = o_no(o_name_due(d, g, steps) ? 64 : 47, steps);
     free(b);
     while (depth)
         free(waiting[--depth]);

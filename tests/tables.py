@@ -103,8 +103,8 @@ def expansion(records, l):
     return {TRUE: [[]], ATOM: [], AND: [[a ^ 1, b ^ 1]], OR: [[a ^ 1], [b ^ 1]], IMP: [[a], [b ^ 1]], IFF: [[a, b], [a ^ 1, b ^ 1]]}[kind]
 
 def search(records, goals):
-    """Of a list of goals: the final list and None, or None and the derivation's steps."""
-    steps = []
+    """Of a list of goals: the final list and None, or None and the derivation's steps, the goals' names first."""
+    steps = [("G", 0, g) for g in goals]
     def removals(held, clause, k):
         steps.extend(("R", p, k) for p, l in enumerate(clause) if l ^ 1 in held)
     def branch(held, clauses):
@@ -152,6 +152,12 @@ def checked(records, goals, steps):
     for i, (rule, p, k) in enumerate(steps):
         if complete:
             return 46, i
+        if steps[0][0] == "G" and i < len(goals):
+            if (rule, k) != ("G", goals[i]):
+                return 64, i
+            continue
+        if rule == "G":
+            return 64, i
         clauses = [[g] for g in goals]
         for l in held:
             clauses += expansion(records, l)
@@ -175,7 +181,8 @@ def checked(records, goals, steps):
             held, struck = waiting.pop() if waiting else ([], set())
         else:
             return 45, i
-    return None if complete else (47, len(steps))
+    ends_named = steps[0][0] == "G" and len(steps) < len(goals)
+    return None if complete else (64 if ends_named else 47, len(steps))
 
 def parity(n):
     """The parity of n points in two orders, and that they differ: an impossible goal, the last node, whose derivation doubles with n."""

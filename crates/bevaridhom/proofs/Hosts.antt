@@ -144,6 +144,7 @@ module _ (t goals w d w′ : List ℕ) where
         work = h .work;
         never = λ z. h .never (by-accepted r′ h z);
         published = λ z. h .published (by-accepted r′ h z);
+        only = λ z. h .only (by-accepted r′ h z);
         ours = λ rs a q l s. ap (λ (y : Checked). checkAnswer (checkedOf y) .number) (h .ours rs a q l s);
       }
 

@@ -15,7 +15,7 @@ use Rattle.scope.specs.Calls.{Added, settingsTest, evaluate}
 use Rattle.calculus.specs.Order.{impossible, answerOf}
 use Rattle.calculus.specs.Model.{All, mostGoals}
 use Rattle.calculus.specs.Decide.{searchOf, Decided, asked, decide, settingsAfter, Satisfies, Unsatisfiable, _⇔_}
-use Rattle.rules.specs.Steps.{encodeSteps, decodeSteps}
+use Rattle.rules.specs.Steps.{stepAt, encodeSteps, decodeSteps}
 use Rattle.rules.specs.Derive.{derivationOf, blocks, derive, derivedAfter, check}
 use Rattle.published.specs.Bytes.{PublishedBytes}
 use Rattle.deciding.specs.Decides.{Word, can, cannot, nothing, wordOf}
@@ -118,12 +118,14 @@ checkAnswer (answer u) = record { number = 0; place = 0 }
 checkAnswer (refused n p) = record { number = n; place = p }
 
 -- check for a host: its answer, a work area that a refusal before the first step leaves as it was, and what number 0 means: no setting
--- makes all goals true, and the steps are those of a derivation by the published rules; the solver's own derivation has it
+-- makes all goals true, and the steps are those of a derivation by the published rules, which has it for no other list of goals where
+-- its first step is a G; the solver's own derivation has it
 pub record HostChecks (t goals w d w′ : List ℕ) (r : BevChecked) : Type 0 where
   pub answered : r ≡ checkAnswer (check t goals w d)
   pub work : (number place : ℕ) → (asked t goals 0 0 (length w) >> decodeSteps d) ≡ refused number place → w′ ≡ w
   pub never : r .number ≡ 0 → Unsatisfiable t goals
   pub published : r .number ≡ 0 → PublishedBytes t goals d
+  pub only : r .number ≡ 0 → stepAt d 0 .rule ≡ 71 → (u others v : List ℕ) → check u others v d ≡ fine → goals ≡ others
   pub ours : (rs : List Node) → asked t goals 0 0 (length w) ≡ answer rs → answerOf (searchOf rs goals) ≡ impossible
       → length (encodeSteps (derivationOf rs goals)) ≤ 33554432 → d ≡ encodeSteps (derivationOf rs goals) → r .number ≡ 0
 

@@ -1,25 +1,28 @@
 -- Where check ends: at the first row's refusal, or with what the steps come to. Assumes nothing.
 use mathlib.Core.Path.{_≡_, refl, sym, ap, _∙_}
 use mathlib.Core.List.{List, []}
-use Prim.Native.Nat.{ℕ, _+_, _<_, _≤_}
+use Prim.Native.Nat.{ℕ, _+_, _-_, _<_, _≤_}
 use native.Mathlib.Omega.{arith}
 use lib.ListN.{length}
 use Rattle.scope.specs.declared.Node.{Node}
 use Rattle.scope.specs.declared.Refusal.{Refusal}
 use Rattle.scope.specs.Outcome.{Outcome, answer, refused, fine, _>>_, _>>=_}
 use Rattle.scope.specs.Table.{listFrom}
-use Rattle.scope.proofs.Tests.{refused-no, bound, passed-on}
+use Rattle.scope.proofs.Tests.{refused-no, then-first, then-next, bound, passed-on}
 use Rattle.codec.specs.Valid.{Bytes}
 use Rattle.calculus.specs.Expansion.{expand}
 use Rattle.calculus.specs.Decide.{nodesOf, asked}
 use Rattle.index.specs.Index.{indexNode}
 use Rattle.rules.specs.declared.Step.{Step}
 use Rattle.rules.specs.Steps.{stepAt, decodeSteps}
-use Rattle.rules.specs.Rules.{running, root, run, accepts}
+use Rattle.rules.specs.Rules.{names, body, namesTest, running, root, run, accepts}
 use Rattle.rules.specs.Derive.{checked, check}
+use Rattle.rules.proofs.Names.{check-names}
 use Rattle.published.proofs.Calls.{check-derives}
 use Rattle.steps.specs.Opened.{placeOf, stepCount}
 use Rattle.steps.proofs.Form.{read-fine, read-steps, read-length, step-within}
+use Rattle.naming.specs.Named.{headOf}
+use Rattle.naming.proofs.Heads.{names-most, body-from}
 use Rattle.asking.specs.Asks.{Prepared}
 use Rattle.meaning.proofs.Derivations.{check-never, own-accepted}
 use Rattle.checking.specs.Checks.{checkedOf, Replayed, Checks}
@@ -52,13 +55,46 @@ module _ (d : List ℕ) {count : ℕ} (e : stepCount d ≡ answer count) where
       step-within d (read-fine d (s .0) (s .1)) k (omega (arith, read-length d (s .0) (s .1), q))
 
   -- what the steps come to is the answer; a refusal is none of 40 to 44
-  pub steps-end : {t : ℕ → Node} {n : ℕ} {goals w w′ : List ℕ} {r : Checked} {o : Outcome (Unit {0})}
-      → o ≡ run (expand t) goals n 0 (listFrom (stepAt d) 0 count) (running root []) → checkedOf r ≡ o → Replayed t n goals w d w′ r
-  steps-end {t} {n} {goals} {r = r} z q =
+  pub steps-end : {t : ℕ → Node} {n : ℕ} {goals w w′ : List ℕ} {r : Checked}
+      → checkedOf r ≡ accepts (expand t) goals n (listFrom (stepAt d) 0 count) → Replayed t n goals w d w′ r
+  steps-end {t} {n} {goals} q =
       record {
-        answered = q ∙ z ∙ ap (_>>= accepts (expand t) goals n) (sym steps-read);
+        answered = q ∙ ap (_>>= accepts (expand t) goals n) (sym steps-read);
         work = λ number place s. refused-no (sym s ∙ steps-read);
       }
+
+-- ---- row 64 of the head, and the steps after it
+
+module _ (e : ℕ → List (List ℕ)) (goals : List ℕ) (n : ℕ) (f : ℕ → Step) (count : ℕ) where
+  abbrev all-steps : List Step
+  all-steps = listFrom f 0 count
+
+  -- the names are refused
+  pub head-refused : {number place : ℕ} → refused number place ≡ headOf goals (names all-steps) → refused number place ≡ accepts e goals n all-steps
+  unfolding accepts
+  head-refused q = go (namesTest goals (names all-steps)) q
+    where
+      go : (o : Outcome (Unit {0})) {number place : ℕ} → refused number place ≡ (o >> answer (length (names all-steps)))
+          → refused number place ≡ (o >> run e goals n (length (names all-steps)) (body all-steps) (running root []))
+      go (answer u) q = refused-no q
+      go (refused m p) q = cc
+
+  module _ {from : ℕ} (q : answer from ≡ headOf goals (names all-steps)) where
+    named : length (names all-steps) ≡ from
+    named =
+        let z = then-next (namesTest goals (names all-steps)) (answer (length (names all-steps))) (sym q) in
+        cc
+
+    pub head-within : from ≤ count
+    head-within = omega (arith, names-most f count 0, named)
+
+    -- the other steps decide
+    pub head-runs : run e goals n from (listFrom f from (count - from)) (running root []) ≡ accepts e goals n all-steps
+    unfolding accepts
+    head-runs =
+        let z : 0 + from ≡ from = omega arith in
+        let body-is = body-from f count 0 from named in
+        rw (then-first (namesTest goals (names all-steps)) (answer (length (names all-steps))) (sym q), named, body-is, z)
 
 -- ---- the answer, and what it means
 
@@ -75,6 +111,7 @@ module _ (t goals w d : List ℕ) (all : Bytes t) where
     work = kept;
     never = λ q. check-never t all goals w d (sym e ∙ ap checkedOf q);
     ours = λ rs a q h s. checked-accepted r (e ∙ ap (check t goals w) s ∙ own-accepted t all goals w rs a q h);
+    only = λ q g u others v c. check-names d g t u goals others w v (sym e ∙ ap checkedOf q) c;
     published = λ q. check-derives t goals w d (sym e ∙ ap checkedOf q);
   }
 

@@ -7,7 +7,7 @@ use lib.Dec.{eqb, ltb}
 use lib.ListN.{length, getD}
 use borrow.Author.Tests.{ltb-true}
 use Rattle.scope.specs.declared.Node.{Node}
-use Rattle.scope.specs.Outcome.{Outcome, answer, refused, _>>=_}
+use Rattle.scope.specs.Outcome.{Outcome, answer, refused, _>>_, _>>=_}
 use Rattle.scope.proofs.Tests.{refused-no}
 use Rattle.calculus.specs.Expansion.{expand}
 use Rattle.calculus.specs.Order.{Value, holds, fails, undecided, valueOf, clauses}
@@ -17,7 +17,7 @@ use Rattle.calculus.proofs.Lists.{all-getD}
 use Rattle.calculus.proofs.Literals.{neg-fresh}
 use Rattle.calculus.proofs.Fresh.{clauses-below}
 use Rattle.rules.specs.declared.Step.{Step}
-use Rattle.rules.specs.Rules.{among, Branch, root, isFails, isUndecided, unstruck, anyHolds, Progress, running, complete, turn, only, clauseAt, stands, left, ruleU, ruleR, ruleE, ruleC, ruleS, apply, advance, ended, run, accepts}
+use Rattle.rules.specs.Rules.{among, Branch, root, isFails, isUndecided, unstruck, anyHolds, Progress, running, complete, turn, only, clauseAt, stands, left, ruleU, ruleR, ruleE, ruleC, ruleS, names, body, namesTest, apply, advance, ended, run, accepts}
 use Rattle.rules.proofs.Laws.{place, After, after-given, after-only, after-apply, after-advance}
 use Rattle.asking.proofs.Same.{clauses-same}
 
@@ -132,4 +132,5 @@ module _ (n : ℕ) (t : ℕ → Node) (goals : List ℕ) (T : Table n t) (B : Be
 
     -- steps are accepted over t as over u
     pub accepts-same : (ss : List Step) → accepts (expand t) goals n ss ≡ accepts (expand u) goals n ss
-    accepts-same ss = run-kept ss 0 (running root []) (tt, tt)
+    unfolding accepts
+    accepts-same ss = ap (namesTest goals (names ss) >>_) (run-kept (body ss) (length (names ss)) (running root []) (tt, tt))

@@ -8,7 +8,7 @@ use Rattle.scope.specs.Outcome.{Outcome, answer, refused, fine, _>>_, _>>=_}
 use Rattle.calculus.specs.Expansion.{expand}
 use Rattle.calculus.specs.Order.{impossible, answerOf}
 use Rattle.calculus.specs.Decide.{searchOf, asked, Unsatisfiable}
-use Rattle.rules.specs.Steps.{decodeSteps, encodeSteps}
+use Rattle.rules.specs.Steps.{stepAt, decodeSteps, encodeSteps}
 use Rattle.rules.specs.Rules.{accepts}
 use Rattle.rules.specs.Derive.{derivationOf, check}
 use Rattle.published.specs.Bytes.{PublishedBytes}
@@ -36,5 +36,7 @@ pub record Checks (t goals w d w′ : List ℕ) (r : Checked) : Type 0 where
   -- our own (demand 3): the one derivation in the solver's order of goals called impossible is accepted, where 65,536 blocks hold it
   pub ours : (rs : List Node) → asked t goals 0 0 (length w) ≡ answer rs → answerOf (searchOf rs goals) ≡ impossible
       → length (encodeSteps (derivationOf rs goals)) ≤ 33554432 → d ≡ encodeSteps (derivationOf rs goals) → r ≡ Accepted
+  -- 'A derivation names its goals': one whose first step is a G is accepted for these goals and no other list, over whatever table
+  pub only : r ≡ Accepted → stepAt d 0 .rule ≡ 71 → (u others v : List ℕ) → check u others v d ≡ fine → goals ≡ others
   -- what is accepted is a derivation by the published rules
   pub published : r ≡ Accepted → PublishedBytes t goals d

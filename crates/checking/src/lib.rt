@@ -1,15 +1,22 @@
 // Check: whether a derivation, of any author, shows that no setting makes all goals true. Nothing is written to the work area before
 // the table, the goals, the area and the derivation's form have passed.
+use naming::Named;
 use scope::Refusal;
 use scope::Verdict;
 use steps::Opened;
 use table::Counted;
-ghost use Prim.Native.Nat.{_≤_};
+ghost use mathlib.Core.Path.{_≡_};
+ghost use Prim.Native.Nat.{ℕ, _+_, _<_, _≤_};
 ghost use lib.ListN.{length};
 ghost use Rattle.index.specs.Index.{indexNode};
 ghost use Rattle.area.specs.Area.{areaSize};
 ghost use Rattle.branch.specs.Holds.{Indexed, Goals};
-ghost use Rattle.checking.specs.Checks.{Replayed, Checks};
+ghost use Rattle.steps.specs.Opened.{placeOf};
+ghost use Rattle.rules.specs.Steps.{stepAt};
+ghost use Rattle.rules.specs.Rules.{accepts};
+ghost use Rattle.scope.specs.Table.{listFrom};
+ghost use Rattle.calculus.specs.Expansion.{expand};
+ghost use Rattle.checking.specs.Checks.{checkedOf, Replayed, Checks};
 
 // What check answers.
 pub enum Checked {
@@ -17,7 +24,28 @@ pub enum Checked {
     Refused(Refusal),
 }
 
-// Rows 40 to 44, then the steps in turn over an index, rows 45 to 47.
+// Row 64 of the goals that the derivation names, then its other steps in turn over an index, rows 45 to 47 and 64.
+fn judged(x: &[u16], n: usize, goals: &[u16], work: &mut [u16], d: &[u8], count: usize) -> Checked
+    requires { ⌜ Indexed (now x) n ⌝ }
+    requires { ⌜ Goals n (now goals) ⌝ }
+    requires { ⌜ areaSize ≤ length (now work) ⌝ }
+    requires { ⌜ ((k : ℕ) → k < count → placeOf k + 4 ≤ length (now d)) ⌝ }
+    ensures { λ r. ⌜ checkedOf r ≡ accepts (expand (indexNode (now (x .entry)))) (now (goals .entry)) n (listFrom (stepAt (now (d .entry))) 0 count) ⌝ }
+{
+    let head = naming::head(goals, d, count);
+    match head {
+        Named::Refused(f) => Checked::Refused(f),
+        Named::Goals(from) => {
+            let v = replay::check_run(x, n, goals, work, d, from, count);
+            match v {
+                Verdict::Fine => Checked::Accepted,
+                Verdict::Refused(failed) => Checked::Refused(failed),
+            }
+        }
+    }
+}
+
+// Rows 40 to 44, then the steps.
 fn replayed(x: &[u16], n: usize, goals: &[u16], work: &mut [u16], d: &[u8]) -> Checked
     requires { ⌜ Indexed (now x) n ⌝ }
     requires { ⌜ Goals n (now goals) ⌝ }
@@ -27,13 +55,7 @@ fn replayed(x: &[u16], n: usize, goals: &[u16], work: &mut [u16], d: &[u8]) -> C
     let o = steps::count(d);
     match o {
         Opened::Refused(f) => Checked::Refused(f),
-        Opened::Steps(count) => {
-            let v = replay::check_run(x, n, goals, work, d, count);
-            match v {
-                Verdict::Fine => Checked::Accepted,
-                Verdict::Refused(failed) => Checked::Refused(failed),
-            }
-        }
+        Opened::Steps(count) => judged(x, n, goals, work, d, count),
     }
 }
 

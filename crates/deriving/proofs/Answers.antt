@@ -12,7 +12,7 @@ use Rattle.calculus.specs.Order.{Tree, tree}
 use Rattle.calculus.specs.Decide.{nodesOf, asked}
 use Rattle.index.specs.Index.{indexNode}
 use Rattle.rules.specs.declared.Step.{Step}
-use Rattle.rules.specs.Derivation.{stepsOf}
+use Rattle.rules.specs.Derivation.{namedSteps}
 use Rattle.rules.specs.Derive.{derivationOf, Derived as Given, blocks, derived, derive, derivedAfter, check}
 use Rattle.asking.specs.Asks.{Prepared}
 use Rattle.asking.proofs.Nodes.{search-in}
@@ -72,10 +72,10 @@ module _ (t goals w d : List ℕ) (all : Bytes t) where
 
   module _ {x : List ℕ} {n : ℕ} (p : Prepared t goals 0 0 (length w) x n) where
     -- the steps over the index are those over the nodes
-    steps-in : stepsOf (expand (indexNode x)) goals [] (tree (expand (indexNode x)) goals n []) ≡ derivationOf (p .nodes) goals
+    steps-in : namedSteps (expand (indexNode x)) goals (tree (expand (indexNode x)) goals n []) ≡ derivationOf (p .nodes) goals
     steps-in =
         derivation-same n (indexNode x) (nodesOf (p .nodes)) (p .same) goals (p .indexed .table) (p .admitted .below)
-        ∙ ap (λ (k : ℕ). stepsOf (expand (nodesOf (p .nodes))) goals [] (tree (expand (nodesOf (p .nodes))) goals k [])) (sym (p .count))
+        ∙ ap (λ (k : ℕ). namedSteps (expand (nodesOf (p .nodes))) goals (tree (expand (nodesOf (p .nodes))) goals k [])) (sym (p .count))
 
     ends-on : derive t goals w d ≡ produced (indexNode x) n goals d
     unfolding derive derived

@@ -1,43 +1,43 @@
 -- What counting and writing came to, as derive's answer: 30 or 31 after the search, or the derivation. Assumes nothing.
 use mathlib.Core.Path.{_≡_, sym, ap, _∙_}
-use mathlib.Core.List.{List, []}
+use mathlib.Core.List.{List, [], _++_, map}
 use Prim.Native.Nat.{ℕ, _+_, _-_, _*_, _/_, _<_, _≤_, min}
 use native.Mathlib.Omega.{arith}
 use native.Mathlib.Decide.{decLt}
-use lib.ListN.{length}
+use lib.ListN.{length, length-append, length-map}
 use borrow.Author.Tests.{le-leb, lt-leb}
 use Rattle.scope.specs.declared.Node.{Node}
 use Rattle.scope.specs.Outcome.{answer, refused}
 use Rattle.calculus.specs.Expansion.{expand}
 use Rattle.calculus.specs.Order.{Tree, tree, possible, impossible, answerOf}
 use Rattle.rules.specs.declared.Step.{Step}
-use Rattle.rules.specs.Steps.{encodeSteps}
-use Rattle.rules.specs.Derivation.{stepsOf}
+use Rattle.rules.specs.Steps.{G as name, encodeSteps}
+use Rattle.rules.specs.Derivation.{stepsOf, namedSteps}
 use Rattle.steps.proofs.Encode.{length-encode-steps}
 use Rattle.state.specs.Work.{gOf}
 use Rattle.searching.specs.Search.{foundOf}
 use Rattle.counting.specs.Count.{atMost, stepsFrom, foundBy, Tallied}
 use Rattle.counting.specs.declared.Tally.{Tally}
 use Rattle.counting.specs.declared.Tally.the-variants.{Open, Closed as Shut}
-use Rattle.counting.proofs.Counts.{most-under, most-over}
+use Rattle.counting.proofs.Counts.{most-under, most-over, most-low}
 use Rattle.emitting.specs.Trace.{Fits, written}
 use Rattle.deriving.specs.Derives.{given, row31, produced, Produced}
 use Rattle.deriving.specs.declared.Derived.the-variants.{Steps, Refused}
 
 -- ---- how many steps fit
 
--- a count up to one more than fit
-count-fits : (most m c : ℕ) → c ≡ atMost (most + 1) (0 + m) → c ≤ most → c ≡ m
-count-fits most m c e h = go (decLt (0 + m) (most + 1))
+-- a count up to one more than fit, with g that are counted besides
+count-fits : (most g m c : ℕ) → c ≡ atMost (most + 1) (0 + m) → g + c ≤ most → c ≡ m
+count-fits most g m c e h = go (decLt (0 + m) (most + 1))
   where
     go : Dec (0 + m < most + 1) → c ≡ m
     go (yes l) = omega (arith, most-under (most + 1) (0 + m) l, e)
     go (no l) = absurd (omega (arith, most-over (most + 1) (0 + m) (omega (arith, l)), e))
 
-count-over : (most m c : ℕ) → c ≡ atMost (most + 1) (0 + m) → most < c → most < m
-count-over most m c e h = go (decLt (0 + m) (most + 1))
+count-over : (most g m c : ℕ) → c ≡ atMost (most + 1) (0 + m) → most < g + c → most < g + m
+count-over most g m c e h = go (decLt (0 + m) (most + 1))
   where
-    go : Dec (0 + m < most + 1) → most < m
+    go : Dec (0 + m < most + 1) → most < g + m
     go (yes l) = omega (arith, most-under (most + 1) (0 + m) l, e)
     go (no l) = omega (arith, l)
 
@@ -65,6 +65,12 @@ module _ (t : ℕ → Node) (n : ℕ) (goals d : List ℕ) where
 
   abbrev steps : List Step
   steps = stepsOf (expand t) goals [] whole
+
+  abbrev named : List Step
+  named = namedSteps (expand t) goals whole
+
+  named-length : length named ≡ length goals + length steps
+  named-length = simp (length-append, length-map)
 
   -- from no literals, with as much fuel as there are nodes
   from-none : (G : List ℕ) → G ≡ [] → tree (expand t) goals (n - length G) G ≡ whole
@@ -96,13 +102,17 @@ module _ (t : ℕ → Node) (n : ℕ) (goals d : List ℕ) where
       number : k ≡ atMost (most + 1) (0 + length steps)
       number = c .counted k e ∙ ap (λ (ss : List Step). atMost (most + 1) (0 + length ss)) (steps-none (gOf w₁) z)
 
-      pub produced-over : most < k → Produced t n goals d d (Refused (record { number = 31; place = 0 }))
-      produced-over h = refusal (rw (← none) (row-over steps d (omega (arith, count-over most _ k number h))))
+      -- the count with the names fits a number of the machine
+      pub count-low : k ≤ most + 1
+      count-low = omega (arith, number, most-low (most + 1) (0 + length steps))
+
+      pub produced-over : most < length goals + k → Produced t n goals d d (Refused (record { number = 31; place = 0 }))
+      produced-over h = refusal (rw (← none) (row-over named d (omega (arith, named-length, count-over most (length goals) _ k number h))))
 
       -- the steps fit, and the search starts again
-      module _ (h : k ≤ most) (w₃ : List ℕ) (y : gOf w₃ ≡ []) where
+      module _ (h : length goals + k ≤ most) (w₃ : List ℕ) (y : gOf w₃ ≡ []) where
         exact : k ≡ length steps
-        exact = count-fits most _ k number h
+        exact = count-fits most (length goals) _ k number h
 
         pub fits : Fits t n goals (gOf w₃) d
         fits = record {
@@ -111,11 +121,11 @@ module _ (t : ℕ → Node) (n : ℕ) (goals d : List ℕ) where
           most = omega (arith, ap length (steps-none (gOf w₃) y), exact, h, m);
         }
 
-        answers : produced t n goals d ≡ answer (given steps d)
-        answers = rw (← none) (row-fits steps d (omega (arith, exact, h, m)))
+        answers : produced t n goals d ≡ answer (given named d)
+        answers = rw (← none) (row-fits named d (omega (arith, named-length, exact, h, m)))
 
-        pub produced-steps : {d′ : List ℕ} → d′ ≡ written (stepsFrom t n goals (gOf w₃)) d → Produced t n goals d d′ (Steps k)
+        pub produced-steps : {d′ : List ℕ} → d′ ≡ written (map name goals ++ stepsFrom t n goals (gOf w₃)) d → Produced t n goals d d′ (Steps (length goals + k))
         produced-steps q = record {
-          answered = rw answers (ap answer exact);
-          bytes = rw answers (q ∙ ap (λ (ss : List Step). written ss d) (steps-none (gOf w₃) y));
+          answered = rw answers (ap answer (ap (length goals +_) exact ∙ sym named-length));
+          bytes = rw answers (q ∙ ap (λ (ss : List Step). written (map name goals ++ ss) d) (steps-none (gOf w₃) y));
         }

@@ -1,6 +1,6 @@
 -- Nodes that agree below n give one derivation. Assumes nothing.
 use mathlib.Core.Path.{_≡_, refl, ap, ap₂, _∙_}
-use mathlib.Core.List.{List, [], _∷_, _++_}
+use mathlib.Core.List.{List, [], _∷_, _++_, map}
 use Prim.Native.Nat.{ℕ, _<_}
 use lib.ListN.{getD}
 use Rattle.scope.specs.declared.Node.{Node}
@@ -9,8 +9,8 @@ use Rattle.calculus.specs.Order.{Tree, tree}
 use Rattle.calculus.specs.Model.{Table, Below, Good}
 use Rattle.calculus.proofs.Search.{Grown, closes, joins, ends, parts, grown-whole}
 use Rattle.rules.specs.declared.Step.{Step}
-use Rattle.rules.specs.Steps.{U, C, S}
-use Rattle.rules.specs.Derivation.{removals, removed, stepsOf}
+use Rattle.rules.specs.Steps.{U, C, S, G as name}
+use Rattle.rules.specs.Derivation.{removals, removed, stepsOf, namedSteps}
 use Rattle.asking.proofs.Same.{clauses-same, search-same}
 
 module _ (n : ℕ) (t u : ℕ → Node) (same : (i : ℕ) → i < n → t i ≡ u i) (goals : List ℕ) where
@@ -26,5 +26,6 @@ module _ (n : ℕ) (t u : ℕ → Node) (same : (i : ℕ) → i < n → t i ≡ 
   steps-same (parts {l = l} g m f p q) = ap₂ (λ (a b : List Step). S l ∷ a ++ b) (steps-same p) (steps-same q)
 
   pub derivation-same : Table n t → Below n goals
-      → stepsOf (expand t) goals [] (tree (expand t) goals n []) ≡ stepsOf (expand u) goals [] (tree (expand u) goals n [])
-  derivation-same T B = steps-same (grown-whole n t goals T B) ∙ ap (stepsOf (expand u) goals []) (search-same n t u same goals T B)
+      → namedSteps (expand t) goals (tree (expand t) goals n []) ≡ namedSteps (expand u) goals (tree (expand u) goals n [])
+  derivation-same T B =
+      ap (map name goals ++_) (steps-same (grown-whole n t goals T B) ∙ ap (stepsOf (expand u) goals []) (search-same n t u same goals T B))

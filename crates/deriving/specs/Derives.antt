@@ -11,7 +11,7 @@ use Rattle.calculus.specs.Order.{Tree, tree, answerOf}
 use Rattle.calculus.specs.Decide.{asked, Satisfies, Unsatisfiable}
 use Rattle.rules.specs.declared.Step.{Step}
 use Rattle.rules.specs.Steps.{encodeSteps}
-use Rattle.rules.specs.Derivation.{stepsOf}
+use Rattle.rules.specs.Derivation.{namedSteps}
 use Rattle.rules.specs.Derive.{isImpossible, Derived as Given, blocks, derive, derivedAfter, check}
 use Rattle.published.specs.Bytes.{PublishedBytes}
 use Rattle.deriving.specs.declared.Derived.{Derived}
@@ -37,7 +37,7 @@ producedBy search ss d = require (isImpossible (answerOf search)) 30 0 >> row31 
 
 -- the same of the nodes t
 abbrev pub produced : (ℕ → Node) → ℕ → List ℕ → List ℕ → Outcome Given
-produced t n goals d = producedBy (tree (expand t) goals n []) (stepsOf (expand t) goals [] (tree (expand t) goals n [])) d
+produced t n goals d = producedBy (tree (expand t) goals n []) (namedSteps (expand t) goals (tree (expand t) goals n [])) d
 
 -- the search over the nodes t was counted and its derivation written
 pub record Produced (t : ℕ → Node) (n : ℕ) (goals d d′ : List ℕ) (r : Derived) : Type 0 where

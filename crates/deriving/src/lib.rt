@@ -46,7 +46,8 @@ fn produce(x: &[u16], n: usize, goals: &[u16], work: &mut [u16], d: &mut [u8]) -
             number: 30,
             place: 0,
         }),
-        Tally::Closed(steps) => {
+        Tally::Closed(searched) => {
+            let steps = goals.len() + searched;
             if most < steps {
                 return Derived::Refused(Refusal {
                     number: 31,

@@ -1,9 +1,9 @@
 -- What the contracts of the writing pass come to at each return, over the literals held and the steps pushed. Assumes nothing.
 use mathlib.Core.Path.{_≡_, refl, sym, ap, _∙_}
-use mathlib.Core.List.{List, [], _∷_, _++_, append-assoc, append-nil}
+use mathlib.Core.List.{List, [], _∷_, _++_, map, append-assoc, append-nil}
 use Prim.Native.Nat.{ℕ, _+_, _<_}
 use native.Mathlib.Omega.{arith}
-use lib.ListN.{length, length-append}
+use lib.ListN.{length, length-append, length-map}
 use Rattle.scope.specs.declared.Node.{Node}
 use Rattle.calculus.specs.Expansion.{neg, expand}
 use Rattle.calculus.specs.Order.{move, impossible}
@@ -13,7 +13,7 @@ use Rattle.calculus.proofs.Count.{room}
 use Rattle.calculus.proofs.Fresh.{unit-fresh, split-fresh}
 use Rattle.calculus.proofs.Search.{possible-closed}
 use Rattle.rules.specs.declared.Step.{Step}
-use Rattle.rules.specs.Steps.{U, C, S}
+use Rattle.rules.specs.Steps.{U, C, S, G as name}
 use Rattle.rules.specs.Derivation.{removed}
 use Rattle.calculus.proofs.Sound.{or-closed}
 use Rattle.state.specs.Work.{gOf}
@@ -229,8 +229,23 @@ module _ {t : ℕ → Node} {n : ℕ} {goals w w₁ m₁ out out₁ : List ℕ} 
 -- ---- the whole
 
 -- the first step finds an empty block
-pub start-due : {t : ℕ → Node} {n : ℕ} {goals G d : List ℕ} (block : List ℕ) → length block ≡ 512 → Fits t n goals G d → Due t n goals G d (gathered block 0 0)
-start-due block l f = record {
+start-space : {t : ℕ → Node} {n : ℕ} {goals G d : List ℕ} (block : List ℕ) → length block ≡ 512 → Fits t n goals G d
+    → Space (length goals + length (stepsFrom t n goals G)) d (gathered block 0 0)
+start-space block l f = record { gathers = record { few = omega arith; whole = l }; lent = omega (arith, f .lent); most = omega (arith, f .most) }
+
+-- the names of the goals fit
+pub names-fit : {t : ℕ → Node} {n : ℕ} {goals G d : List ℕ} (block : List ℕ) → length block ≡ 512 → Fits t n goals G d → Space (length goals) d (gathered block 0 0)
+names-fit block l f = space-less (omega arith) (start-space block l f)
+
+-- .. and after them the steps of the search
+pub named-due : {t : ℕ → Node} {n : ℕ} {goals G d : List ℕ} (block : List ℕ) → length block ≡ 512 → Fits t n goals G d
+    → {out : List ℕ} {w : Writer} → Pushed (map name goals) d (gathered block 0 0) out w → Due t n goals G out w
+named-due {t} {n} {goals} {G} block l f p = record {
   closes = f .closes;
-  space = record { gathers = record { few = omega arith; whole = l }; lent = omega (arith, f .lent); most = omega (arith, f .most) };
+  space = space-left (length (stepsFrom t n goals G)) (rw length-map (start-space block l f)) p;
 }
+
+-- .. and then nothing more
+pub none-due : {t : ℕ → Node} {n : ℕ} {goals G out out′ : List ℕ} {w w′ : Writer} → Due t n goals G out w → Pushed (stepsFrom t n goals G) out w out′ w′
+    → Space 0 out′ w′
+none-due d p = space-left 0 (space-less (omega arith) (d .space)) p

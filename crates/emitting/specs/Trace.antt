@@ -54,11 +54,11 @@ pub record Emitted (t : ℕ → Node) (n : ℕ) (goals w w′ m′ out out′ : 
   pub grows : Extends (gOf w) (gOf w′)
   pub pushed : Pushed (stepsFrom t n goals (gOf w)) out g out′ g′
 
--- the search from G closes, and its steps fit a buffer from its start
+-- the search from G closes, and its steps fit a buffer from its start, with the names of the goals
 pub record Fits (t : ℕ → Node) (n : ℕ) (goals G d : List ℕ) : Type 0 where
   pub closes : result t n goals G ≡ impossible
-  pub lent : length (stepsFrom t n goals G) ≤ 126 * (length d / 512)
-  pub most : length (stepsFrom t n goals G) ≤ 126 * 65536
+  pub lent : length goals + length (stepsFrom t n goals G) ≤ 126 * (length d / 512)
+  pub most : length goals + length (stepsFrom t n goals G) ≤ 126 * 65536
 
 -- the derivation's bytes in a buffer: 'Bytes past its last block stay'
 abbrev pub written : List Step → List ℕ → List ℕ

@@ -8,13 +8,13 @@ use gather::Writer;
 use rules::Step;
 ghost use mathlib.Core.Path.{_≡_};
 ghost use mathlib.Core.Bool.{cond};
-ghost use mathlib.Core.List.{[], _∷_, _++_};
+ghost use mathlib.Core.List.{[], _∷_, _++_, map};
 ghost use Prim.Native.Nat.{_+_, _*_, _<_, _≤_};
 ghost use lib.Dec.{ltb};
 ghost use lib.ListN.{length};
 ghost use Rattle.calculus.specs.Expansion.{expand};
 ghost use Rattle.calculus.specs.Model.{Below, Goals};
-ghost use Rattle.rules.specs.Steps.{step};
+ghost use Rattle.rules.specs.Steps.{G as name, step};
 ghost use Rattle.rules.specs.Derivation.{removed};
 ghost use Rattle.index.specs.Index.{mostNodes, indexNode};
 ghost use Rattle.index.specs.Indexed.{Indexed};
@@ -226,7 +226,7 @@ fn emit(
     }
 }
 
-// The steps of a search that closes, in blocks at the start of d.
+// The goals' names and the steps of a search that closes, in blocks at the start of d.
 pub fn write(
     templates: &[[u8; 9]; 14],
     x: &[u16],
@@ -241,22 +241,14 @@ pub fn write(
     requires { ⌜ Goals n (now goals) ⌝ }
     requires { ⌜ Holds (indexNode (now x)) n (now goals) (now work) (now masks) ⌝ }
     requires { ⌜ Fits (indexNode (now x)) n (now goals) (gOf (now work)) (now d) ⌝ }
-    ensures { λ _. ⌜ now (d .exit) ≡ written (stepsFrom (indexNode (now (x .entry))) n (now (goals .entry)) (gOf (now (work .entry)))) (now (d .entry)) ⌝ }
+    ensures { λ _. ⌜ now (d .exit) ≡ written (map name (now (goals .entry)) ++ stepsFrom (indexNode (now (x .entry))) n (now (goals .entry)) (gOf (now (work .entry)))) (now (d .entry)) ⌝ }
 {
     let mut block = [0u8; 512];
-    let p = emit(
-        templates,
-        x,
-        n,
-        goals,
-        work,
-        masks,
-        d,
-        &mut block,
-        At {
-            count: 0,
-            blocks: 0,
-        },
-    );
+    let start = At {
+        count: 0,
+        blocks: 0,
+    };
+    let named = gather::add_goals(d, &mut block, start, goals);
+    let p = emit(templates, x, n, goals, work, masks, d, &mut block, named);
     gather::close(d, &block, p.count, p.blocks);
 }

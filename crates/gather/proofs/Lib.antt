@@ -2,3 +2,4 @@
 pub mod Keeps
 pub mod Pushes
 pub mod Removes
+pub mod Names

@@ -1,11 +1,11 @@
 // Writing a derivation: steps gather in one block until it holds 126, and then the block is written.
 use rules::Step;
 ghost use mathlib.Core.Path.{_≡_};
-ghost use mathlib.Core.List.{[], _∷_, _++_};
+ghost use mathlib.Core.List.{[], _∷_, _++_, map};
 ghost use Prim.Native.Nat.{_+_, _*_, _<_, _≤_};
 ghost use lib.ListN.{length, take, drop};
 ghost use Rattle.scope.specs.Block.{blockOf};
-ghost use Rattle.rules.specs.Steps.{stepBytes, step};
+ghost use Rattle.rules.specs.Steps.{G as name, stepBytes, step};
 ghost use Rattle.gather.specs.Kept.{bodyOf, gathered, lent, positions, removalIf, removalsAt, Space, Pushed, Closed};
 
 // The block that gathers, its steps from byte 4 on; how many steps it holds; and how many blocks are written.
@@ -134,6 +134,29 @@ pub fn push_move(out: &mut [u8], mut w: Writer, rule: u8, k: u16, removed: u8) -
     w.count = at.count;
     w.blocks = at.blocks;
     w
+}
+
+// The steps that name the goals, one each, in list order, in the block lent.
+pub fn add_goals(out: &mut [u8], block: &mut [u8; 512], start: At, goals: &[u16]) -> At
+    requires { ⌜ Space (length (now goals)) (now out) (lent (now block) start) ⌝ }
+    ensures { λ r. ⌜ Pushed (map name (now (goals .entry))) (now (out .entry)) (lent (now (block .entry)) start) (now (out .exit)) (lent (now (block .exit)) r) ⌝ }
+{
+    let mut at = start;
+    let mut i = 0;
+    while i < goals.len() {
+        at = add(
+            out,
+            block,
+            at,
+            Step {
+                rule: 71,
+                position: 0,
+                value: goals[i],
+            },
+        );
+        i += 1;
+    }
+    at
 }
 
 // The steps that still gather are written, if there are any.

@@ -27,7 +27,7 @@ use Rattle.calculus.proofs.Lists.{all-at, all-imply}
 use Rattle.calculus.proofs.Search.{never-cut}
 use Rattle.rules.specs.declared.Step.{Step}
 use Rattle.rules.specs.Steps.{C, decodeSteps, encodeSteps}
-use Rattle.rules.specs.Rules.{run, ended, accepts}
+use Rattle.rules.specs.Rules.{names, body, namesTest, run, ended, accepts}
 use Rattle.rules.specs.Derive.{derivationOf, isImpossible, Derived, blocks, derived, derive, checked, check}
 use Rattle.rules.proofs.Sound.{check-sound}
 use Rattle.rules.proofs.Accepts.{derivation-accepted}
@@ -58,7 +58,7 @@ module _ (t : List ℕ) (rs : List Node) (all : Bytes t) (e : decode t ≡ answe
 
     -- no steps are no derivation
     some-steps : (ss : List Step) → accepts (expand (nodesOf rs)) goals (length rs) ss ≡ fine → 0 < length ss
-    unfolding run ended
+    unfolding accepts namesTest names body run ended
     some-steps [] a = refused-no a
     some-steps (s ∷ ss) a = omega arith
 

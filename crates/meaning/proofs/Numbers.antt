@@ -1,6 +1,6 @@
 -- No refusal has the number 0, which tells a host that a call has answered. Assumes nothing.
 use mathlib.Core.Path.{_≡_, refl, sym}
-use mathlib.Core.Bool.{Bool, true, false, not, _&&_}
+use mathlib.Core.Bool.{Bool, true, false, not, _&&_, _||_}
 use mathlib.Core.List.{List, [], _∷_}
 use Prim.Native.Nat.{ℕ, zero, suc, _+_, _*_, _/_, _<_}
 use native.Mathlib.Omega.{arith}
@@ -10,14 +10,14 @@ use Rattle.scope.specs.declared.Format.{Format}
 use Rattle.scope.specs.Outcome.{Outcome, answer, refused, require, first, _>>_, _>>=_}
 use Rattle.scope.specs.Block.{wordAt, checkOk, headOk, paddingOk, blockTest, blockAt, recordAt, recordsIn}
 use Rattle.scope.specs.Table.{tables, nodeOf, nodeAt, formOk, rangeOk, orderOk, readRecord, repeats, recordTest, lengthOk, blockRows, tableTest, listFrom, decode}
-use Rattle.scope.proofs.Tests.{refused-no}
+use Rattle.scope.proofs.Tests.{refused-no, by-test}
 use Rattle.calculus.specs.Expansion.{expand}
 use Rattle.calculus.specs.Order.{answerOf}
 use Rattle.calculus.specs.Model.{mostGoals}
 use Rattle.calculus.specs.Decide.{nodesOf, searchOf, goalRow, goalsTest, rowsTest, asked, decided, decide}
 use Rattle.rules.specs.declared.Step.{Step}
 use Rattle.rules.specs.Steps.{derivations, stepAt, stepOk, sizeOk, formTest, decodeSteps, encodeSteps}
-use Rattle.rules.specs.Rules.{Progress, running, complete, root, apply, advance, ended, run}
+use Rattle.rules.specs.Rules.{Progress, running, complete, root, isG, names, body, isEmpty, equal, agreed, namesTest, apply, advance, ended, run, accepts}
 use Rattle.rules.specs.Derive.{derivationOf, isImpossible, derived, derive, checked, check}
 
 pub record Numbered {A : Type 0} (x : Outcome A) : Type 0 where
@@ -132,11 +132,17 @@ run-numbered e goals n i (s ∷ ss) (running b waiting) = go (apply e goals n s 
   where
     go : (o : Outcome Progress) → apply e goals n s b waiting ≡ o → ((p : Progress) → Numbered (run e goals n (suc i) ss p))
         → Numbered (run e goals n i (s ∷ ss) (running b waiting))
-    go (answer p) q r = rw q (r p)
-    go (refused number place) q r = rw q (refuses 45 i (omega arith))
+    go (answer p) q r = by-test (isG s) (λ t. rw t (refuses 64 i (omega arith))) (λ t. rw (t, q) (r p))
+    go (refused number place) q r = by-test (isG s) (λ t. rw t (refuses 64 i (omega arith))) (λ t. rw (t, q) (refuses 45 i (omega arith)))
+
+accepts-numbered : (e : ℕ → List (List ℕ)) (goals : List ℕ) (n : ℕ) (ss : List Step) → Numbered (accepts e goals n ss)
+unfolding accepts namesTest
+accepts-numbered e goals n ss =
+    rowed (isEmpty (names ss) || equal (names ss) goals) 64 (agreed (names ss) goals) _ (omega arith)
+    (run-numbered e goals n (length (names ss)) (body ss) (running root []))
 
 pub check-numbered : (t goals w d : List ℕ) → Numbered (check t goals w d)
 unfolding check checked
 check-numbered t goals w d =
     then (asked t goals 0 0 (length w)) _ (asked-numbered t goals 0 0 (length w))
-    (λ rs. then (decodeSteps d) _ (form-numbered d) (λ ss. run-numbered (expand (nodesOf rs)) goals (length rs) 0 ss (running root [])))
+    (λ rs. then (decodeSteps d) _ (form-numbered d) (λ ss. accepts-numbered (expand (nodesOf rs)) goals (length rs) ss))

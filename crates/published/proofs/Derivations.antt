@@ -2,14 +2,17 @@
 use mathlib.Core.Path.{_≡_, refl, sym, ap, _∙_, subst}
 use mathlib.Core.List.{List, [], _∷_, _++_, map, append-assoc, append-nil}
 use Prim.Native.Nat.{ℕ, suc}
-use Rattle.scope.specs.Outcome.{Outcome, answer, refused, fine}
+use lib.ListN.{length}
+use Rattle.scope.specs.Outcome.{fine}
 use Rattle.scope.proofs.Tests.{refused-no}
 use Rattle.calculus.specs.Expansion.{neg}
 use Rattle.calculus.specs.Order.{mem, clauses}
 use Rattle.calculus.specs.Model.{All}
 use Rattle.calculus.proofs.Lists.{all-append}
 use Rattle.rules.specs.declared.Step.{Step}
-use Rattle.rules.specs.Rules.{Branch, root, Progress, running, complete, apply, advance, ended, run, accepts}
+use Rattle.rules.specs.Rules.{Branch, root, Progress, running, complete, names, body, advance, ended, run, accepts}
+use Rattle.rules.proofs.Laws.{run-step}
+use Rattle.rules.proofs.Names.{accepted-runs}
 use Rattle.published.specs.Published.{Sequent, _⊢_, Derivation, by, Derivations, none, more, rulesOf, rulesIn}
 use Rattle.published.specs.Reading.{sequentOf, Within, openOf, ruleOf, Published}
 use Rattle.published.proofs.Standing.{standing-root}
@@ -62,30 +65,27 @@ module _ (ex : ℕ → List (List ℕ)) (goals : List ℕ) (nodes : ℕ) where
   run-derives [] i complete a e = (none, refl)
   run-derives (s ∷ ss) i complete a e = refused-no e
   run-derives (s ∷ ss) i (running b waiting) a e =
-      go (apply ex goals nodes s b waiting) refl (run-derives ss (suc i))
-    where
-      go : (o : Outcome Progress) → apply ex goals nodes s b waiting ≡ o
-          → ((p : Progress) → All (Within ex goals) (openOf p) → run ex goals nodes (suc i) ss p ≡ fine → Derived (openOf p) ss)
-          → Derived (b ∷ waiting) (s ∷ ss)
-      go (answer p) q r =
-          let f = step-fires ex goals nodes b waiting (a .0) s p q in
-          let w : All (Within ex goals) (openOf p) =
-          subst (λ (bs : List Branch). All (Within ex goals) bs) (sym (f .after)) (all-append (Within ex goals) (f .news) waiting (f .within) (a .1)) in
-          derived-step s ss b waiting p f (r p w (rw q at e))
-      go (refused number at) q r = refused-no (rw q at e)
+      let x = run-step ex goals nodes i s ss b waiting e in
+      let f = step-fires ex goals nodes b waiting (a .0) s (x .0) (x .1) in
+      let w : All (Within ex goals) (openOf (x .0)) =
+      subst (λ (bs : List Branch). All (Within ex goals) bs) (sym (f .after)) (all-append (Within ex goals) (f .news) waiting (f .within) (a .1)) in
+      derived-step s ss b waiting (x .0) f (run-derives ss (suc i) (x .0) w (x .2))
 
   -- the start is a state that is reached
   pub root-within : Within ex goals root
   unfolding mem
   root-within = (tt, tt, λ l q. refl)
 
-  -- accepted steps are a derivation
-  pub accepted-derives : (ss : List Step) → accepts ex goals nodes ss ≡ fine → Published ex goals ss
+  -- accepted steps are a derivation, after those that name goals
+  pub accepted-derives : (ss : List Step) → accepts ex goals nodes ss ≡ fine → Published ex goals (body ss)
   unfolding rulesOf clauses
-  accepted-derives ss e =
-      let r : Derived (root ∷ []) ss = run-derives ss 0 (running root []) (root-within, tt) e in
+  accepted-derives all e =
+      let r : Derived (root ∷ []) ss = run-derives ss (length (names all)) (running root []) (root-within, tt) (accepted-runs ex goals nodes all e) in
       start (r .0) (r .1)
     where
+      ss : List Step
+      ss = body all
+
       single : (ds : Derivations neg ex (([] ⊢ map (_∷ []) goals) ∷ [])) → rulesIn ds ≡ map ruleOf ss
           → (d : Derivation neg ex ([] ⊢ map (_∷ []) goals)) × (rulesOf d ≡ map ruleOf ss)
       single (more d none) q = (d, sym (append-nil (rulesOf d)) ∙ q)

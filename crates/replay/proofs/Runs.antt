@@ -1,20 +1,20 @@
 -- A run of steps, as the loop goes through it: what is left from step i on is the answer. Assumes nothing.
 use mathlib.Core.Path.{_≡_, refl, sym, ap, _∙_, subst}
-use mathlib.Core.Bool.{cond}
+use mathlib.Core.Bool.{true, false, cond}
 use mathlib.Core.List.{List, [], _∷_}
 use Prim.Native.Nat.{ℕ, suc, _+_, _-_, _<_, _≤_}
 use native.Mathlib.Omega.{arith}
 use native.Mathlib.Numerals.{add-one}
 use native.Mathlib.Decide.{decLt}
 use lib.Dec.{ltb}
-use borrow.Author.Tests.{lt-ltb, le-ltb}
+use borrow.Author.Tests.{lt-ltb, le-ltb, eq-eqb, ne-eqb}
 use Rattle.scope.specs.declared.Node.{Node}
 use Rattle.scope.specs.Outcome.{Outcome, answer, refused, fine}
 use Rattle.scope.specs.Table.{listFrom}
 use Rattle.scope.proofs.Lists.{listFrom-turn, listFrom-done}
 use Rattle.calculus.specs.Expansion.{expand}
 use Rattle.rules.specs.declared.Step.{Step}
-use Rattle.rules.specs.Rules.{Branch, root, Progress, running, complete, apply, advance, ended, run}
+use Rattle.rules.specs.Rules.{Branch, root, Progress, running, complete, isG, apply, advance, ended, run}
 use Rattle.replay.specs.declared.Status.{Status}
 use Rattle.replay.specs.declared.Status.the-variants.{Running}
 use Rattle.area.specs.Area.{gOf}
@@ -22,13 +22,25 @@ use Rattle.branch.specs.Holds.{clausesIn, literalsIn, History, branchOf, waits,
 use Rattle.replay.specs.Ruled.{Says, Ruled}
 
 module _ (e : ℕ → List (List ℕ)) (goals : List ℕ) (n : ℕ) (i : ℕ) (s : Step) (ss : List Step) (b : Branch) (ws : List Branch) where
-  run-fails : apply e goals n s b ws ≡ refused 45 0 → run e goals n i (s ∷ ss) (running b ws) ≡ refused 45 i
+  run-late : isG s ≡ true → run e goals n i (s ∷ ss) (running b ws) ≡ refused 64 i
   unfolding run advance
-  run-fails q = rw q
+  run-late q = rw q
 
-  run-goes : (p : Progress) → apply e goals n s b ws ≡ answer p → run e goals n i (s ∷ ss) (running b ws) ≡ run e goals n (suc i) ss p
-  unfolding run advance
-  run-goes p q = rw q
+  module _ (other : isG s ≡ false) where
+    run-fails : apply e goals n s b ws ≡ refused 45 0 → run e goals n i (s ∷ ss) (running b ws) ≡ refused 45 i
+    unfolding run advance
+    run-fails q = rw (other, q)
+
+    run-goes : (p : Progress) → apply e goals n s b ws ≡ answer p → run e goals n i (s ∷ ss) (running b ws) ≡ run e goals n (suc i) ss p
+    unfolding run advance
+    run-goes p q = rw (other, q)
+
+-- whether the step that was read is a G
+pub is-name : {s s′ : Step} → s ≡ s′ → s .rule ≡ 71 → isG s′ ≡ true
+is-name {s′ = s′} e q = eq-eqb (s′ .rule) 71 (ap (λ (s : Step). s .rule) (sym e) ∙ q)
+
+pub no-name : {s s′ : Step} → s ≡ s′ → (s .rule ≡ 71 → ⊥) → isG s′ ≡ false
+no-name {s′ = s′} e q = ne-eqb (s′ .rule) 71 (λ z. q (ap (λ (s : Step). s .rule) e ∙ z))
 
 module _ (t : ℕ → Node) (n : ℕ) (goals : List ℕ) (f : ℕ → Step) (count : ℕ) where
   -- what is left at step i is the answer
@@ -42,13 +54,13 @@ module _ (t : ℕ → Node) (n : ℕ) (goals : List ℕ) (f : ℕ → Step) (cou
   unfolding clausesIn literalsIn waits
   root-is w q = ap (λ (G : List ℕ). running (record { G = G; struckClauses = []; struckLiterals = [] }) []) q
 
-  pub going-starts : (w : List ℕ) → Holds t n goals w fresh → gOf w ≡ [] → Going (run (expand t) goals n 0 (listFrom f 0 count) (running root [])) w 0
-  going-starts w h q = record {
-    within = omega arith;
+  pub going-starts : (from : ℕ) → from ≤ count → (w : List ℕ) → Holds t n goals w fresh → gOf w ≡ []
+      → Going (run (expand t) goals n from (listFrom f from (count - from)) (running root [])) w from
+  going-starts from l w h q = record {
+    within = l;
     history = fresh;
     holds = h;
-    same = ap (λ (m : ℕ). run (expand t) goals n 0 (listFrom f 0 m) (running root [])) (omega arith)
-        ∙ ap (run (expand t) goals n 0 (listFrom f 0 (count - 0))) (sym (root-is w q));
+    same = ap (run (expand t) goals n from (listFrom f from (count - from))) (sym (root-is w q));
   }
 
   -- a derivation that is complete
@@ -79,26 +91,30 @@ module _ (t : ℕ → Node) (n : ℕ) (goals : List ℕ) (f : ℕ → Step) (cou
     step-is : i < count → o ≡ run (expand t) goals n i (f i ∷ listFrom f (i + 1) (count - (i + 1))) (running (branchOf w (g .history)) (waitingOf w (g .history)))
     step-is h = g .same ∙ ap (λ (ss : List Step). run (expand t) goals n i ss (running (branchOf w (g .history)) (waitingOf w (g .history)))) (listFrom-turn f i count h)
 
-    goes-to : (p : Progress) → i < count → apply (expand t) goals n (f i) (branchOf w (g .history)) (waitingOf w (g .history)) ≡ answer p
+    pub going-late : i < count → isG (f i) ≡ true → refused 64 i ≡ o
+    going-late h q =
+        sym (step-is h ∙ run-late (expand t) goals n i (f i) (listFrom f (i + 1) (count - (i + 1))) (branchOf w (g .history)) (waitingOf w (g .history)) q)
+
+    goes-to : (p : Progress) → i < count → isG (f i) ≡ false → apply (expand t) goals n (f i) (branchOf w (g .history)) (waitingOf w (g .history)) ≡ answer p
         → o ≡ run (expand t) goals n (i + 1) (listFrom f (i + 1) (count - (i + 1))) p
-    goes-to p h q =
-        step-is h ∙ run-goes (expand t) goals n i (f i) (listFrom f (i + 1) (count - (i + 1))) (branchOf w (g .history)) (waitingOf w (g .history)) p q
+    goes-to p h other q =
+        step-is h ∙ run-goes (expand t) goals n i (f i) (listFrom f (i + 1) (count - (i + 1))) (branchOf w (g .history)) (waitingOf w (g .history)) other p q
         ∙ ap (λ (m : ℕ). run (expand t) goals n m (listFrom f (i + 1) (count - (i + 1))) p) (sym (add-one i))
 
-    pub going-fails : i < count → apply (expand t) goals n (f i) (branchOf w (g .history)) (waitingOf w (g .history)) ≡ refused 45 0 → refused 45 i ≡ o
-    going-fails h q =
-        sym (step-is h ∙ run-fails (expand t) goals n i (f i) (listFrom f (i + 1) (count - (i + 1))) (branchOf w (g .history)) (waitingOf w (g .history)) q)
+    pub going-fails : i < count → isG (f i) ≡ false → apply (expand t) goals n (f i) (branchOf w (g .history)) (waitingOf w (g .history)) ≡ refused 45 0 → refused 45 i ≡ o
+    going-fails h other q =
+        sym (step-is h ∙ run-fails (expand t) goals n i (f i) (listFrom f (i + 1) (count - (i + 1))) (branchOf w (g .history)) (waitingOf w (g .history)) other q)
 
-    pub going-completes : i < count → apply (expand t) goals n (f i) (branchOf w (g .history)) (waitingOf w (g .history)) ≡ answer complete
+    pub going-completes : i < count → isG (f i) ≡ false → apply (expand t) goals n (f i) (branchOf w (g .history)) (waitingOf w (g .history)) ≡ answer complete
         → cond (ltb (i + 1) count) (refused 46 (i + 1)) fine ≡ o
-    going-completes h q = sym (goes-to complete h q ∙ complete-is (i + 1) (omega (arith, h)))
+    going-completes h other q = sym (goes-to complete h other q ∙ complete-is (i + 1) (omega (arith, h)))
 
-    pub going-goes : {w′ : List ℕ} → i < count → Says t n goals w′ (apply (expand t) goals n (f i) (branchOf w (g .history)) (waitingOf w (g .history))) Running → Going o w′ (i + 1)
-    going-goes {w′} h r = record {
+    pub going-goes : {w′ : List ℕ} → i < count → isG (f i) ≡ false → Says t n goals w′ (apply (expand t) goals n (f i) (branchOf w (g .history)) (waitingOf w (g .history))) Running → Going o w′ (i + 1)
+    going-goes {w′} h other r = record {
       within = omega (arith, h);
       history = r .0;
       holds = r .2;
-      same = goes-to (running (branchOf w′ (r .0)) (waitingOf w′ (r .0))) h (r .1);
+      same = goes-to (running (branchOf w′ (r .0)) (waitingOf w′ (r .0))) h other (r .1);
     }
 
     pub going-ends : count ≤ i → refused 47 count ≡ o

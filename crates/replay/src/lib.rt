@@ -5,7 +5,7 @@ use scope::Verdict;
 ghost use mathlib.Core.Path.{_≡_};
 ghost use mathlib.Core.Bool.{cond};
 ghost use mathlib.Core.List.{[]};
-ghost use Prim.Native.Nat.{ℕ, _+_, _≤_, _<_};
+ghost use Prim.Native.Nat.{ℕ, _+_, _-_, _≤_, _<_};
 ghost use lib.Dec.{ltb};
 ghost use lib.ListN.{length};
 ghost use Rattle.calculus.specs.Expansion.{expand};
@@ -177,25 +177,32 @@ fn completed(i: usize, count: usize) -> Verdict
     Verdict::Fine
 }
 
-// The steps of a derivation in turn: 45 a rule's condition fails, 46 already complete, 47 branches open at the end.
+// The steps of a derivation in turn, from a step on: 46 already complete, 64 a late G, 45 a rule's condition fails, 47 branches open at
+// the end.
 pub fn check_run(
     x: &[u16],
     n: usize,
     goals: &[u16],
     work: &mut [u16],
     d: &[u8],
+    from: usize,
     count: usize,
 ) -> Verdict
     requires { ⌜ Indexed (now x) n ⌝ }
     requires { ⌜ Goals n (now goals) ⌝ }
     requires { ⌜ areaSize ≤ length (now work) ⌝ }
+    requires { ⌜ from ≤ count ⌝ }
     requires { ⌜ ((k : ℕ) → k < count → placeOf k + 4 ≤ length (now d)) ⌝ }
-    ensures { λ r. ⌜ verdictOf r ≡ run (expand (indexNode (now (x .entry)))) (now (goals .entry)) n 0 (listFrom (stepAt (now (d .entry))) 0 count) (running root []) ⌝ }
+    ensures { λ r. ⌜ verdictOf r ≡ run (expand (indexNode (now (x .entry)))) (now (goals .entry)) n from (listFrom (stepAt (now (d .entry))) from (count - from)) (running root []) ⌝ }
 {
     branch::begin(x, n, goals, work);
-    let mut i = 0;
+    let mut i = from;
     while i < count {
-        let r = apply_step(x, n, work, steps::step_at(d, i));
+        let s = steps::step_at(d, i);
+        if s.rule == 71 {
+            return refusal(64, i);
+        }
+        let r = apply_step(x, n, work, s);
         match r {
             Status::Failed => {
                 return refusal(45, i);

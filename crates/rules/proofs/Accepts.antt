@@ -22,8 +22,9 @@ use Rattle.calculus.proofs.Sound.{or-closed}
 use Rattle.rules.specs.declared.Step.{Step}
 use Rattle.rules.specs.Steps.{U, R, C, S}
 use Rattle.rules.specs.Rules.{Place, among, Branch, root, join, strikeClause, strikeLiteral, isFails, unstruck, Progress, running, turn, stands, left, ruleU, ruleR, ruleC, ruleS, apply, advance, ended, run, accepts}
-use Rattle.rules.specs.Derivation.{removals, removed, stepsOf}
+use Rattle.rules.specs.Derivation.{removals, removed, stepsOf, namedSteps}
 use Rattle.rules.proofs.Laws.{by-test, Any, any-imply, place, all-among, still-in, clause-kept}
+use Rattle.rules.proofs.Names.{accepts-named}
 use Rattle.rules.proofs.Sound.{Agrees, none-accepted}
 
 abbrev branch : List ℕ → List ℕ → List Place → Branch
@@ -337,12 +338,13 @@ module _ (n : ℕ) (t : ℕ → Node) (goals : List ℕ) where
   module _ (T : Table n t) (B : Below n goals) where
     -- the derivation in the solver's order of goals called impossible is accepted
     pub derivation-accepted : answerOf (tree (expand t) goals n []) ≡ impossible
-        → accepts (expand t) goals n (stepsOf (expand t) goals [] (tree (expand t) goals n [])) ≡ fine
+        → accepts (expand t) goals n (namedSteps (expand t) goals (tree (expand t) goals n [])) ≡ fine
     unfolding run ended
     derivation-accepted e =
-        ap (λ (zs : List Step). runs 0 zs (running root [])) (sym (append-nil (steps [] (tree (expand t) goals n []))))
-        ∙ run-grown (grown-whole n t goals T B) e [] [] (tt, tt) [] 0 []
+        accepts-named (expand t) goals n (tree (expand t) goals n [])
+        ∙ ap (λ (zs : List Step). runs (length goals) zs (running root [])) (sym (append-nil (steps [] (tree (expand t) goals n []))))
+        ∙ run-grown (grown-whole n t goals T B) e [] [] (tt, tt) [] (length goals) []
 
     -- so goals that some truths agree with are not called impossible
     pub never-both : (True : ℕ → Type 0) → Agrees (expand t) goals n True → answerOf (tree (expand t) goals n []) ≡ impossible → ⊥
-    never-both True A e = none-accepted (expand t) goals n True A (steps [] (tree (expand t) goals n [])) (derivation-accepted e)
+    never-both True A e = none-accepted (expand t) goals n True A (namedSteps (expand t) goals (tree (expand t) goals n [])) (derivation-accepted e)

@@ -4,18 +4,18 @@ use mathlib.Core.Path.{_≡_, refl, sym, subst}
 use mathlib.Core.Logic.{_⊎_, inl, inr}
 use mathlib.Core.List.{List, [], _∷_}
 use mathlib.Core.Bool.{Bool, true, false, cond, false≢true}
-use Prim.Native.Nat.{ℕ, _<_}
+use Prim.Native.Nat.{ℕ, suc, _<_}
 use native.Mathlib.Omega.{arith}
 use lib.Dec.{eqb}
 use lib.ListN.{length, getD, length-append, List·getD-append}
 use borrow.Author.Tests.{eqb-true}
-use Rattle.scope.specs.Outcome.{Outcome, answer, refused, _>>_, _>>=_}
-use Rattle.scope.proofs.Tests.{and-left, and-right}
+use Rattle.scope.specs.Outcome.{Outcome, answer, refused, fine, _>>_, _>>=_}
+use Rattle.scope.proofs.Tests.{and-left, and-right, refused-no}
 pub use Rattle.scope.proofs.Tests.{by-test}
 use Rattle.calculus.specs.Order.{clauses}
 use Rattle.calculus.specs.Model.{All}
 use Rattle.rules.specs.declared.Step.{Step}
-use Rattle.rules.specs.Rules.{Place, samePlace, among, Branch, Progress, running, only, given, ruleU, ruleR, ruleE, ruleC, ruleS, apply, advance}
+use Rattle.rules.specs.Rules.{Place, samePlace, among, Branch, Progress, running, only, given, isG, ruleU, ruleR, ruleE, ruleC, ruleS, apply, advance, run}
 
 -- some element of a list has a property
 abbrev pub Any : {A : Type 0} → (A → Type 0) → List A → Type 0
@@ -101,5 +101,18 @@ module _ (P : Progress → Type 0) where
       where
         go : (o : Outcome Progress) → apply expand goals nodes s b waiting ≡ o → After o
             → After (advance expand goals nodes i s (running b waiting))
-        go (answer p) e g = rw e g
-        go (refused number at) e g = rw e tt
+        go (answer p) e g = rw e (after-cond (isG s) (refused 64 i) (answer p) tt g)
+        go (refused number at) e g = rw e (after-cond (isG s) (refused 64 i) (refused 45 i) tt tt)
+
+-- a step of a run to its end is no late G, and its rule answers what the steps after it start from
+pub run-step : (expand : ℕ → List (List ℕ)) (goals : List ℕ) (nodes i : ℕ) (s : Step) (ss : List Step) (b : Branch) (waiting : List Branch)
+    → run expand goals nodes i (s ∷ ss) (running b waiting) ≡ fine
+    → (p : Progress) × (apply expand goals nodes s b waiting ≡ answer p) × (run expand goals nodes (suc i) ss p ≡ fine)
+unfolding run advance
+run-step expand goals nodes i s ss b waiting e =
+    by-test (isG s) (λ t. refused-no (rw t at e)) (λ t. go t (apply expand goals nodes s b waiting) refl)
+  where
+    go : isG s ≡ false → (o : Outcome Progress) → apply expand goals nodes s b waiting ≡ o
+        → (p : Progress) × (apply expand goals nodes s b waiting ≡ answer p) × (run expand goals nodes (suc i) ss p ≡ fine)
+    go t (answer p) q = (p, q, rw (t, q) at e)
+    go t (refused number at) q = refused-no (rw (t, q) at e)

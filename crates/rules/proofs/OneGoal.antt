@@ -1,5 +1,5 @@
--- A list of length 1 gives the answers, and so the settings and derivation bytes, that its goal gave. Assumes nothing.
-use mathlib.Core.Path.{_≡_, refl}
+-- A list of length 1 gives the answers, and so the settings, that its goal gave; check, of derivations that name no goal. Assumes nothing.
+use mathlib.Core.Path.{_≡_, refl, _∙_}
 use mathlib.Core.Bool.{Bool, true, false}
 use mathlib.Core.List.{List, [], _∷_}
 use Prim.Native.Nat.{ℕ, _*_}
@@ -9,8 +9,10 @@ use Rattle.scope.specs.declared.Node.{Node}
 use Rattle.scope.specs.Outcome.{Outcome, answer, refused, fine, require, first, _>>_, _>>=_}
 use Rattle.scope.specs.Table.{decode}
 use Rattle.calculus.specs.Decide.{rowsTest, asked, decide}
-use Rattle.rules.specs.Derive.{derive, check}
-use Rattle.rules.specs.OneGoal.{askedOne, decideOne, deriveOne, checkOne}
+use Rattle.rules.specs.Derive.{check}
+use Rattle.rules.specs.OneGoal.{askedOne, decideOne, checkOne}
+use Rattle.rules.specs.Unnamed.{Nameless}
+use Rattle.rules.proofs.Unnamed.{check-unnamed}
 
 -- the rows, by what their tests say
 rows-one : (rs : List Node) (p q r : Bool)
@@ -34,10 +36,5 @@ module _ (t : List ℕ) (goal : ℕ) where
   unfolding decide
   decide-one s w = rw (asked-one t goal 1024 (length s) (length w))
 
-  pub derive-one : (w d : List ℕ) → derive t (goal ∷ []) w d ≡ deriveOne t goal w d
-  unfolding derive
-  derive-one w d = rw (asked-one t goal 0 0 (length w))
-
-  pub check-one : (w d : List ℕ) → check t (goal ∷ []) w d ≡ checkOne t goal w d
-  unfolding check
-  check-one w d = rw (asked-one t goal 0 0 (length w))
+  pub check-one : (w d : List ℕ) → Nameless d → check t (goal ∷ []) w d ≡ checkOne t goal w d
+  check-one w d none = check-unnamed (goal ∷ []) d none t w ∙ rw (asked-one t goal 0 0 (length w))

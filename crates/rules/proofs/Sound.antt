@@ -21,7 +21,8 @@ use Rattle.calculus.proofs.Literals.{neg-below, all-member, fails-mem}
 use Rattle.calculus.proofs.Fresh.{expand-under}
 use Rattle.calculus.proofs.Truth.{clauseTrue, neg-true, expand-true}
 use Rattle.rules.specs.declared.Step.{Step}
-use Rattle.rules.specs.Rules.{Place, among, Branch, root, join, strikeClause, strikeLiteral, isFails, isUndecided, unstruck, anyHolds, Progress, running, complete, turn, only, clauseAt, stands, left, ruleU, ruleR, ruleE, ruleC, ruleS, apply, advance, ended, run, accepts}
+use Rattle.rules.specs.Rules.{Place, among, Branch, root, join, strikeClause, strikeLiteral, isFails, isUndecided, unstruck, anyHolds, Progress, running, complete, turn, only, clauseAt, stands, left, ruleU, ruleR, ruleE, ruleC, ruleS, apply, advance, names, body, ended, run, accepts}
+use Rattle.rules.proofs.Names.{accepted-runs}
 use Rattle.rules.proofs.Laws.{by-test, Any, place, all-among, still-in, clause-kept, After, after-given, after-only, after-apply, after-advance}
 
 -- Truths of literals: `True l` says that l is true. No literal is true with its negation, one of the two is, the clauses of a true
@@ -214,7 +215,7 @@ module _ (expand : ℕ → List (List ℕ)) (goals : List ℕ) (nodes : ℕ) (Tr
 
   -- no steps are accepted
   pub none-accepted : (ss : List Step) → accepts expand goals nodes ss ≡ fine → ⊥
-  none-accepted ss e = live-run ss 0 (running root []) (inl (tt, tt)) e
+  none-accepted ss e = live-run (body ss) (length (names ss)) (running root []) (inl (tt, tt)) (accepted-runs expand goals nodes ss e)
 
 -- ---- the truths of a table's nodes
 

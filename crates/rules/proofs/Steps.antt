@@ -1,7 +1,7 @@
 -- The form of steps: those of the derivation in the solver's order meet row 44 and fit their four bytes, and a step is read back from
 -- its bytes. Assumes nothing.
 use mathlib.Core.Path.{_≡_, refl, ap}
-use mathlib.Core.List.{List, [], _∷_}
+use mathlib.Core.List.{List, [], _∷_, map}
 use mathlib.Core.Bool.{Bool, true, false, _||_}
 use Prim.Native.Nat.{ℕ, suc, _+_, _*_, _/_, _%_, _<_, _≤_}
 use native.Mathlib.Omega.{arith}
@@ -12,15 +12,15 @@ use Rattle.scope.specs.declared.Node.{Node}
 use Rattle.calculus.specs.Expansion.{neg, expand}
 use Rattle.calculus.specs.Order.{valueOf, clauses, Tree, tree}
 use Rattle.calculus.specs.Model.{All, Table, Below, Good}
-use Rattle.calculus.proofs.Lists.{all-append, all-at}
+use Rattle.calculus.proofs.Lists.{all-append, all-at, all-imply, all-map}
 use Rattle.calculus.proofs.Count.{at-most}
 use Rattle.calculus.proofs.Sizes.{widest, Short, clauses-few, clauses-short}
 use Rattle.calculus.proofs.Moves.{conflict-clause, unit-clause}
 use Rattle.calculus.proofs.Search.{Grown, closes, joins, ends, parts, grown-whole}
 use Rattle.rules.specs.declared.Step.{Step}
-use Rattle.rules.specs.Steps.{step, U, C, stepBytes, stepOf, stepOk}
+use Rattle.rules.specs.Steps.{step, U, C, G as name, stepBytes, stepOf, stepOk}
 use Rattle.rules.specs.Rules.{isFails}
-use Rattle.rules.specs.Derivation.{removals, removed, stepsOf}
+use Rattle.rules.specs.Derivation.{removals, removed, stepsOf, namedSteps}
 use Rattle.rules.proofs.Laws.{by-test}
 
 -- a step that a file can hold
@@ -54,7 +54,7 @@ bytes-of-step (a ∷ b ∷ c ∷ d ∷ x ∷ r) e h = absurd (omega arith)
 
 -- the letters of the rules without a position
 abbrev plain : ℕ → Bool
-plain r = eqb r 85 || (eqb r 69 || (eqb r 67 || eqb r 83))
+plain r = eqb r 85 || (eqb r 69 || (eqb r 67 || (eqb r 83 || eqb r 71)))
 
 or-cases : {A : Type 0} (a b : Bool) → (a || b) ≡ true → (a ≡ true → A) → (b ≡ true → A) → A
 or-cases true b e f g = f refl
@@ -104,5 +104,9 @@ module _ (n : ℕ) (t : ℕ → Node) (goals : List ℕ) (h : n ≤ 2016) (few :
   )
 
   -- every step of the derivation in the solver's order can be held in a file
-  pub derivation-formed : Table n t → Below n goals → All Formed (stepsOf (expand t) goals [] (tree (expand t) goals n []))
-  derivation-formed T B = grown-formed (grown-whole n t goals T B)
+  pub derivation-formed : Table n t → Below n goals → All Formed (namedSteps (expand t) goals (tree (expand t) goals n []))
+  derivation-formed T B =
+      all-append Formed (map name goals) (stepsOf (expand t) goals [] (tree (expand t) goals n []))
+      (all-map Formed name goals
+      (all-imply (λ l. l < 2 * n) (λ l. Formed (name l)) (λ l b. plain-formed 71 l refl refl (omega arith)) goals B))
+      (grown-formed (grown-whole n t goals T B))

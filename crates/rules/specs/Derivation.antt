@@ -1,12 +1,12 @@
--- 01, 'Derivations', third part: the one derivation in the solver's order. Assumes nothing.
-use mathlib.Core.List.{List, [], _∷_, _++_}
+-- 01, 'Derivations', third part, and 'A derivation names its goals': the one derivation in the solver's order. Assumes nothing.
+use mathlib.Core.List.{List, [], _∷_, _++_, map}
 use Prim.Native.Nat.{ℕ, suc}
 use lib.ListN.{getD}
 use mathlib.Core.Bool.{cond}
 use Rattle.calculus.specs.Expansion.{neg}
 use Rattle.calculus.specs.Order.{valueOf, clauses, Tree, conflict, unit, split, model, cut}
 use Rattle.rules.specs.declared.Step.{Step}
-use Rattle.rules.specs.Steps.{U, R, C, S}
+use Rattle.rules.specs.Steps.{U, R, C, S, G as name}
 use Rattle.rules.specs.Rules.{isFails}
 
 -- 'an R for each false literal of the clause, in position order': of clause k, from position p on
@@ -27,3 +27,7 @@ module _ (expand : ℕ → List (List ℕ)) (goals : List ℕ) where
   stepsOf G (split l left right) = S l ∷ stepsOf (l ∷ G) left ++ stepsOf (neg l ∷ G) right
   stepsOf G (model F) = []
   stepsOf G cut = []
+
+  -- 'the derivation in the solver's order starts with them': a G for each goal, then the steps of the search
+  abbrev pub namedSteps : Tree → List Step
+  namedSteps search = map name goals ++ stepsOf [] search

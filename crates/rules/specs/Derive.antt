@@ -1,5 +1,5 @@
 -- 01, 'Derivations', 'Where each call says no' and 'Several goals together': derive and check. Assumes nothing.
-use mathlib.Core.List.{List, [], _++_}
+use mathlib.Core.List.{List, _++_}
 use mathlib.Core.Bool.{Bool, true, false}
 use Prim.Native.Nat.{ℕ, _+_, _*_, _/_}
 use lib.Dec.{leb}
@@ -12,11 +12,11 @@ use Rattle.calculus.specs.Decide.{nodesOf, searchOf, asked}
 use Rattle.rules.specs.declared.Step.{Step}
 use Rattle.rules.specs.Steps.{encodeSteps, decodeSteps}
 use Rattle.rules.specs.Rules.{accepts}
-use Rattle.rules.specs.Derivation.{stepsOf}
+use Rattle.rules.specs.Derivation.{namedSteps}
 
--- 'A goal called impossible has one derivation in the solver's order', and so has a list of goals
+-- 'A goal called impossible has one derivation in the solver's order', and so has a list of goals; it starts with their names
 abbrev pub derivationOf : List Node → List ℕ → List Step
-derivationOf rs goals = stepsOf (expand (nodesOf rs)) goals [] (searchOf rs goals)
+derivationOf rs goals = namedSteps (expand (nodesOf rs)) goals (searchOf rs goals)
 
 abbrev pub isImpossible : Answer → Bool
 isImpossible (possible G) = false

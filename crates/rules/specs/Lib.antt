@@ -3,4 +3,5 @@ pub mod Steps
 pub mod Rules
 pub mod Derivation
 pub mod Derive
+pub mod Unnamed
 pub mod OneGoal

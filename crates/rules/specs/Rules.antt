@@ -1,5 +1,5 @@
--- 01, 'Derivations', second part: the checker's state and its rules. The clauses of a literal come from any `expand`.
--- Assumes nothing.
+-- 01, 'Derivations', second part, and 'A derivation names its goals': the checker's state, its rules and the goals that a derivation
+-- names. The clauses of a literal come from any `expand`. Assumes nothing.
 use mathlib.Core.List.{List, [], _∷_}
 use mathlib.Core.Bool.{Bool, true, false, cond, not, _&&_, _||_}
 use Prim.Native.Nat.{ℕ, suc, _*_}
@@ -89,6 +89,44 @@ only (l ∷ m ∷ c) = refused 45 0
 abbrev pub given : Bool → Outcome (Unit {0})
 given t = require t 45 0
 
+-- ---- the goals that a derivation names
+
+abbrev pub isG : Step → Bool
+isG s = eqb (s .rule) 71
+
+-- 'A derivation may open with steps of rule G .., one per goal in list order with the literal as value': their values, and the steps
+-- after them
+unfoldable pub names : List Step → List ℕ
+names [] = []
+names (s ∷ ss) = cond (isG s) (s .value ∷ names ss) []
+
+unfoldable pub body : List Step → List Step
+body [] = []
+body (s ∷ ss) = cond (isG s) (body ss) (s ∷ ss)
+
+abbrev pub isEmpty : List ℕ → Bool
+isEmpty [] = true
+isEmpty (l ∷ ls) = false
+
+unfoldable pub equal : List ℕ → List ℕ → Bool
+equal [] [] = true
+equal [] (g ∷ goals) = false
+equal (l ∷ ls) [] = false
+equal (l ∷ ls) (g ∷ goals) = eqb l g && equal ls goals
+
+-- how far two lists are the same
+unfoldable pub agreed : List ℕ → List ℕ → ℕ
+agreed [] goals = 0
+agreed (l ∷ ls) [] = 0
+agreed (l ∷ ls) (g ∷ goals) = cond (eqb l g) (suc (agreed ls goals)) 0
+
+-- 'If its first step is a G, these must be exactly the caller's goals': 64, 'at the step where that shows (the step count if the file
+-- ends first)', which is the first G that is wrong or one too many, or the step where one is missing
+unfoldable pub namesTest : List ℕ → List ℕ → Outcome (Unit {0})
+namesTest goals ls = require (isEmpty ls || equal ls goals) 64 (agreed ls goals)
+
+-- ---- the rules
+
 module _ (expand : ℕ → List (List ℕ)) (goals : List ℕ) (nodes : ℕ) where
   -- clause k of the list of a branch
   abbrev pub clauseAt : Branch → ℕ → List ℕ
@@ -148,10 +186,11 @@ module _ (expand : ℕ → List (List ℕ)) (goals : List ℕ) (nodes : ℕ) whe
       (cond (eqb (s .rule) 67) (ruleC (s .value) b waiting)
       (ruleS (s .value) b waiting))))
 
-  -- 'each step in turn: 46 already complete, tested first; 45 its rule's condition fails', at step i
+  -- 'each step in turn: 46 already complete, tested first; 45 its rule's condition fails', at step i; 64 of a late G 'after 46 and
+  -- before 45'
   unfoldable pub advance : ℕ → Step → Progress → Outcome Progress
   advance i s complete = refused 46 i
-  advance i s (running b waiting) = at i (apply s b waiting)
+  advance i s (running b waiting) = cond (isG s) (refused 64 i) (at i (apply s b waiting))
     where
       at : ℕ → Outcome Progress → Outcome Progress
       at i (answer p) = answer p
@@ -167,6 +206,6 @@ module _ (expand : ℕ → List (List ℕ)) (goals : List ℕ) (nodes : ℕ) whe
   run i [] p = ended i p
   run i (s ∷ ss) p = advance i s p >>= run (suc i) ss
 
-  -- a whole derivation, from the solver's start
-  abbrev pub accepts : List Step → Outcome (Unit {0})
-  accepts ss = run 0 ss (running root [])
+  -- a whole derivation: the goals that it names, then the other steps from the solver's start
+  unfoldable pub accepts : List Step → Outcome (Unit {0})
+  accepts ss = namesTest goals (names ss) >> run (length (names ss)) (body ss) (running root [])

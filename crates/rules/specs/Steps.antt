@@ -14,7 +14,7 @@ use Rattle.rules.specs.declared.Step.{Step}
 abbrev pub derivations : Format
 derivations = record { letter = 68; width = 4; capacity = 126; number = 41 }
 
--- 'U (85)', 'R (82)', 'E (69)', 'C (67)', 'S (83)'
+-- 'U (85)', 'R (82)', 'E (69)', 'C (67)', 'S (83)', 'G (71, position 0)'
 abbrev pub step : ℕ → ℕ → ℕ → Step
 step rule position value = record { rule = rule; position = position; value = value }
 
@@ -33,6 +33,9 @@ C k = step 67 0 k
 abbrev pub S : ℕ → Step
 S l = step 83 0 l
 
+abbrev pub G : ℕ → Step
+G l = step 71 0 l
+
 -- 'Byte 0 rule, byte 1 position, bytes 2 to 3 value.'
 unfoldable pub stepBytes : Step → List ℕ
 stepBytes s = s .rule ∷ s .position ∷ wordBytes (s .value)
@@ -47,7 +50,7 @@ stepAt d k = stepOf (recordAt derivations d k)
 unfoldable pub stepOk : Step → Bool
 stepOk s =
     cond (eqb (s .rule) 82) (leb (s .position) 1)
-    ((eqb (s .rule) 85 || (eqb (s .rule) 69 || (eqb (s .rule) 67 || eqb (s .rule) 83))) && eqb (s .position) 0)
+    ((eqb (s .rule) 85 || (eqb (s .rule) 69 || (eqb (s .rule) 67 || (eqb (s .rule) 83 || eqb (s .rule) 71)))) && eqb (s .position) 0)
 
 -- 40: 'zero, no multiple of 512, over 33,554,432'
 unfoldable pub sizeOk : ℕ → Bool

@@ -2,14 +2,14 @@
 -- search and the rules compute to on its nodes, for all buffers that are long enough (`holds`); each row's computation is run (`facts`).
 -- Assumes nothing.
 use mathlib.Core.Path.{_≡_, _∙_, refl, ap, sym}
-use mathlib.Core.List.{List, [], _∷_}
+use mathlib.Core.List.{List, [], _∷_, _++_}
 use mathlib.Core.Bool.{Bool, true, false, _&&_}
 use Prim.Native.Nat.{ℕ, _*_, _<_, _≤_}
 use native.Mathlib.Omega.{arith}
 use lib.Dec.{leb, ltb}
-use lib.ListN.{length}
+use lib.ListN.{length, drop}
 use borrow.Author.Tests.{ltb-true, le-leb, leb-true}
-use Rattle.scope.specs.Outcome.{Outcome, answer, refused, fine, first}
+use Rattle.scope.specs.Outcome.{Outcome, answer, refused, fine, require, first, _>>_}
 use Rattle.scope.specs.Block.{weight, weighted, checkOf, checkOk, headOk, zeros, paddingOk, blockTest, seal, blockOf, blocksOf, fileOf, recordAt, recordsIn}
 use Rattle.scope.specs.Table.{nodeBytes, nodeOf, formOk, rangeOk, orderOk, readRecord, anyBelow, repeats, recordTest, lengthOk, blockRows, tableTest, listFrom, decode, encode}
 use Rattle.codec.proofs.Rows.{both}
@@ -22,9 +22,9 @@ use Rattle.calculus.specs.Decide.{nodesOf, searchOf, settingsOn, asked, decide}
 use Rattle.calculus.proofs.Asked.{asked-fine}
 use Rattle.rules.specs.declared.Step.{Step}
 use Rattle.rules.specs.Steps.{U, stepOk, encodeSteps, decodeSteps}
-use Rattle.rules.specs.Rules.{among, unstruck, anyHolds, ruleU, ruleR, ruleE, ruleC, ruleS, apply, advance, ended, run, accepts}
+use Rattle.rules.specs.Rules.{among, unstruck, anyHolds, ruleU, ruleR, ruleE, ruleC, ruleS, names, body, equal, agreed, namesTest, apply, advance, ended, run, accepts}
 use Rattle.rules.specs.Derivation.{removals, stepsOf}
-use Rattle.rules.specs.Derive.{derivationOf, derived as given, derive, checked as taken, check}
+use Rattle.rules.specs.Derive.{derivationOf, Derived as Given, derived as given, derive, checked as taken, check}
 use Rattle.steps.proofs.Encode.{length-encode-steps, encode-steps-read}
 use Rattle.text.specs.Text.{ascii, digitsOf}
 use Rattle.text.specs.Listing.{heading, nodeLine, nodeLines}
@@ -71,6 +71,13 @@ Fact (pointReads p) = Holds (pointReads p)
 Fact (pointOver p number) = Holds (pointOver p number)
 Fact (prints rs text) = Holds (prints rs text)
 
+-- derive's rows of 31 and its answer, of steps
+abbrev rows31 : List ℕ → List Step → Outcome Given
+rows31 d ss =
+    require (leb (length (encodeSteps ss)) (length d)) 31 0
+    >> (require (leb (length (encodeSteps ss)) 33554432) 31 0
+    >> answer (record { steps = length ss; bytes = encodeSteps ss ++ drop (length (encodeSteps ss)) d }))
+
 -- a goal of table A, and buffers that are long enough
 module _ (goal : ℕ) (inside : ltb goal 20 ≡ true) where
   goal-ok : ltb goal (2 * length nodesA) ≡ true
@@ -116,7 +123,8 @@ module _ (goal : ℕ) (inside : ltb goal 20 ≡ true) where
     unfolding derive given
     derives closed is ends = record {
       verdict = λ s w long area. decides s w long area ∙ ap (λ (a : Answer). answer (record { verdict = a; settings = settingsOn nodesA s a })) closed;
-      derivation = λ w d area room. rw (asks 0 0 (length w) (omega arith) area, closed, is, block, le-leb 512 (length d) room);
+      derivation = λ w d area room.
+          rw (asks 0 0 (length w) (omega arith) area, closed) (ap (rows31 d) is ∙ rw (block, le-leb 512 (length d) room));
       accepted = λ w area. checks w area ∙ ends;
     }
 
@@ -143,13 +151,14 @@ abbrev _also_ : {A B : Type 0} → A → B → A × B
 x also y = (x, y)
 
 facts : All Fact rows
-unfolding nodesA fileOf blocksOf nodeBytes mathlib.Core.List.flatMap blockOf seal checkOf weighted weight checkOk headOk zeros paddingOk blockTest recordAt recordsIn nodeOf formOk rangeOk orderOk readRecord anyBelow repeats recordTest lengthOk blockRows tableTest listFrom decode first atomHeld mem stepOk stepsOf removals tree move clauses moveOf firstOf some stateOf valueOf expand templates chosen answerOf among unstruck anyHolds ruleU ruleR ruleE ruleC ruleS apply advance ended run ascii digitsOf heading nodeLine nodeLines
+unfolding nodesA fileOf blocksOf nodeBytes mathlib.Core.List.flatMap blockOf seal checkOf weighted weight checkOk headOk zeros paddingOk blockTest recordAt recordsIn nodeOf formOk rangeOk orderOk readRecord anyBelow repeats recordTest lengthOk blockRows tableTest listFrom decode first atomHeld mem stepOk stepsOf removals tree move clauses moveOf firstOf some stateOf valueOf expand templates chosen answerOf among unstruck anyHolds ruleU ruleR ruleE ruleC ruleS names body equal agreed namesTest apply advance ended run accepts ascii digitsOf heading nodeLine nodeLines
 facts =
     (refl, refl) also (refl, refl)
     also (refl, refl) also (refl, refl) also (refl, refl) also (refl, refl) also (refl, refl) also (refl, refl)
     also (refl, refl, refl, refl, refl) also (refl, refl, refl, refl, refl)
     also (refl, refl, refl, refl, refl)
     also (refl, refl, refl) also (refl, refl, refl) also (refl, refl, refl) also (refl, refl, refl)
+    also (refl, refl, refl) also (refl, refl, refl) also (refl, refl, refl) also (refl, refl, refl) also (refl, refl, refl)
     also refl also (refl, refl) also refl also refl
     also refl
     also tt

@@ -11,7 +11,7 @@ use Rattle.scope.specs.Table.{decode, encode}
 use Rattle.calculus.specs.Order.{possible as found, impossible}
 use Rattle.calculus.specs.Decide.{Decided, decide}
 use Rattle.rules.specs.declared.Step.{Step}
-use Rattle.rules.specs.Steps.{U, R, C, S, encodeSteps}
+use Rattle.rules.specs.Steps.{U, R, C, S, G, encodeSteps}
 use Rattle.rules.specs.Derive.{derive, check}
 use Rattle.text.specs.Text.{ascii}
 use Rattle.text.specs.Listing.{listing}
@@ -112,16 +112,22 @@ rows =
     ∷ possible 1 no either
     ∷ possible 5 no either
     ∷ possible 12 either either
-    -- '13: U0 C1. 14: U0 U1 U2 U3 R5.0 C5.'
-    ∷ derived 13 (U 0 ∷ C 1 ∷ [])
-    ∷ derived 14 (U 0 ∷ U 1 ∷ U 2 ∷ U 3 ∷ R 0 5 ∷ C 5 ∷ [])
+    -- '13: U0 C1. 14: U0 U1 U2 U3 R5.0 C5.', and each starts with the name of its goal
+    ∷ derived 13 (G 13 ∷ U 0 ∷ C 1 ∷ [])
+    ∷ derived 14 (G 14 ∷ U 0 ∷ U 1 ∷ U 2 ∷ U 3 ∷ R 0 5 ∷ C 5 ∷ [])
     -- '18: U0 U1 U2 S1 R4.0 U4 R6.0 R6.1 C6 R3.0 U3 R5.0 R5.1 C5.'
-    ∷ derived 18 (U 0 ∷ U 1 ∷ U 2 ∷ S 1 ∷ R 0 4 ∷ U 4 ∷ R 0 6 ∷ R 1 6 ∷ C 6 ∷ R 0 3 ∷ U 3 ∷ R 0 5 ∷ R 1 5 ∷ C 5 ∷ [])
+    ∷ derived 18 (G 18 ∷ U 0 ∷ U 1 ∷ U 2 ∷ S 1 ∷ R 0 4 ∷ U 4 ∷ R 0 6 ∷ R 1 6 ∷ C 6 ∷ R 0 3 ∷ U 3 ∷ R 0 5 ∷ R 1 5 ∷ C 5 ∷ [])
     -- 'Check, goal 13: C1 is 45 at 0; U0 is 47 at 1; U0 C1 C1 is 46 at 2. Goal 6: U0 S0 C1 is 45 at 2.'
     ∷ checked 13 (C 1 ∷ []) 45 0
     ∷ checked 13 (U 0 ∷ []) 47 1
     ∷ checked 13 (U 0 ∷ C 1 ∷ C 1 ∷ []) 46 2
     ∷ checked 6 (U 0 ∷ S 0 ∷ C 1 ∷ []) 45 2
+    -- 64: 'a G step wrong, missing or late, at the step where that shows (the step count if the file ends first), after 46 and before 45'
+    ∷ checked 13 (G 12 ∷ C 1 ∷ []) 64 0
+    ∷ checked 13 (G 13 ∷ G 13 ∷ U 0 ∷ C 1 ∷ []) 64 1
+    ∷ checked 13 (U 0 ∷ G 13 ∷ C 1 ∷ []) 64 1
+    ∷ checked 13 (G 13 ∷ U 0 ∷ C 1 ∷ G 13 ∷ []) 46 3
+    ∷ checked 13 (G 13 ∷ C 1 ∷ G 13 ∷ []) 45 1
     -- 'Edges: 16,384 bytes may read, 16,896 is 10; point 1,023 reads, 1,024 is 15.'
     ∷ mayRead 16384
     ∷ tooLong 16896 10

@@ -19,9 +19,9 @@ use Rattle.steps.specs.Opened.{blockRow, stepRow, stepCount}
 
 -- the letters of the rules without a position, as the code's branches name them
 abbrev Plain : ℕ → Type 0
-Plain r = (r ≡ 67) ⊎ (r ≡ 69) ⊎ (r ≡ 83) ⊎ (r ≡ 85)
+Plain r = (r ≡ 67) ⊎ (r ≡ 69) ⊎ (r ≡ 71) ⊎ (r ≡ 83) ⊎ (r ≡ 85)
 
--- a step's form by its rule: R; one of the other four; no rule
+-- a step's form by its rule: R; one of the other five; no rule
 module _ (s : Step) where
   pub ok-removal : s .rule ≡ 82 → leb (s .position) 1 ≡ stepOk s
   unfolding stepOk
@@ -32,7 +32,8 @@ module _ (s : Step) where
   ok-plain (inl e) = simp e
   ok-plain (inr (inl e)) = simp e
   ok-plain (inr (inr (inl e))) = simp e
-  ok-plain (inr (inr (inr e))) = simp e
+  ok-plain (inr (inr (inr (inl e)))) = simp e
+  ok-plain (inr (inr (inr (inr e)))) = simp e
 
   pub ok-unknown : (s .rule ≡ 82 → ⊥) → (Plain (s .rule) → ⊥) → false ≡ stepOk s
   unfolding stepOk
@@ -41,8 +42,9 @@ module _ (s : Step) where
         ne-eqb (s .rule) 82 n,
         ne-eqb (s .rule) 67 (λ e. p (inl e)),
         ne-eqb (s .rule) 69 (λ e. p (inr (inl e))),
-        ne-eqb (s .rule) 83 (λ e. p (inr (inr (inl e)))),
-        ne-eqb (s .rule) 85 (λ e. p (inr (inr (inr e)))),
+        ne-eqb (s .rule) 71 (λ e. p (inr (inr (inl e)))),
+        ne-eqb (s .rule) 83 (λ e. p (inr (inr (inr (inl e))))),
+        ne-eqb (s .rule) 85 (λ e. p (inr (inr (inr (inr e))))),
       )
 
 pub fitting : (F : Format) → F ≡ derivations → Fitting F

@@ -49,7 +49,7 @@ pub fn step_ok(s: Step) -> bool
     let rule = s.rule;
     match rule {
         82 => s.position <= 1,
-        85 | 69 | 67 | 83 => s.position == 0,
+        85 | 69 | 67 | 83 | 71 => s.position == 0,
         _ => false,
     }
 }

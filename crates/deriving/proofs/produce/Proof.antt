@@ -1,7 +1,7 @@
 -- `deriving::produce` meets its contract: the laws of Produces say what counting and writing came to. Assumes nothing.
 use native.Mathlib.Omega.{arith}
 use borrow.Author.Needs.{needs}
-use Rattle.deriving.proofs.Produces.{produced-open, produced-over, fits, produced-steps}
+use Rattle.deriving.proofs.Produces.{produced-open, count-low, produced-over, fits, produced-steps}
 use Rattle.deriving.proofs.produce.Statement.{statement}
 use Rattle.deriving.proofs.produce.Tie as tie
 
@@ -36,6 +36,16 @@ enum-told c = search needs
 
 enum-known-tally : tie.Need-enum-known-tally
 enum-known-tally c = search needs
+
+add-steps : tie.Need-add-steps
+add-steps c =
+    let at-tally = c .before in
+    let at-count = at-tally .before .before .before .before .before in
+    let at-room = at-count .before .before .before .before .before in
+    let at-start = at-room .before .before .before .before in
+    let s = at-start .before .before .before .before .before .before .before in
+    let low = count-low _ _ _ (s .args .d .now) (at-start .start .ensures .1) (at-room .room .ensures) (at-count .count .ensures) (at-tally .tally .given .1) in
+    omega (arith, low, at-room .room .ensures, s .pre .1 .0 .most)
 
 same-length : tie.Need-same-length
 same-length c = search needs
@@ -127,6 +137,7 @@ produce-spec =
     count-requires
     enum-told
     enum-known-tally
+    add-steps
     same-length
     returns
     slice-aggregate-start-2

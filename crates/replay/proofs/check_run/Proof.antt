@@ -10,17 +10,17 @@ use Rattle.scope.specs.Table.{listFrom}
 use Rattle.calculus.specs.Expansion.{expand}
 use Rattle.rules.specs.Steps.{stepAt}
 use Rattle.rules.specs.Rules.{run, running, root}
-use Rattle.replay.proofs.Runs.{Going, going-starts, going-fails, going-completes, going-goes, going-ends, step-told}
+use Rattle.replay.proofs.Runs.{Going, going-starts, going-late, going-fails, going-completes, going-goes, going-ends, step-told, is-name, no-name}
 use Rattle.replay.proofs.check_run.Statement.{statement}
 use Rattle.replay.proofs.check_run.Tie as tie
 
 abbrev Inv-loop : tie.InvT-loop
-Inv-loop x n goals work₀ d count i₀ work i =
+Inv-loop x n goals work₀ d from count i₀ work i =
     (length work ≡ length work₀) × Going (indexNode x) n goals (stepAt d) count
-    (run (expand (indexNode x)) goals n 0 (listFrom (stepAt d) 0 count) (running root [])) work i
+    (run (expand (indexNode x)) goals n from (listFrom (stepAt d) from (count - from)) (running root [])) work i
 
 abbrev μ-loop : tie.MeasureT-loop
-μ-loop x n goals work₀ d count i₀ work i = count - i
+μ-loop x n goals work₀ d from count i₀ work i = count - i
 
 begin-requires : tie.Need-begin-requires Inv-loop μ-loop
 begin-requires c κs = (c .before .before .before .before .before .pre .0, (c .before .before .before .before .before .pre .1 .0, c .before .before .before .before .before .pre .1 .1 .0))
@@ -29,96 +29,110 @@ loop-holds : tie.Need-loop-holds Inv-loop μ-loop
 loop-holds c =
     let s = c .before .before .before .before .before .before .before .before in
     let b = c .before .before .begin in
-    (refl, going-starts (indexNode (s .args .x .now)) (s .args .n) (s .args .goals .now) (stepAt (s .args .d .now)) (s .args .count) (b .last .1 .1 .1 .0) (b .ensures .0) (b .ensures .1))
+    (refl, going-starts (indexNode (s .args .x .now)) (s .args .n) (s .args .goals .now) (stepAt (s .args .d .now)) (s .args .count) (s .args .from) (s .pre .1 .1 .1 .0) (b .last .1 .1 .1 .0) (b .ensures .0) (b .ensures .1))
 
 step-at-requires : tie.Need-step-at-requires Inv-loop μ-loop
-step-at-requires c κs = c .before .before .before .before .before .before .before .before .before .before .before .pre .1 .1 .1 (c .before .before .loop .i) (c .before .loop-test .taken)
-
-apply-step-requires : tie.Need-apply-step-requires Inv-loop μ-loop
-apply-step-requires c κs =
-    let s = c .before .before .before .before .before .before .before .before .before .before .before .before in
-    let goals = s .args .goals .now in
-    let g = c .before .before .before .loop .inv .1 in
-    (s .pre .0, (goals, g .history, g .holds))
-
-enum-told : tie.Need-enum-told Inv-loop μ-loop
-enum-told c = search needs
+step-at-requires c κs = c .before .before .before .before .before .before .before .before .before .before .pre .1 .1 .1 .1 (c .before .loop .i) (c .loop-test .taken)
 
 refusal-requires : tie.Need-refusal-requires Inv-loop μ-loop
 refusal-requires c κs = search needs
 
 same-length : tie.Need-same-length Inv-loop μ-loop
-same-length c = c .before .before .before .before .before .apply-step .kept .1 .1 .0 ∙ c .before .before .before .before .before .before .before .before .before .loop .inv .0 ∙ c .before .before .before .before .before .before .before .before .before .before .before .before .begin .kept .1 .1 .1 .0
+same-length c = c .before .before .before .before .before .loop .inv .0 ∙ c .before .before .before .before .before .before .before .before .begin .kept .1 .1 .1 .0
 
 returns : tie.Need-returns Inv-loop μ-loop
 returns c =
-    let s = c .before .before .before .before .before .before .before .before .before .before .before .before .before .before .before .before .before .before in
+    let s = c .before .before .before .before .before .before .before .before .before .before .before .before .before .before in
+    let g = c .before .before .before .before .before .loop .inv .1 in
+    c .refusal .ensures
+    ∙ going-late (indexNode (s .args .x .now)) (s .args .n) (s .args .goals .now) (stepAt (s .args .d .now)) (s .args .count) g (c .before .before .before .before .loop-test .taken)
+    (is-name (c .before .before .before .step-at .ensures) (c .before .if1 .taken))
+
+apply-step-requires : tie.Need-apply-step-requires Inv-loop μ-loop
+apply-step-requires c κs =
+    let s = c .before .before .before .before .before .before .before .before .before .before .before .before .before .before in
+    let goals = s .args .goals .now in
+    let g = c .before .before .before .before .before .loop .inv .1 in
+    (s .pre .0, (goals, g .history, g .holds))
+
+enum-told : tie.Need-enum-told Inv-loop μ-loop
+enum-told c = search needs
+
+refusal-requires-2 : tie.Need-refusal-requires-2 Inv-loop μ-loop
+refusal-requires-2 c κs = search needs
+
+same-length-2 : tie.Need-same-length-2 Inv-loop μ-loop
+same-length-2 c = c .before .before .before .before .before .apply-step .kept .1 .1 .0 ∙ c .before .before .before .before .before .before .before .before .before .before .before .loop .inv .0 ∙ c .before .before .before .before .before .before .before .before .before .before .before .before .before .before .begin .kept .1 .1 .1 .0
+
+returns-2 : tie.Need-returns-2 Inv-loop μ-loop
+returns-2 c =
+    let s = c .before .before .before .before .before .before .before .before .before .before .before .before .before .before .before .before .before .before .before .before in
     let t = indexNode (s .args .x .now) in
     let n = s .args .n in
     let goals = s .args .goals .now in
     let f = stepAt (s .args .d .now) in
-    let g = c .before .before .before .before .before .before .before .before .before .loop .inv .1 in
-    let r = step-told (c .before .before .before .before .before .apply-step .last .1 .1 .0) (g .history) (c .before .before .before .before .before .apply-step .ensures) (c .before .before .before .before .before .before .step-at .ensures) (c .before .enum-told .given .1) (g .holds) in
-    c .refusal .ensures ∙ going-fails t n goals f (s .args .count) g (c .before .before .before .before .before .before .before .before .loop-test .taken) r
+    let g = c .before .before .before .before .before .before .before .before .before .before .before .loop .inv .1 in
+    let r = step-told (c .before .before .before .before .before .apply-step .last .1 .1 .0) (g .history) (c .before .before .before .before .before .apply-step .ensures) (c .before .before .before .before .before .before .before .before .before .step-at .ensures) (c .before .enum-told .given .1) (g .holds) in
+    c .refusal2 .ensures ∙ going-fails t n goals f (s .args .count) g (c .before .before .before .before .before .before .before .before .before .before .loop-test .taken) (no-name (c .before .before .before .before .before .before .before .before .before .step-at .ensures) (c .before .before .before .before .before .before .before .if1 .left)) r
 
 enum-told-2 : tie.Need-enum-told-2 Inv-loop μ-loop
 enum-told-2 c = search needs
 
 add-completed : tie.Need-add-completed Inv-loop μ-loop
-add-completed c = omega (arith, c .before .before .before .before .before .before .before .loop-test .taken)
+add-completed c = omega (arith, c .before .before .before .before .before .before .before .before .before .loop-test .taken)
 
 completed-requires : tie.Need-completed-requires Inv-loop μ-loop
 completed-requires c κs = search needs
 
-same-length-2 : tie.Need-same-length-2 Inv-loop μ-loop
-same-length-2 c = c .before .before .before .before .before .apply-step .kept .1 .1 .0 ∙ c .before .before .before .before .before .before .before .before .before .loop .inv .0 ∙ c .before .before .before .before .before .before .before .before .before .before .before .before .begin .kept .1 .1 .1 .0
+same-length-3 : tie.Need-same-length-3 Inv-loop μ-loop
+same-length-3 c = c .before .before .before .before .before .apply-step .kept .1 .1 .0 ∙ c .before .before .before .before .before .before .before .before .before .before .before .loop .inv .0 ∙ c .before .before .before .before .before .before .before .before .before .before .before .before .before .before .begin .kept .1 .1 .1 .0
 
-returns-2 : tie.Need-returns-2 Inv-loop μ-loop
-returns-2 c =
-    let s = c .before .before .before .before .before .before .before .before .before .before .before .before .before .before .before .before .before .before in
+returns-3 : tie.Need-returns-3 Inv-loop μ-loop
+returns-3 c =
+    let s = c .before .before .before .before .before .before .before .before .before .before .before .before .before .before .before .before .before .before .before .before in
     let t = indexNode (s .args .x .now) in
     let n = s .args .n in
     let goals = s .args .goals .now in
     let f = stepAt (s .args .d .now) in
-    let g = c .before .before .before .before .before .before .before .before .before .loop .inv .1 in
-    let r = step-told (c .before .before .before .before .before .apply-step .last .1 .1 .0) (g .history) (c .before .before .before .before .before .apply-step .ensures) (c .before .before .before .before .before .before .step-at .ensures) (c .before .enum-told2 .given .1) (g .holds) in
-    c .completed .ensures ∙ going-completes t n goals f (s .args .count) g (c .before .before .before .before .before .before .before .before .loop-test .taken) r
+    let g = c .before .before .before .before .before .before .before .before .before .before .before .loop .inv .1 in
+    let r = step-told (c .before .before .before .before .before .apply-step .last .1 .1 .0) (g .history) (c .before .before .before .before .before .apply-step .ensures) (c .before .before .before .before .before .before .before .before .before .step-at .ensures) (c .before .enum-told2 .given .1) (g .holds) in
+    c .completed .ensures ∙ going-completes t n goals f (s .args .count) g (c .before .before .before .before .before .before .before .before .before .before .loop-test .taken) (no-name (c .before .before .before .before .before .before .before .before .before .step-at .ensures) (c .before .before .before .before .before .before .before .if1 .left)) r
 
 enum-told-3 : tie.Need-enum-told-3 Inv-loop μ-loop
 enum-told-3 c = search needs
 
 add-i : tie.Need-add-i Inv-loop μ-loop
-add-i c = omega (arith, c .before .before .before .before .before .before .before .loop-test .taken)
+add-i c = omega (arith, c .before .before .before .before .before .before .before .before .before .loop-test .taken)
 
 loop-less : tie.Need-loop-less Inv-loop μ-loop
-loop-less c = omega (arith, c .before .before .before .before .before .before .before .loop-test .taken)
+loop-less c = omega (arith, c .before .before .before .before .before .before .before .before .before .loop-test .taken)
 
 loop-again : tie.Need-loop-again Inv-loop μ-loop
 loop-again c =
-    let s = c .before .before .before .before .before .before .before .before .before .before .before .before .before .before .before .before .before in
+    let s = c .before .before .before .before .before .before .before .before .before .before .before .before .before .before .before .before .before .before .before in
     let t = indexNode (s .args .x .now) in
     let n = s .args .n in
     let goals = s .args .goals .now in
     let f = stepAt (s .args .d .now) in
-    let g = c .before .before .before .before .before .before .before .before .loop .inv .1 in
-    let r = step-told (c .before .before .before .before .apply-step .last .1 .1 .0) (g .history) (c .before .before .before .before .apply-step .ensures) (c .before .before .before .before .before .step-at .ensures) (c .enum-told3 .given .1) (g .holds) in
-    (c .before .before .before .before .apply-step .kept .1 .1 .0 ∙ c .before .before .before .before .before .before .before .before .loop .inv .0, going-goes t n goals f (s .args .count) g (c .before .before .before .before .before .before .before .loop-test .taken) r)
+    let g = c .before .before .before .before .before .before .before .before .before .before .loop .inv .1 in
+    let r = step-told (c .before .before .before .before .apply-step .last .1 .1 .0) (g .history) (c .before .before .before .before .apply-step .ensures) (c .before .before .before .before .before .before .before .before .step-at .ensures) (c .enum-told3 .given .1) (g .holds) in
+    (c .before .before .before .before .apply-step .kept .1 .1 .0 ∙ c .before .before .before .before .before .before .before .before .before .before .loop .inv .0, going-goes t n goals f (s .args .count) g (c .before .before .before .before .before .before .before .before .before .loop-test .taken) (no-name (c .before .before .before .before .before .before .before .before .step-at .ensures) (c .before .before .before .before .before .before .if1 .left)) r)
 
-refusal-requires-2 : tie.Need-refusal-requires-2 Inv-loop μ-loop
-refusal-requires-2 c κs = search needs
+refusal-requires-3 : tie.Need-refusal-requires-3 Inv-loop μ-loop
+refusal-requires-3 c κs = search needs
 
-same-length-3 : tie.Need-same-length-3 Inv-loop μ-loop
-same-length-3 c = c .before .before .loop .inv .0 ∙ c .before .before .before .before .before .begin .kept .1 .1 .1 .0
+same-length-4 : tie.Need-same-length-4 Inv-loop μ-loop
+same-length-4 c = c .before .before .loop .inv .0 ∙ c .before .before .before .before .before .begin .kept .1 .1 .1 .0
 
-returns-3 : tie.Need-returns-3 Inv-loop μ-loop
-returns-3 c =
+returns-4 : tie.Need-returns-4 Inv-loop μ-loop
+returns-4 c =
     let s = c .before .before .before .before .before .before .before .before .before .before .before in
     let t = indexNode (s .args .x .now) in
     let n = s .args .n in
     let goals = s .args .goals .now in
     let f = stepAt (s .args .d .now) in
     let g = c .before .before .loop .inv .1 in
-    c .refusal2 .ensures ∙ going-ends t n goals f (s .args .count) g (c .before .loop-test .left)
+    c .refusal3 .ensures ∙ going-ends t n goals f (s .args .count) g (c .before .loop-test .left)
 
 pub check-run-spec : {M : Type 1} → statement M
 check-run-spec =
@@ -129,20 +143,23 @@ check-run-spec =
     begin-requires
     loop-holds
     step-at-requires
-    apply-step-requires
-    enum-told
     refusal-requires
     same-length
     returns
+    apply-step-requires
+    enum-told
+    refusal-requires-2
+    same-length-2
+    returns-2
     enum-told-2
     add-completed
     completed-requires
-    same-length-2
-    returns-2
+    same-length-3
+    returns-3
     enum-told-3
     add-i
     loop-less
     loop-again
-    refusal-requires-2
-    same-length-3
-    returns-3)
+    refusal-requires-3
+    same-length-4
+    returns-4)

@@ -1,0 +1,2 @@
+-- Laws for the functions of `naming`. Assumes nothing.
+pub mod Heads

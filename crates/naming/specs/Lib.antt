@@ -1,0 +1,2 @@
+-- What is said of the goals that a derivation names. Assumes nothing.
+pub mod Named

@@ -1,0 +1,23 @@
+-- The goals that a derivation names, and row 64 of its head. Assumes nothing.
+use mathlib.Core.List.{List}
+use Prim.Native.Nat.{ℕ}
+use lib.ListN.{length}
+use Rattle.scope.specs.Outcome.{Outcome, answer, refused, _>>_}
+use Rattle.scope.specs.Table.{listFrom}
+use Rattle.rules.specs.Steps.{stepAt}
+use Rattle.rules.specs.Rules.{names, namesTest}
+use Rattle.naming.specs.declared.Named.{Named}
+use Rattle.naming.specs.declared.Named.the-variants.{Goals, Refused}
+
+-- the goals that n steps name, from step i on
+abbrev pub namesOf : List ℕ → ℕ → ℕ → List ℕ
+namesOf d i n = names (listFrom (stepAt d) i n)
+
+-- how many goals are named, or 64
+abbrev pub headOf : List ℕ → List ℕ → Outcome ℕ
+headOf goals ls = namesTest goals ls >> answer (length ls)
+
+-- the number and the values of every case of a `Named`
+abbrev pub namedOf : Named → Outcome ℕ
+namedOf (Goals n) = answer n
+namedOf (Refused r) = refused (r .number) (r .place)
