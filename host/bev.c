@@ -4,7 +4,7 @@
 #include <signal.h>
 #include <string.h>
 
-enum { TAKES_OUT = 1, TAKES_DOT = 2, TAKES_CLEAN = 4 };
+enum { TAKES_OUT = 1, TAKES_DOT = 2, TAKES_CLEAN = 4, TAKES_VERSION = 8 };
 
 struct command {
     const char *name;
@@ -45,9 +45,10 @@ static const struct command commands[] = {
       "a line for each goal kept: its index in the list, from 0, its literal, and what it says. They are impossible\n"
       "together, and without any one of them the others are possible. Goals that are possible: refused 63.\n",
       run_clash, 2, INT_MAX, 0 },
-    { "derive", "TABLE GOAL.. -o FILE", "writes the derivation of impossible goals",
-      "Prints the number of steps. Goals that one setting makes true have none: refused 30.\n",
-      run_derive, 2, INT_MAX, TAKES_OUT },
+    { "derive", "TABLE GOAL.. [--version-two] -o FILE", "writes the derivation of impossible goals",
+      "Prints the number of steps. Goals that one setting makes true have none: refused 30.\n"
+      "  --version-two   version two of the steps, which has no R\n",
+      run_derive, 2, INT_MAX, TAKES_OUT | TAKES_VERSION },
     { "check", "TABLE GOAL.. FILE", "whether a derivation shows that goals are impossible",
       "FILE, the last word, may be by any author, for this table and these goals in this order. A derivation that\n"
       "names its goals, as those of derive do, is accepted for no others. Prints `accepted`, or the refusal with the\n"
@@ -55,7 +56,8 @@ static const struct command commands[] = {
       run_check, 3, INT_MAX, 0 },
     { "steps", "FILE [TABLE GOAL..]", "a derivation's steps; with table and goals, why each holds",
       "The steps on one line, R5.0 for a removal in clause 5 at position 0. With TABLE and GOAL.. a line a step:\n"
-      "its clause with struck literals in brackets, the literal whose expansion the clause is of, and why the\n"
+      "its clause with struck literals in brackets (in version two, at U and C, the false ones), the literal whose\n"
+      "expansion the clause is of, and why the\n"
       "step holds, indented by the splits that are open. A derivation that fails is shown up to the step where\n"
       "it does.\n",
       run_steps, 1, INT_MAX, 0 },
@@ -124,6 +126,8 @@ static int take_option(const struct command *c, char **argument, struct words *w
         w->dot = true;
     else if (strcmp(argument[0], "--clean") == 0 && c->options & TAKES_CLEAN)
         w->clean = true;
+    else if (strcmp(argument[0], "--version-two") == 0 && c->options & TAKES_VERSION)
+        w->version_two = true;
     else
         return 0;
     return 1;

@@ -17,6 +17,7 @@ struct words {
     const char *out; /* -o FILE, --out FILE, or NULL */
     bool dot;
     bool clean;
+    bool version_two;
 };
 
 /* ---- files.c ---- */

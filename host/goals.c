@@ -94,15 +94,15 @@ int run_decide(const struct words *w)
 }
 
 /* Derives into the room lent, and from there into the file named. */
-static int derive(const struct bytes *table, const struct goals *goals, uint8_t *room, const char *out, const struct names *of)
+static int derive(const struct bytes *table, const struct goals *goals, uint8_t *room, const struct words *w, const struct names *of)
 {
     uint16_t work[BEV_WORK];
     struct output o;
-    bev_derived d = bev_derive(table->at, table->len, goals->literal, goals->count, work, BEV_WORK, room, BEV_DERIVATION_MAX);
+    bev_derived d = bev_derive(table->at, table->len, goals->literal, goals->count, w->version_two, work, BEV_WORK, room, BEV_DERIVATION_MAX);
     if (d.number)
         return refuse(d.number, d.place, of);
     size_t len = (d.steps + STEPS_IN_BLOCK - 1) / STEPS_IN_BLOCK * BEV_BLOCK;
-    if (!prepare(out, (const struct bytes *[]){ table, NULL }, room, len, &o))
+    if (!prepare(w->out, (const struct bytes *[]){ table, NULL }, room, len, &o))
         return FAILED;
     printf("%zu steps\n", d.steps);
     return commit(&o, DONE);
@@ -120,7 +120,7 @@ int run_derive(const struct words *w)
     else if (!room)
         complain_errno("derive");
     else if (parse_goals(of.goal, of.goals, &goals) && load_table(of.table, &table))
-        status = derive(&table, &goals, room, w->out, &of);
+        status = derive(&table, &goals, room, w, &of);
     free(room);
     free(table.at);
     return status;

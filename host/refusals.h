@@ -49,6 +49,7 @@ static const struct refusal refusals[] = {
     { 62, ABOUT_GOALS, "the list of goals is empty or has over 64", "0", "decide, clash, derive, check" },
     { 63, ABOUT_GOALS, "the goals are possible together", "0", "clash" },
     { 64, ABOUT_FILE, "a step that names a goal is wrong, missing or late", "step", "check" },
+    { 65, ABOUT_FILE, "version two has no step R or E", "step", READS_STEPS },
 };
 
 #endif

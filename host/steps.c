@@ -39,6 +39,7 @@ struct split {
 /* The checker's state. */
 struct replay {
     const struct nodes *nodes;
+    bool version_two;
     bool is_held[LITERALS_MAX];
     uint16_t held[NODES_MAX];
     struct clause clause[CLAUSES_MAX];
@@ -132,11 +133,21 @@ static uint16_t true_literal(const struct replay *r, const struct clause *c)
     return c->literal[p];
 }
 
+/* Version two strikes nothing: the clause's false literals are shown as struck. */
+static void strike_false(struct replay *r, uint16_t k)
+{
+    for (unsigned p = 0; p < r->clause[k].width; p++)
+        if (r->is_held[r->clause[k].literal[p] ^ 1] && !(r->clause[k].struck >> p & 1))
+            strike(r, k, (uint8_t)(1 << p));
+}
+
 /* Says why a step on a clause holds, and takes it. */
 static void take_clause_step(struct replay *r, const bev_stepped *s)
 {
     const struct clause *c = &r->clause[s->value];
     uint16_t l;
+    if (r->version_two)
+        strike_false(r, s->value);
     print_clause(c);
     switch (s->rule) {
     case BEV_RULE_U:
@@ -155,7 +166,8 @@ static void take_clause_step(struct replay *r, const bev_stepped *s)
         strike(r, s->value, CLAUSE_STRUCK);
         break;
     default:
-        fputs(c->width ? "every literal is struck, so the branch closes" : "it is empty, so the branch closes", stdout);
+        fputs(!c->width ? "it is empty" : r->version_two ? "every literal is false" : "every literal is struck", stdout);
+        fputs(", so the branch closes", stdout);
         if (r->splits == 0) {
             fputs(", the last one", stdout);
         } else {
@@ -232,6 +244,7 @@ static int explain_file(const struct bytes *file, const struct bytes *table, con
     struct replay *r = calloc(1, sizeof *r);
     struct nodes *nodes = r ? read_nodes(table, of, &status) : NULL;
     if (nodes) {
+        r->version_two = d.version == 2;
         start(r, nodes, goals);
         status = explain_steps(r, file, d.steps, c, of);
     } else if (!r) {

@@ -32,7 +32,7 @@ int main(void)
     printf("%s: storm %d, go-around %d\n", word(d), settings[0], settings[1]);
     d = bev_decide(table, used, goals, 3, settings, sizeof settings, work, BEV_WORK);
     puts(word(d));
-    bev_derived steps = bev_derive(table, used, goals, 3, work, BEV_WORK, derivation, sizeof derivation);
+    bev_derived steps = bev_derive(table, used, goals, 3, 0, work, BEV_WORK, derivation, sizeof derivation);
     for (size_t k = 0; k < steps.steps; k++) {
         bev_stepped s = bev_step(derivation, sizeof derivation, k);
         printf("%c%u%s ", s.rule, s.value, s.rule != BEV_RULE_R ? "" : s.position ? ".1" : ".0");

@@ -29,9 +29,9 @@ extern "C" {
 
 /* The version of these calls: 1.0 the base, 1.1 with bev_dimacs, 2.0 with points that may go either way, 3.0 with lists of goals, 3.1
  * with bev_clash, 3.1 with
- * derivations that name their goals. */
-#define BEV_VERSION_MAJOR 3
-#define BEV_VERSION_MINOR 1
+ * derivations that name their goals, 4.0 with version two of the steps. */
+#define BEV_VERSION_MAJOR 4
+#define BEV_VERSION_MINOR 0
 
 #define BEV_POINTS 1024             /* points of a setting, a byte each: 0 no, 1 yes, 2 either way */
 #define BEV_GOALS 64                /* goals of the longest list */
@@ -57,7 +57,7 @@ typedef struct { uint16_t number; size_t place; size_t count; uint8_t kept[64]; 
 typedef struct { uint16_t number; size_t place; size_t literal; size_t used; } bev_added;
 typedef struct { uint16_t number; size_t place; size_t steps; } bev_derived;
 typedef struct { uint16_t number; size_t place; } bev_checked;
-typedef struct { uint16_t number; size_t place; size_t steps; } bev_opened;
+typedef struct { uint16_t number; size_t place; size_t steps; uint8_t version; } bev_opened;
 typedef struct { uint16_t number; size_t place; uint8_t left; uint8_t rule; uint8_t position; uint16_t value; } bev_stepped;
 
 /* The node count of a table. Refusals: 10 to 17. */
@@ -90,25 +90,29 @@ bev_decided bev_decide(const uint8_t *table, size_t table_len, const uint16_t *g
 bev_clashed bev_clash(const uint8_t *table, size_t table_len, const uint16_t *goals, size_t goals_len, uint16_t *work, size_t work_len);
 
 /* Writes the derivation, in the solver's order, of goals that are impossible together, and answers its step count: a G for each goal,
- * in list order, then the steps of the search. The derivation is the blocks that hold these steps, 126 in a full one; the bytes past its
+ * in list order, then the steps of the search. version_two says which version: 0 version one, blocks with letter 68; any other value
+ * version two, blocks with letter 86 and no R. The derivation is the blocks that hold these steps, 126 in a full one; the bytes past its
  * last block stay. The work area as for bev_decide, free also after
  * 30 and 31. Refusals: 10 to 17, 62, 20, 23, 30 the goals are possible, 31 more bytes are needed than lent or than 65,536 blocks. */
-bev_derived bev_derive(const uint8_t *table, size_t table_len, const uint16_t *goals, size_t goals_len, uint16_t *work, size_t work_len,
-                       uint8_t *derivation, size_t derivation_len);
+bev_derived bev_derive(const uint8_t *table, size_t table_len, const uint16_t *goals, size_t goals_len, uint8_t version_two,
+                       uint16_t *work, size_t work_len, uint8_t *derivation, size_t derivation_len);
 
 /* Whether a derivation, by whatever author, shows that the goals are impossible together: number 0 accepted. One whose first step is a G
- * is accepted for the goals that it names and no other list; it need not name them. The work area as for bev_decide, free also after 45,
- * 46, 47 and 64. Refusals: 10 to 17, 62, 20, 23, 40 to 44 for its form, then 46, 64 (a G wrong, missing or late) and 45 at the step
+ * is accepted for the goals that it names and no other list; in version one it need not name them. The letter of its first block says
+ * the version. The work area as for bev_decide, free also after 45,
+ * 46, 47 and 64. Refusals: 10 to 17, 62, 20, 23, 40 to 44 and 65 for its form, then 46, 64 (a G wrong, missing or late) and 45 at the step
  * where it fails, 47 at the step count where its steps end with a branch open. */
 bev_checked bev_check(const uint8_t *table, size_t table_len, const uint16_t *goals, size_t goals_len, uint16_t *work, size_t work_len,
                       const uint8_t *derivation, size_t derivation_len);
 
-/* Opens a derivation: its step count. Refusals: 40 to 44. */
+/* Opens a derivation: its step count and its version, 1 or 2 (0 with a refusal). Refusals: 40 to 44, and 65 an R or E in version two, step
+ * by step after 44. */
 bev_opened bev_open(const uint8_t *derivation, size_t derivation_len);
 
 /* The step at an index: left 1 and the step, or left 0 where none is left, at or past the count that the blocks state. In constant time:
- * of the derivation it looks at the length (40), at one block, that of the index or, behind all blocks, the last (41 to 43), and at the
- * step (44). bev_open says whether every block and every step passes. Refusals: 40 to 44. */
+ * of the derivation it looks at the length (40), at the first byte, which says the version, at one block, that of the index or, behind
+ * all blocks, the last (41 to 43), and at the step (44, 65). bev_open says whether every block and every step passes. Refusals: 40 to 44,
+ * 65. */
 bev_stepped bev_step(const uint8_t *derivation, size_t derivation_len, size_t index);
 
 /* Reads a DIMACS text (conjunctive normal form) and builds its table in an empty buffer: answers the goal literal and the used length.

@@ -25,9 +25,14 @@ static bev_checked check(const uint8_t *t, size_t len, const o_list *g, const ui
     return bev_check(t, len, g->goal, g->count, work, BEV_WORK, d, size);
 }
 
+/* The version at work: its letter, and a byte that asks for it. */
+static int letter = 68;
+
+static uint8_t asked(void) { return letter == 68 ? 0 : (uint8_t)(1 + pick(255)); }
+
 static bev_derived derive(const uint8_t *t, size_t len, const o_list *g, uint8_t *d, size_t room)
 {
-    return bev_derive(t, len, g->goal, g->count, work, BEV_WORK, d, room);
+    return bev_derive(t, len, g->goal, g->count, asked(), work, BEV_WORK, d, room);
 }
 
 /* What the reader says at an index, against the plain reading of the length, one block and the step. */
@@ -39,15 +44,16 @@ static void step_is(const uint8_t *d, size_t size, size_t k)
         return;
     }
     size_t last = size / 512 - 1, j = k / 126 < last ? k / 126 : last;
-    unsigned number = o_block_bad(d + 512 * j, j, j == last);
+    unsigned number = o_block_bad(d, j, j == last);
     if (number) {
         EXPECT(v.number == number && v.place == j && v.left == 0 && v.rule == 0 && v.position == 0 && v.value == 0);
     } else if (k / 126 > last || k % 126 >= d[512 * j + 1]) {
         EXPECT(v.number == 0 && v.place == 0 && v.left == 0 && v.rule == 0 && v.position == 0 && v.value == 0);
     } else {
         const uint8_t *s = o_step_at(d, k);
-        EXPECT(o_step_bad(s) ? v.number == 44 && v.place == k && v.left == 0 && v.rule == 0
-                             : v.number == 0 && v.place == 0 && v.left == 1 && v.rule == s[0] && v.position == s[1] && v.value == o_word(s + 2));
+        unsigned bad = o_step_bad(o_letter(d), s);
+        EXPECT(bad ? v.number == bad && v.place == k && v.left == 0 && v.rule == 0
+                   : v.number == 0 && v.place == 0 && v.left == 1 && v.rule == s[0] && v.position == s[1] && v.value == o_word(s + 2));
     }
 }
 
@@ -58,6 +64,7 @@ static void bytes_are(const uint8_t *t, size_t len, const o_list *g, const uint8
     o_told form = o_form(d, size, &steps);
     bev_opened v = bev_open(d, size);
     EXPECT(v.number == form.number && v.place == form.place && v.steps == (form.number ? 0 : steps));
+    EXPECT(v.version == (form.number ? 0 : d[0] == 86 ? 2 : 1));
     for (size_t k = 0; k < 126 * (size / 512) + 2; k += 1 + pick(40))
         step_is(d, size, k);
     step_is(d, size, SIZE_MAX);
@@ -104,7 +111,7 @@ static void read_back(const uint8_t *d, size_t size, const o_steps *right)
 /* Derive of impossible goals: each byte, the bytes past the last block, a byte too few; then the reader and check. */
 static void derived(const uint8_t *t, size_t len, const o_list *g, const o_steps *right)
 {
-    size_t size = o_steps_build(expected, (const uint8_t (*)[4])right->step, right->count);
+    size_t size = o_steps_build(expected, letter, (const uint8_t (*)[4])right->step, right->count);
     size_t room = size + pick(3) * 200;
     fill(expected + size, room + GUARD - size);
     fill(lent, room + GUARD);
@@ -185,7 +192,7 @@ static int author_step(o_author *a, const uint8_t *t, size_t nodes, int rule, ui
         if (kind)
             split(a, t, k);
     } else
-        kind = o_apply(a->now, t, rule, p, k);
+        kind = letter == 86 ? o_apply_two(a->now, t, rule, k) : o_apply(a->now, t, rule, p, k);
     uint8_t s[4] = { (uint8_t)rule, (uint8_t)p, (uint8_t)k, (uint8_t)(k >> 8) };
     memcpy(out, s, 4);
     if (kind == 2)
@@ -199,14 +206,14 @@ static size_t another(const uint8_t *t, size_t nodes, const o_list *g, uint8_t (
 {
     static o_author a;
     size_t n = 0, tries = 0;
-    for (int names = pick(2) == 0; names && n < g->count; n++) {
+    for (int names = letter == 86 || pick(2) == 0; names && n < g->count; n++) {
         uint8_t s[4] = { 71, 0, (uint8_t)g->goal[n], (uint8_t)(g->goal[n] >> 8) };
         memcpy(out[n], s, 4);
     }
     a.depth = 0;
     a.now = o_root(g);
     while (a.now && n < room && tries < 400) {
-        int rule = tries == 399 ? 'S' : "URECS"[pick(40) ? pick(4) : 4];
+        int rule = tries == 399 ? 'S' : (letter == 86 ? "UCUCS" : "URECS")[pick(40) ? pick(4) : 4];
         if (author_step(&a, t, nodes, rule, out[n])) {
             n++;
             tries = 0;
@@ -219,8 +226,58 @@ static size_t another(const uint8_t *t, size_t nodes, const o_list *g, uint8_t (
     return complete;
 }
 
-static unsigned long numbers[65];
+static unsigned long numbers[66];
 static uint8_t other[20001][4];
+
+/* Another author's steps in the other version: without R and E and with its goals named, or with an R for each false literal before a U
+ * or C. Check accepts them as well. */
+static size_t to_two(const o_list *g, size_t n, uint8_t (*out)[4])
+{
+    size_t m = 0;
+    for (size_t i = 0; other[0][0] != 71 && i < g->count; i++) {
+        uint8_t s[4] = { 71, 0, (uint8_t)g->goal[i], (uint8_t)(g->goal[i] >> 8) };
+        memcpy(out[m++], s, 4);
+    }
+    for (size_t i = 0; i < n; i++)
+        if (other[i][0] != 82 && other[i][0] != 69)
+            memcpy(out[m++], other[i], 4);
+    return m;
+}
+
+static size_t to_one(const uint8_t *t, const o_list *g, size_t n, uint8_t (*out)[4])
+{
+    static o_author a;
+    size_t m = 0;
+    a.depth = 0;
+    a.now = o_root(g);
+    for (size_t i = 0; i < n; i++) {
+        int rule = other[i][0], k = (int)o_word(other[i] + 2);
+        if (rule == 83)
+            split(&a, t, k);
+        for (int p = 0; (rule == 85 || rule == 67) && p < a.now->s.clause[k].len; p++)
+            if (o_value(&a.now->s, a.now->s.clause[k].lit[p]) == 2 && o_apply(a.now, t, 82, p, k)) {
+                uint8_t s[4] = { 82, (uint8_t)p, (uint8_t)k, (uint8_t)(k >> 8) };
+                memcpy(out[m++], s, 4);
+            }
+        if ((rule == 85 || rule == 67) && o_apply(a.now, t, rule, 0, k) == 2)
+            close_branch(&a);
+        memcpy(out[m++], other[i], 4);
+    }
+    EXPECT(!a.now);
+    return m;
+}
+
+static void converted(const uint8_t *t, size_t len, const o_list *g, size_t n)
+{
+    static uint8_t out[100000][4];
+    size_t m = letter == 68 ? to_two(g, n, out) : to_one(t, g, n, out);
+    letter = 68 + 86 - letter;
+    size_t size = o_steps_build(expected, letter, (const uint8_t (*)[4])out, m);
+    letter = 68 + 86 - letter;
+    EXPECT(check(t, len, g, expected, size).number == 0);
+    bytes_are(t, len, g, expected, size);
+    numbers[4]++;
+}
 
 /* Impossible goals: what derive writes, and what another author does. */
 static void impossible(const uint8_t *t, size_t len, size_t nodes, const o_list *g, const o_steps *right)
@@ -230,7 +287,8 @@ static void impossible(const uint8_t *t, size_t len, size_t nodes, const o_list 
     numbers[0]++;
     size_t n = another(t, nodes, g, other, 20000);
     if (n) {
-        size_t size = o_steps_build(expected, (const uint8_t (*)[4])other, n);
+        converted(t, len, g, n);
+        size_t size = o_steps_build(expected, letter, (const uint8_t (*)[4])other, n);
         EXPECT(check(t, len, g, expected, size).number == 0);
         bytes_are(t, len, g, expected, size);
         numbers[2] += other[0][0] == 71;
@@ -255,8 +313,12 @@ static void damaged(const uint8_t *t, size_t len, size_t nodes, const o_list *g,
     memcpy(other, taken, 4 * n);
     for (unsigned more = pick(3) + 1; more && n > 1; more--)
         n = changed(other, n);
-    size_t size = o_steps_build(lent, (const uint8_t (*)[4])other, n), steps;
-    if (pick(4) == 0) {
+    size_t size = o_steps_build(lent, letter, (const uint8_t (*)[4])other, n), steps;
+    if (pick(8) == 0) {
+        uint8_t *b = lent + 512 * pick((unsigned)(size / 512));
+        b[0] = (uint8_t)(68 + 86 - letter);
+        o_seal(b);
+    } else if (pick(4) == 0) {
         lent[pick((unsigned)size)] ^= (uint8_t)(1u << pick(8));
         if (pick(2))
             o_seal(lent + 512 * pick((unsigned)(size / 512)));
@@ -270,7 +332,7 @@ static void damaged(const uint8_t *t, size_t len, size_t nodes, const o_list *g,
 static int goals_are(const uint8_t *t, size_t len, size_t nodes, const o_list *g)
 {
     static uint8_t s[1024];
-    o_steps right = { taken, 0, STEPS };
+    o_steps right = { taken, 0, STEPS, letter };
     int is_possible = o_decide(t, g, s, &right);
     if (is_possible) {
         possible(t, len, g);
@@ -287,6 +349,8 @@ static void random_goals(void)
 {
     static uint8_t t[16384];
     unsigned long lists[2] = { 0, 0 };
+    memset(numbers, 0, sizeof numbers);
+    others = 0;
     for (int round = 0; round < 250 && !failed; round++) {
         unsigned points = 2 + pick(5);
         size_t n = points + 1 + pick(18), len = random_table(t, points, n);
@@ -296,16 +360,16 @@ static void random_goals(void)
             lists[is_possible] += k >= 2 * n;
         }
     }
-    printf("random goals: %lu derived and checked, %lu possible, of these lists %lu and %lu; other authors: %lu with and %lu without names, %lu E steps; "
-           "%lu other lists; refused at",
-        numbers[0], numbers[30], lists[0], lists[1], numbers[2], numbers[3], numbers[1], others);
-    for (int k = 41; k < 65; k = k == 47 ? 64 : k + 1) {
+    printf("version %d, random goals: %lu derived and checked, %lu possible, of these lists %lu and %lu; other authors: %lu with and %lu without names, %lu E steps, "
+           "%lu converted; %lu other lists; refused at",
+        letter == 68 ? 1 : 2, numbers[0], numbers[30], lists[0], lists[1], numbers[2], numbers[3], numbers[1], numbers[4], others);
+    for (int k = 41; k < 66; k = k == 47 ? 64 : k + 1) {
         printf(" %d: %lu", k, numbers[k]);
         EXPECT(numbers[k] > 20);
     }
     printf("\n");
-    EXPECT(numbers[0] > 500 && numbers[30] > 1000 && numbers[1] > 1000 && lists[0] > 500 && lists[1] > 500);
-    EXPECT(numbers[2] > 200 && numbers[3] > 200 && others > 300);
+    EXPECT(numbers[0] > 500 && numbers[30] > 1000 && lists[0] > 500 && lists[1] > 500 && numbers[2] > 200 && numbers[4] > 400 && others > 300);
+    EXPECT(letter == 86 || (numbers[1] > 1000 && numbers[3] > 200));
 }
 
 static uint8_t small[512], kept[1024];
@@ -322,7 +386,7 @@ static size_t small_table(void)
 /* Derive and check of the same list and work area, with no room and no bytes: both say the number at the place. */
 static int both_say(size_t len, const uint16_t *goals, size_t count, size_t work_len, unsigned number, size_t place)
 {
-    bev_derived v = bev_derive(small, len, goals, count, work, work_len, kept, 0);
+    bev_derived v = bev_derive(small, len, goals, count, asked(), work, work_len, kept, 0);
     bev_checked c = bev_check(small, len, goals, count, work, work_len, kept, 0);
     return v.number == number && v.place == place && v.steps == 0 && told(c, o_no(number, place));
 }
@@ -333,7 +397,7 @@ static void first_rows(size_t len)
     static const uint16_t bad[65] = { 0, 3, 1, 65535, 4, 65535 };
     for (int i = 0; i < BEV_WORK; i++)
         work[i] = (uint16_t)i;
-    EXPECT(bev_derive(NULL, 0, NULL, 0, NULL, 0, NULL, 0).number == 10 && bev_check(NULL, 0, NULL, 0, NULL, 0, NULL, 0).number == 10);
+    EXPECT(bev_derive(NULL, 0, NULL, 0, asked(), NULL, 0, NULL, 0).number == 10 && bev_check(NULL, 0, NULL, 0, NULL, 0, NULL, 0).number == 10);
     EXPECT(both_say(511, NULL, 0, 0, 10, 0));
     EXPECT(both_say(len, NULL, 0, 0, 62, 0) && both_say(len, bad, 0, BEV_WORK, 62, 0) && both_say(len, bad, 65, 0, 62, 0));
     EXPECT(both_say(len, bad, 64, 0, 20, 3) && both_say(len, bad + 3, 1, BEV_WORK, 20, 0) && both_say(len, bad + 4, 2, BEV_WORK, 20, 0));
@@ -401,7 +465,7 @@ static size_t parse_steps(const char *p, uint8_t (*s)[4])
 static void sample(const uint8_t *t, o_list g, const char *steps, unsigned number, size_t place)
 {
     static uint8_t s[64][4], d[512];
-    size_t n = parse_steps(steps, s), size = o_steps_build(d, (const uint8_t (*)[4])s, n);
+    size_t n = parse_steps(steps, s), size = o_steps_build(d, letter, (const uint8_t (*)[4])s, n);
     EXPECT(told(check(t, 512, &g, d, size), o_no(number, place)));
     if (number == 0 && s[0][0] == 'G') {
         EXPECT(derive(t, 512, &g, lent, 512).steps == n && memcmp(lent, d, 512) == 0);
@@ -479,7 +543,7 @@ static void as_before(void)
             size_t steps = v.number ? 0 : v.steps - 1;
             for (size_t i = 0; i < steps; i++)
                 memcpy(taken[i], o_step_at(lent, i + 1), 4);
-            size_t size = o_steps_build(expected, (const uint8_t (*)[4])taken, steps);
+            size_t size = o_steps_build(expected, letter, (const uint8_t (*)[4])taken, steps);
             sum = 31 * (31 * sum + v.number) + steps;
             for (size_t i = 0; i < size; i++)
                 sum = 31 * sum + expected[i];
@@ -487,6 +551,41 @@ static void as_before(void)
     }
     EXPECT(sum == 0xd72b1944e672547d);
     printf("as before\n");
+}
+
+/* Version two: the samples without R, what it refuses, and mixed letters. */
+static void samples_two(const uint8_t *t)
+{
+    static uint8_t s[300][4], d[1536];
+    o_list g13 = o_one(13), g18 = o_one(18);
+    sample(t, g13, "G13 U0 C1", 0, 0);
+    sample(t, o_one(14), "G14 U0 U1 U2 U3 C5", 0, 0);
+    sample(t, g18, "G18 U0 U1 U2 S1 U4 C6 U3 C5", 0, 0);
+    sample(t, g13, "U0 C1", 64, 0);
+    sample(t, g13, "C1", 64, 0);
+    sample(t, g13, "G13 R0.0 U0 C1", 65, 1);
+    sample(t, g13, "G13 U0 E0 C1", 65, 2);
+    sample(t, g13, "R0.0", 65, 0);
+    sample(t, g13, "R0.2 E0", 44, 0);
+    sample(t, g13, "E0 R0.2", 65, 0);
+    sample(t, g13, "E0.1", 44, 0);
+    sample(t, g13, "U0 X0 R0.0", 44, 1);
+    sample(t, g13, "G13 U0 U0 C1", 45, 2);
+    sample(t, g13, "G13 U0 C0 C1", 45, 2);
+    sample(t, g13, "G13 U0 C1 C1", 46, 3);
+    sample(t, g18, "G18 U0 U1 U2 U3", 45, 4);
+    sample(t, g18, "G18 U0 U1 U2 S1 C3", 45, 5);
+    for (size_t i = 0; i < 300; i++)
+        memcpy(s[i], (uint8_t[4]){ 83, 0, 0, 0 }, 4);
+    size_t size = o_steps_build(d, 86, (const uint8_t (*)[4])s, 300);
+    d[1024] = 68;
+    o_seal(d + 1024);
+    EXPECT(told(check(t, 512, &g13, d, size), o_no(42, 2)) && bev_open(d, size).number == 42 && bev_step(d, size, 299).number == 42);
+    EXPECT(bev_step(d, size, 0).number == 0 && bev_step(d, size, 252).place == 2);
+    d[0] = 68;
+    o_seal(d);
+    EXPECT(told(check(t, 512, &g13, d, size), o_no(42, 1)) && bev_step(d, size, 299).number == 0);
+    printf("version two\n");
 }
 
 static uint8_t deep[16384];
@@ -512,9 +611,9 @@ static void deepest(void)
     EXPECT(pthread_attr_setstacksize(&stack, 1 << 20) == 0);
     EXPECT(pthread_create(&thread, &stack, derive_deep, NULL) == 0);
     pthread_join(thread, NULL);
-    o_steps right = { taken, 0, STEPS };
+    o_steps right = { taken, 0, STEPS, letter };
     EXPECT(o_decide(deep, &deep_goals, s, &right) == 0 && deep_steps.number == 0 && deep_steps.steps == right.count);
-    size_t size = o_steps_build(expected, (const uint8_t (*)[4])taken, right.count);
+    size_t size = o_steps_build(expected, letter, (const uint8_t (*)[4])taken, right.count);
     EXPECT(memcmp(lent, expected, size) == 0 && deep_check.number == 0);
     printf("deepest: %zu steps\n", right.count);
 }
@@ -624,6 +723,10 @@ int main(void)
     samples(table_a);
     heads(table_a);
     random_goals();
+    letter = 86;
+    samples_two(table_a);
+    random_goals();
+    letter = 68;
     as_before();
     deepest();
     nested(full);

@@ -131,7 +131,7 @@ def text(step):
     rule, position, value = step
     return f"{rule}{value}" + (f".{position}" if rule == "R" else "")
 
-def explained(records, goals, steps):
+def explained(records, goals, steps, letter=68):
     """What stands before the colon in each line of the steps explained: the indent, the step, and its clause."""
     held, struck, waiting, lines = [], set(), [], []
     for rule, p, k in steps:
@@ -146,6 +146,8 @@ def explained(records, goals, steps):
             held = held + [k]
             continue
         clause, source = clauses[k]
+        if letter == 86:
+            struck = struck | {(k, q) for q, l in enumerate(clause) if l ^ 1 in held}
         lines.append(start + " {" + ", ".join(f"[{l}]" if (k, q) in struck else str(l) for q, l in enumerate(clause)) + "}, " + source)
         if rule == "U":
             held = held + [next(l for q, l in enumerate(clause) if (k, q) not in struck)]
@@ -179,12 +181,15 @@ def says(bev, verdict, *words, about):
     else:
         bev.answers(ANSWERED, "accepted\n", *words)
 
-def explains(bev, records, goals, steps, t, d):
+def explains(bev, records, goals, steps, t, d, letter=68):
     """Both forms of bev steps, for steps that check accepts up to some place."""
+    verdict = checked(records, goals, steps, letter)
+    if verdict and verdict[0] == 65:
+        bev.refuses(*verdict, "steps", d, about=f"{d}, step ")
+        return bev.refuses(*verdict, "steps", d, t, *goals, about=f"{d}, step ")
     bev.answers(ANSWERED, " ".join(map(text, steps)) + "\n", "steps", d)
-    verdict = checked(records, goals, steps)
     status, out, err = bev.run("steps", d, t, *goals)
-    good = explained(records, goals, steps[:verdict[1]] if verdict else steps)
+    good = explained(records, goals, steps[:verdict[1]] if verdict else steps, letter)
     lines = out.split("\n")[:-1]
     if verdict:
         last = lines.pop()
@@ -201,18 +206,21 @@ def checking(bev, folder, rounds):
     rng = random.Random(3)
     for records in [A] + [some_table(rng, 3 + i % 4, 20 + i) for i in range(rounds)]:
         put(t, table(records))
-        for goals in goal_lists(rng, records, 10):
-            steps = search(records, goals)[1]
+        for i, goals in enumerate(goal_lists(rng, records, 10)):
+            letter = 86 if i % 2 else 68
+            steps = search(records, goals, letter)[1]
             if not steps:
                 continue
-            assert checked(records, goals, steps) is None
-            unnamed = steps[len(goals):]
+            assert checked(records, goals, steps, letter) is None
+            unnamed, converted = steps[len(goals):], [s for s in search(records, goals)[1] if s[0] != "R"]
+            assert letter == 68 or converted == steps
             for tried in [steps, unnamed] + [spoiled(rng, steps, len(records)) for _ in range(4)]:
                 if tried:
-                    put(d, derivation(tried))
-                    says(bev, checked(records, goals, tried), "check", t, *goals, d, about=f"{d}, step ")
-                    explains(bev, records, goals, tried, t, d)
+                    put(d, derivation(tried, letter))
+                    says(bev, checked(records, goals, tried, letter), "check", t, *goals, d, about=f"{d}, step ")
+                    explains(bev, records, goals, tried, t, d, letter)
     wording(bev, t, d)
+    versions(bev, t, d)
     forms(bev, t, d)
 
 WORDS_18 = """G18 18 is a goal: the list has it at this place
@@ -257,6 +265,35 @@ def wording(bev, t, d):
     bev.refuses(47, 2, "steps", d, t, 13, about=f"{d}, step count 2", before="".join(WORDS_13.splitlines(True)[:2]))
     named(bev, t, d, steps)
 
+WORDS_18_TWO = """G18 18 is a goal: the list has it at this place
+U0 {18}, a goal: 18 is the one literal left, so it is held
+U1 {10}, of 18: 10 is the one literal left, so it is held
+U2 {16}, of 18: 16 is the one literal left, so it is held
+S1 1 is undecided: it is held, and 0 once its branch has closed
+  U4 {[0], 3}, of 10: 3 is the one literal left, so it is held
+  C6 {[0], [2]}, of 16: every literal is false, so the branch closes; now 0 is held
+U3 {[1], 2}, of 10: 2 is the one literal left, so it is held
+C5 {[1], [3]}, of 16: every literal is false, so the branch closes, the last one
+"""
+
+def versions(bev, t, d):
+    """Version two in full, what it refuses, and a file of mixed letters."""
+    put(t, table(A))
+    bev.answers(ANSWERED, "9 steps\n", "derive", t, 18, "--version-two", "-o", d)
+    bev.answers(ANSWERED, "accepted\n", "check", t, 18, d)
+    bev.answers(ANSWERED, WORDS_18_TWO, "steps", d, t, 18)
+    one, two = search(A, [18])[1], search(A, [18], 86)[1]
+    if get(d) != derivation(two, 86):
+        bev.wrong(("derive", "--version-two"), "another file", "the derivation")
+    for steps, want in ((one, (65, 5)), (two[1:], (64, 0)), (two[:1] + [("E", 0, 0)] + two[1:], (65, 1)), (two[:4], (47, 4)), (two[:5] + [("C", 0, 3)], (45, 5))):
+        put(d, derivation(steps, 86))
+        bev.refuses(*want, "check", t, 18, d, about=f"{d}, step ")
+    long = [derivation([("S", 0, 0)] * 300, letter) for letter in (68, 86)]
+    for j in range(1, 3):
+        put(d, long[0][:512 * j] + long[1][512 * j:])
+        bev.refuses(42, j, "check", t, 18, d, about=f"{d}, block {j}")
+    bev.fails("--version-two", "is no option here", "check", t, 18, d, "--version-two")
+
 def named(bev, t, d, steps):
     """A derivation for the wrong goals, a name too many, a late one, and a file that ends before its goals are named."""
     first = "G13 13 is a goal: the list has it at this place\n"
@@ -292,15 +329,16 @@ def deriving(bev, folder, rounds, points):
     rng = random.Random(4)
     for records in [A, parity(6)] + [some_table(rng, 3 + i % 4, 20 + i) for i in range(rounds)]:
         put(t, table(records))
-        for goals in goal_lists(rng, records, 10):
-            steps = search(records, goals)[1]
+        for i, goals in enumerate(goal_lists(rng, records, 10)):
+            letter, option = (86, ["--version-two"]) if i % 2 else (68, [])
+            steps = search(records, goals, letter)[1]
             put(d, b"old" * 1000)
             if steps:
-                bev.answers(ANSWERED, f"{len(steps)} steps\n", "derive", t, *goals, "-o", d)
+                bev.answers(ANSWERED, f"{len(steps)} steps\n", "derive", t, *goals, *option, "-o", d)
                 bev.answers(ANSWERED, "accepted\n", "check", t, *goals, d)
             else:
-                bev.refuses(30, 0, "derive", t, *goals, "-o", d, about=f"{goals[0]})" if len(goals) == 1 else "the goals)")
-            if get(d) != (derivation(steps) if steps else b"old" * 1000):
+                bev.refuses(30, 0, "derive", t, *goals, *option, "-o", d, about=f"{goals[0]})" if len(goals) == 1 else "the goals)")
+            if get(d) != (derivation(steps, letter) if steps else b"old" * 1000):
                 bev.wrong(("derive", *goals), "a wrong file", "the derivation")
     longest(bev, t, d, points)
 

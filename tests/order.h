@@ -9,7 +9,7 @@
 enum { O_CLAUSES = 4200 };
 typedef struct { int len, lit[2]; } o_clause;
 typedef struct { int held[2016], count; uint8_t value[4032]; o_clause clause[O_CLAUSES]; int clauses; } o_state;
-typedef struct { uint8_t (*step)[4]; size_t count, room; } o_steps;
+typedef struct { uint8_t (*step)[4]; size_t count, room; int letter; } o_steps; /* letter: 68 version one, 86 version two */
 
 /* 1 true, 2 false, 0 undecided. */
 static inline int o_value(const o_state *s, int l) { return s->value[l]; }
@@ -75,7 +75,7 @@ static inline void o_step(o_steps *d, int rule, int position, int value)
 
 static inline void o_removals(const o_state *s, o_steps *d, int k)
 {
-    for (int p = 0; p < s->clause[k].len; p++)
+    for (int p = 0; d && d->letter == 68 && p < s->clause[k].len; p++)
         if (o_value(s, s->clause[k].lit[p]) == 2)
             o_step(d, 82, p, k);
 }

@@ -10,14 +10,14 @@ typedef struct { o_state s; uint8_t struck[O_CLAUSES], gone[O_CLAUSES][2]; } o_b
 static inline const uint8_t *o_step_at(const uint8_t *d, size_t k) { return d + 512 * (k / 126) + 4 + 4 * (k % 126); }
 
 /* The blocks that hold steps, written to a buffer; their length. */
-static inline size_t o_steps_build(uint8_t *d, const uint8_t (*steps)[4], size_t n)
+static inline size_t o_steps_build(uint8_t *d, int letter, const uint8_t (*steps)[4], size_t n)
 {
     size_t blocks = (n + 125) / 126;
     memset(d, 0, 512 * blocks);
     for (size_t j = 0; j < blocks; j++) {
         uint8_t *b = d + 512 * j;
         size_t count = n - 126 * j < 126 ? n - 126 * j : 126;
-        b[0] = 68;
+        b[0] = (uint8_t)letter;
         b[1] = (uint8_t)count;
         b[2] = (uint8_t)j;
         b[3] = (uint8_t)(j >> 8);
@@ -27,14 +27,17 @@ static inline size_t o_steps_build(uint8_t *d, const uint8_t (*steps)[4], size_t
     return 512 * blocks;
 }
 
-/* Row 40, rows 41 to 43 of block j, and row 44 of step k: 0 where it passes. */
+/* Row 40, rows 41 to 43 of block j, and rows 44 and 65 of a step: 0 where it passes. The letter of block 0 says the version. */
 static inline int o_size_bad(size_t len) { return len == 0 || len % 512 || len > 33554432; }
 
-static inline unsigned o_block_bad(const uint8_t *b, size_t j, int last)
+static inline int o_letter(const uint8_t *d) { return d[0] == 86 ? 86 : 68; }
+
+static inline unsigned o_block_bad(const uint8_t *d, size_t j, int last)
 {
+    const uint8_t *b = d + 512 * j;
     if (o_check(b) != o_word(b + 510))
         return 41;
-    if (b[0] != 68 || o_word(b + 2) != j || b[1] == 0 || b[1] > 126 || (!last && b[1] != 126))
+    if (b[0] != o_letter(d) || o_word(b + 2) != j || b[1] == 0 || b[1] > 126 || (!last && b[1] != 126))
         return 42;
     for (int i = 4 + 4 * b[1]; i < 510; i++)
         if (b[i])
@@ -42,26 +45,30 @@ static inline unsigned o_block_bad(const uint8_t *b, size_t j, int last)
     return 0;
 }
 
-static inline int o_step_bad(const uint8_t *s)
+static inline unsigned o_step_bad(int letter, const uint8_t *s)
 {
-    return !(s[0] == 82 && s[1] <= 1) && !(s[1] == 0 && (s[0] == 85 || s[0] == 69 || s[0] == 67 || s[0] == 83 || s[0] == 71));
+    if (!(s[0] == 82 && s[1] <= 1) && !(s[1] == 0 && (s[0] == 85 || s[0] == 69 || s[0] == 67 || s[0] == 83 || s[0] == 71)))
+        return 44;
+    return letter == 86 && (s[0] == 82 || s[0] == 69) ? 65 : 0;
 }
 
-/* Rows 40 to 44, and the step count. */
+/* Rows 40 to 44 and 65, and the step count. */
 static inline o_told o_form(const uint8_t *d, size_t len, size_t *steps)
 {
     *steps = 0;
     if (o_size_bad(len))
         return o_no(40, 0);
     for (size_t j = 0; j < len / 512; j++) {
-        unsigned number = o_block_bad(d + 512 * j, j, j + 1 == len / 512);
+        unsigned number = o_block_bad(d, j, j + 1 == len / 512);
         if (number)
             return o_no(number, j);
         *steps += d[512 * j + 1];
     }
-    for (size_t k = 0; k < *steps; k++)
-        if (o_step_bad(o_step_at(d, k)))
-            return o_no(44, k);
+    for (size_t k = 0; k < *steps; k++) {
+        unsigned number = o_step_bad(o_letter(d), o_step_at(d, k));
+        if (number)
+            return o_no(number, k);
+    }
     return o_no(0, 0);
 }
 
@@ -101,6 +108,28 @@ static inline int o_apply(o_branch *b, const uint8_t *t, int rule, int p, int k)
     }
 }
 
+/* The same in version two: U and C by the values under G, no strike looked at. */
+static inline int o_apply_two(o_branch *b, const uint8_t *t, int rule, int k)
+{
+    o_state *s = &b->s;
+    int undecided = 0, lit = 0, met = 0;
+    if (k >= s->clauses)
+        return 0;
+    for (int i = 0; i < s->clause[k].len; i++) {
+        int value = o_value(s, s->clause[k].lit[i]);
+        met |= value == 1;
+        if (value == 0) {
+            undecided++;
+            lit = s->clause[k].lit[i];
+        }
+    }
+    if (met || undecided != (rule == 85))
+        return 0;
+    if (rule == 85)
+        o_join(s, t, lit);
+    return rule == 85 ? 1 : 2;
+}
+
 static inline o_branch *o_root(const o_list *g)
 {
     o_branch *b = calloc(1, sizeof *b);
@@ -111,8 +140,8 @@ static inline o_branch *o_root(const o_list *g)
     return b;
 }
 
-/* Whether a derivation that opens with a G must have one at step i, and whether the step is wrong for it. */
-static inline int o_name_due(const uint8_t *d, const o_list *g, size_t i) { return d[4] == 71 && i < g->count; }
+/* Whether a derivation that opens with a G, or is of version two, must have one at step i, and whether the step is wrong for it. */
+static inline int o_name_due(const uint8_t *d, const o_list *g, size_t i) { return (d[4] == 71 || d[0] == 86) && i < g->count; }
 
 static inline int o_name_bad(const uint8_t *s, const o_list *g, size_t i) { return s[0] != 71 || o_word(s + 2) != g->goal[i]; }
 
@@ -146,7 +175,7 @@ static inline o_told o_run(const uint8_t *t, size_t nodes, const o_list *g, cons
                 waiting[depth++] = right;
             }
         } else
-            switch (o_apply(b, t, s[0], s[1], value)) {
+            switch (d[0] == 86 ? o_apply_two(b, t, s[0], value) : o_apply(b, t, s[0], s[1], value)) {
             case 0:
                 v = o_no(45, i);
                 break;

@@ -36,9 +36,11 @@ static void run_add(void)
     EXPECT(bev_add(buffer, sizeof buffer, sizeof buffer, r).literal == 0);
 }
 
+static uint8_t version;
+
 static void run_derive(void)
 {
-    bev_derived v = bev_derive(deep, sizeof deep, goals, BEV_GOALS, work, BEV_WORK, lent, sizeof lent);
+    bev_derived v = bev_derive(deep, sizeof deep, goals, BEV_GOALS, version, work, BEV_WORK, lent, sizeof lent);
     steps = v.steps;
     EXPECT(v.number == 0 && 2000 < steps);
 }

@@ -22,8 +22,8 @@ def blocks(letter, capacity, records):
 def table(records):
     return blocks(70, 63, [bytes([k, 0]) + a.to_bytes(2, "little") + b.to_bytes(2, "little") + bytes(2) for k, a, b in records])
 
-def derivation(steps):
-    return blocks(68, 126, [bytes([ord(rule), position]) + value.to_bytes(2, "little") for rule, position, value in steps])
+def derivation(steps, letter=68):
+    return blocks(letter, 126, [bytes([ord(rule), position]) + value.to_bytes(2, "little") for rule, position, value in steps])
 
 def edited(data, at, value):
     """One byte changed, and its block sealed anew."""
@@ -102,11 +102,11 @@ def expansion(records, l):
         return {TRUE: [], ATOM: [], AND: [[a], [b]], OR: [[a, b]], IMP: [[a ^ 1, b]], IFF: [[a ^ 1, b], [a, b ^ 1]]}[kind]
     return {TRUE: [[]], ATOM: [], AND: [[a ^ 1, b ^ 1]], OR: [[a ^ 1], [b ^ 1]], IMP: [[a], [b ^ 1]], IFF: [[a, b], [a ^ 1, b ^ 1]]}[kind]
 
-def search(records, goals):
-    """Of a list of goals: the final list and None, or None and the derivation's steps, the goals' names first."""
+def search(records, goals, letter=68):
+    """Of a list of goals: the final list and None, or None and the derivation's steps, the goals' names first; with letter 86 without R."""
     steps = [("G", 0, g) for g in goals]
     def removals(held, clause, k):
-        steps.extend(("R", p, k) for p, l in enumerate(clause) if l ^ 1 in held)
+        steps.extend(("R", p, k) for p, l in enumerate(clause) if l ^ 1 in held and letter == 68)
     def branch(held, clauses):
         while True:
             unit = fork = None
@@ -146,13 +146,17 @@ def setting_of(records, model):
             setting[records[l // 2][1]] = 1 - l % 2
     return bytes(setting)
 
-def checked(records, goals, steps):
+def checked(records, goals, steps, letter=68):
     """What check says of a list of goals and steps: None, or a refusal's number and place."""
+    for i, (rule, p, k) in enumerate(steps):
+        if letter == 86 and rule in "RE":
+            return 65, i
+    must_name = letter == 86 or steps[0][0] == "G"
     held, struck, waiting, complete = [], set(), [], False
     for i, (rule, p, k) in enumerate(steps):
         if complete:
             return 46, i
-        if steps[0][0] == "G" and i < len(goals):
+        if must_name and i < len(goals):
             if (rule, k) != ("G", goals[i]):
                 return 64, i
             continue
@@ -167,9 +171,10 @@ def checked(records, goals, steps):
             waiting.append((held + [k ^ 1], set(struck)))
             held = held + [k]
             continue
-        if k >= len(clauses) or k in struck:
+        if k >= len(clauses) or letter == 68 and k in struck:
             return 45, i
-        left = [(q, l) for q, l in enumerate(clauses[k]) if (k, q) not in struck]
+        gone = (lambda q, l: l ^ 1 in held) if letter == 86 else (lambda q, l: (k, q) in struck)
+        left = [(q, l) for q, l in enumerate(clauses[k]) if not gone(q, l)]
         if rule == "U" and len(left) == 1 and left[0][1] not in held and left[0][1] ^ 1 not in held:
             held, struck = held + [left[0][1]], struck | {k}
         elif rule == "R" and any(q == p and l ^ 1 in held for q, l in left):
@@ -181,7 +186,7 @@ def checked(records, goals, steps):
             held, struck = waiting.pop() if waiting else ([], set())
         else:
             return 45, i
-    ends_named = steps[0][0] == "G" and len(steps) < len(goals)
+    ends_named = must_name and len(steps) < len(goals)
     return None if complete else (64 if ends_named else 47, len(steps))
 
 def parity(n):

@@ -7,7 +7,7 @@ use Prim.Native.Nat.{ℕ, _*_, _<_}
 use native.Mathlib.Omega.{arith}
 use lib.Dec.{ltb}
 use lib.ListN.{length, take}
-use borrow.Author.Tests.{lt-ltb}
+use borrow.Author.Tests.{lt-ltb, eq-eqb, ne-eqb}
 use Rattle.scope.specs.declared.Node.{Node}
 use Rattle.scope.specs.declared.Refusal.{Refusal}
 use Rattle.scope.specs.declared.Truth.the-variants.{Yes}
@@ -34,6 +34,8 @@ use Rattle.clashing.specs.Clashes.{clashedOf, Clashes}
 use Rattle.rules.specs.Derive.{derive}
 use Rattle.deriving.specs.declared.Derived.{Derived}
 use Rattle.deriving.specs.declared.Derived.the-variants.{Steps, Refused as NotDerived}
+use Rattle.rules.specs.declared.Version.{Version}
+use Rattle.rules.specs.declared.Version.the-variants.{One, Two}
 use Rattle.deriving.specs.Derives.{derivedOf, Derives}
 use Rattle.checking.specs.declared.Checked.{Checked}
 use Rattle.checking.specs.declared.Checked.the-variants.{Accepted, Refused as NotAccepted}
@@ -45,7 +47,8 @@ use Rattle.cnf.specs.Text.{File, fileOf}
 use Rattle.cnf.specs.Reader.{Means, Turns}
 use Rattle.cnfread.specs.Reads.{Reads}
 use Rattle.bevaridhom.specs.declared.BevClashed.{BevClashed}
-use Rattle.bevaridhom.specs.Answers.{decideAnswer, HostDecides, clashAnswer, HostClashes, deriveAnswer, HostDerives, checkAnswer, HostChecks, markAnswer, Unmet, HostReads}
+use Rattle.bevaridhom.specs.declared.BevOpened.{BevOpened}
+use Rattle.bevaridhom.specs.Answers.{versionAsked, versionNumber, openAnswer, decideAnswer, HostDecides, clashAnswer, HostClashes, deriveAnswer, HostDerives, checkAnswer, HostChecks, markAnswer, Unmet, HostReads}
 
 -- a refusal of what is made of an answer is the answer's
 of-refused : {A B : Type 0} (x : Outcome A) (f : A → B) {number place : ℕ} → refused number place ≡ (x >>= λ a. answer (f a)) → x ≡ refused number place
@@ -106,19 +109,31 @@ hosted-same (refused number place) = refl
 pub told-clash : (t goals w w′ : List ℕ) {r : Clashed} → Clashes t goals w w′ r → HostClashes t goals w w′ (hosted r)
 told-clash t goals w w′ h = record { answered = ap hosted (h .answered) ∙ hosted-same (clash t goals w); work = h .work; kept = h .kept; exact = h .exact }
 
+-- ---- the version that a byte asks for
+
+pub asked-one : (n : ℕ) → n ≡ 0 → One ≡ versionAsked n
+asked-one n e = sym (rw (eq-eqb n 0 e))
+
+pub asked-two : (n : ℕ) → (n ≡ 0 → ⊥) → Two ≡ versionAsked n
+asked-two n e = sym (rw (ne-eqb n 0 e))
+
 -- ---- derive
 
-module _ (t goals w d w′ d′ : List ℕ) where
+-- of the version that was asked for
+pub derives-asked : {v u : Version} {t goals w d w′ d′ : List ℕ} {r : Derived} → v ≡ u → Derives v t goals w d w′ d′ r → Derives u t goals w d w′ d′ r
+derives-asked e h = rw e at h
+
+module _ (v : Version) (t goals w d w′ d′ : List ℕ) where
   -- number 0 is that of a step count
-  by-steps : {P : ℕ → Type 0} (r : Derived) → Derives t goals w d w′ d′ r → ((k : ℕ) → r ≡ Steps k → P k)
+  by-steps : {P : ℕ → Type 0} (r : Derived) → Derives v t goals w d w′ d′ r → ((k : ℕ) → r ≡ Steps k → P k)
       → deriveAnswer (derivedOf r) .number ≡ 0 → P (deriveAnswer (derivedOf r) .steps)
   by-steps (Steps k) h p e = p k refl
   by-steps (NotDerived f) h p e =
-      absurd (omega (arith, derive-numbered t goals w d .positive (f .number) (f .place) (of-refused (derive t goals w d) (λ x. x .steps) (h .answered))))
+      absurd (omega (arith, derive-numbered v t goals w d .positive (f .number) (f .place) (of-refused (derive v t goals w d) (λ x. x .steps) (h .answered))))
 
-  pub told-derive : (r : Derived) {r′ : Derived} → Derives t goals w d w′ d′ r → r ≡ r′ → HostDerives t goals w d w′ d′ (deriveAnswer (derivedOf r′))
+  pub told-derive : (r : Derived) {r′ : Derived} → Derives v t goals w d w′ d′ r → r ≡ r′ → HostDerives v t goals w d w′ d′ (deriveAnswer (derivedOf r′))
   told-derive r {r′} k e =
-      let h : Derives t goals w d w′ d′ r′ = rw e at k in
+      let h : Derives v t goals w d w′ d′ r′ = rw e at k in
       record {
         answered = ap deriveAnswer (h .answered);
         bytes = h .bytes;
@@ -127,6 +142,12 @@ module _ (t goals w d w′ d′ : List ℕ) where
         accepted = by-steps r′ h (h .accepted);
         published = by-steps r′ h (h .published);
       }
+
+-- ---- open
+
+pub open-found : (v : Version) {o : Outcome ℕ} {n u : ℕ} → u ≡ versionNumber v → o ≡ answer n
+    → _≡_ {A = BevOpened} (record { number = 0; place = 0; steps = n; version = u }) (openAnswer v o)
+open-found v {n = n} e q = ap (λ (m : ℕ). record { number = 0; place = 0; steps = n; version = m }) e ∙ sym (rw q)
 
 -- ---- check
 
@@ -145,7 +166,7 @@ module _ (t goals w d w′ : List ℕ) where
         never = λ z. h .never (by-accepted r′ h z);
         published = λ z. h .published (by-accepted r′ h z);
         only = λ z. h .only (by-accepted r′ h z);
-        ours = λ rs a q l s. ap (λ (y : Checked). checkAnswer (checkedOf y) .number) (h .ours rs a q l s);
+        ours = λ v rs a q l s. ap (λ (y : Checked). checkAnswer (checkedOf y) .number) (h .ours v rs a q l s);
       }
 
 -- ---- the DIMACS reader

@@ -1,8 +1,9 @@
 -- The answers for a host in C: number 0 and the values, or the refusal's number and place and every value 0. Assumes nothing.
 use mathlib.Core.Path.{_≡_}
-use mathlib.Core.Bool.{true}
+use mathlib.Core.Bool.{true, cond}
 use mathlib.Core.List.{List, [], _∷_, _++_}
 use Prim.Native.Nat.{ℕ, _-_, _≤_}
+use lib.Dec.{eqb}
 use lib.ListN.{length, take, replicate}
 use Rattle.scope.specs.declared.Node.{Node}
 use Rattle.scope.specs.declared.Truth.{Truth}
@@ -15,6 +16,8 @@ use Rattle.scope.specs.Calls.{Added, settingsTest, evaluate}
 use Rattle.calculus.specs.Order.{impossible, answerOf}
 use Rattle.calculus.specs.Model.{All, mostGoals}
 use Rattle.calculus.specs.Decide.{searchOf, Decided, asked, decide, settingsAfter, Satisfies, Unsatisfiable, _⇔_}
+use Rattle.rules.specs.declared.Version.{Version}
+use Rattle.rules.specs.declared.Version.the-variants.{One, Two}
 use Rattle.rules.specs.Steps.{stepAt, encodeSteps, decodeSteps}
 use Rattle.rules.specs.Derive.{derivationOf, blocks, derive, derivedAfter, check}
 use Rattle.published.specs.Bytes.{PublishedBytes}
@@ -102,11 +105,15 @@ abbrev pub deriveAnswer : Outcome ℕ → BevDerived
 deriveAnswer (answer n) = record { number = 0; place = 0; steps = n }
 deriveAnswer (refused n p) = record { number = n; place = p; steps = 0 }
 
+-- 'Derive is told the version wanted, a choice of exactly two': 0 is version one, any other byte version two
+abbrev pub versionAsked : ℕ → Version
+versionAsked n = cond (eqb n 0) One Two
+
 -- derive for a host: its step count, the derivation bytes, a work area that a refusal by the rows 10 to 17, 62, 20 and 23 leaves as it
 -- was, and what the derivation means: no setting makes all goals true, bev_check accepts it, and it is one by the published rules
-pub record HostDerives (t goals w d w′ d′ : List ℕ) (r : BevDerived) : Type 0 where
-  pub answered : r ≡ deriveAnswer (derive t goals w d >>= λ x. answer (x .steps))
-  pub bytes : d′ ≡ derivedAfter d (derive t goals w d)
+pub record HostDerives (v : Version) (t goals w d w′ d′ : List ℕ) (r : BevDerived) : Type 0 where
+  pub answered : r ≡ deriveAnswer (derive v t goals w d >>= λ x. answer (x .steps))
+  pub bytes : d′ ≡ derivedAfter d (derive v t goals w d)
   pub work : (number place : ℕ) → asked t goals 0 0 (length w) ≡ refused number place → w′ ≡ w
   pub never : r .number ≡ 0 → Unsatisfiable t goals
   pub accepted : r .number ≡ 0 → check t goals w (blocks (r .steps) d′) ≡ fine
@@ -126,12 +133,16 @@ pub record HostChecks (t goals w d w′ : List ℕ) (r : BevChecked) : Type 0 wh
   pub never : r .number ≡ 0 → Unsatisfiable t goals
   pub published : r .number ≡ 0 → PublishedBytes t goals d
   pub only : r .number ≡ 0 → stepAt d 0 .rule ≡ 71 → (u others v : List ℕ) → check u others v d ≡ fine → goals ≡ others
-  pub ours : (rs : List Node) → asked t goals 0 0 (length w) ≡ answer rs → answerOf (searchOf rs goals) ≡ impossible
-      → length (encodeSteps (derivationOf rs goals)) ≤ 33554432 → d ≡ encodeSteps (derivationOf rs goals) → r .number ≡ 0
+  pub ours : (v : Version) (rs : List Node) → asked t goals 0 0 (length w) ≡ answer rs → answerOf (searchOf rs goals) ≡ impossible
+      → length (encodeSteps v (derivationOf v rs goals)) ≤ 33554432 → d ≡ encodeSteps v (derivationOf v rs goals) → r .number ≡ 0
 
-abbrev pub openAnswer : Outcome ℕ → BevOpened
-openAnswer (answer n) = record { number = 0; place = 0; steps = n }
-openAnswer (refused n p) = record { number = n; place = p; steps = 0 }
+abbrev pub versionNumber : Version → ℕ
+versionNumber One = 1
+versionNumber Two = 2
+
+abbrev pub openAnswer : Version → Outcome ℕ → BevOpened
+openAnswer v (answer n) = record { number = 0; place = 0; steps = n; version = versionNumber v }
+openAnswer v (refused n p) = record { number = n; place = p; steps = 0; version = 0 }
 
 -- a step, or that none is left
 abbrev pub stepAnswer : Outcome Next → BevStep

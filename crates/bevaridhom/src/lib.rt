@@ -2,13 +2,15 @@
 ghost use mathlib.Core.Path.{_≡_};
 ghost use Rattle.scope.specs.Calls.{tableCount, tableRecord, evaluate, add, bytesAfter};
 ghost use Rattle.steps.specs.Opened.{stepCount};
+ghost use Rattle.rules.specs.Steps.{versionOf};
 ghost use Rattle.step_reader.specs.Handed.{stepHanded};
-ghost use Rattle.bevaridhom.specs.Answers.{countAnswer, recordAnswer, truthNumber, truthAnswer, addAnswer, openAnswer, stepAnswer, HostDecides, HostClashes, HostDerives, HostChecks, HostReads};
+ghost use Rattle.bevaridhom.specs.Answers.{countAnswer, recordAnswer, truthNumber, truthAnswer, addAnswer, versionAsked, versionNumber, openAnswer, stepAnswer, HostDecides, HostClashes, HostDerives, HostChecks, HostReads};
 use adding::Added;
 use checking::Checked;
 use deciding::Decided;
 use deriving::Derived;
 use record::NodeRead;
+use rules::Version;
 use scope::Truth;
 use step_reader::Handed;
 use steps::Opened;
@@ -207,12 +209,29 @@ pub struct BevDerived {
     pub steps: usize,
 }
 
-// Writes the derivation of goals that are impossible together and answers its step count.
-#[no_mangle]
-pub extern "C" fn bev_derive(t: &[u8], goals: &[u16], w: &mut [u16], d: &mut [u8]) -> BevDerived
-    ensures { λ r. ⌜ HostDerives (now (t .entry)) (now (goals .entry)) (now (w .entry)) (now (d .entry)) (now (w .exit)) (now (d .exit)) r ⌝ }
+// The version that a byte asks for: 0 is version one, any other value version two.
+fn version_asked(wanted: u8) -> Version
+    ensures { λ r. ⌜ r ≡ versionAsked wanted ⌝ }
 {
-    let c = deriving::derive(t, goals, w, d);
+    if wanted == 0 {
+        Version::One
+    } else {
+        Version::Two
+    }
+}
+
+// Writes the derivation, of the version wanted, of goals that are impossible together and answers its step count.
+#[no_mangle]
+pub extern "C" fn bev_derive(
+    t: &[u8],
+    goals: &[u16],
+    wanted: u8,
+    w: &mut [u16],
+    d: &mut [u8],
+) -> BevDerived
+    ensures { λ r. ⌜ HostDerives (versionAsked wanted) (now (t .entry)) (now (goals .entry)) (now (w .entry)) (now (d .entry)) (now (w .exit)) (now (d .exit)) r ⌝ }
+{
+    let c = deriving::derive(version_asked(wanted), t, goals, w, d);
     match c {
         Derived::Steps(steps) => BevDerived {
             number: 0,
@@ -256,12 +275,23 @@ pub struct BevOpened {
     pub number: u16,
     pub place: usize,
     pub steps: usize,
+    pub version: u8,
 }
 
-// Opening a derivation: its step count, or the first refusal of 40 to 44.
+// The number of a version.
+fn version_number(version: Version) -> u8
+    ensures { λ r. ⌜ r ≡ versionNumber version ⌝ }
+{
+    match version {
+        Version::One => 1,
+        Version::Two => 2,
+    }
+}
+
+// Opening a derivation: its step count and its version, or the first refusal of 40 to 44 and 65.
 #[no_mangle]
 pub extern "C" fn bev_open(d: &[u8]) -> BevOpened
-    ensures { λ r. ⌜ r ≡ openAnswer (stepCount (now (d .entry))) ⌝ }
+    ensures { λ r. ⌜ r ≡ openAnswer (versionOf (now (d .entry))) (stepCount (now (d .entry))) ⌝ }
 {
     let c = steps::count(d);
     match c {
@@ -269,11 +299,13 @@ pub extern "C" fn bev_open(d: &[u8]) -> BevOpened
             number: 0,
             place: 0,
             steps,
+            version: version_number(steps::version_of(d)),
         },
         Opened::Refused(f) => BevOpened {
             number: f.number,
             place: f.place,
             steps: 0,
+            version: 0,
         },
     }
 }

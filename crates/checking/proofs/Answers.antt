@@ -14,7 +14,8 @@ use Rattle.calculus.specs.Expansion.{expand}
 use Rattle.calculus.specs.Decide.{nodesOf, asked}
 use Rattle.index.specs.Index.{indexNode}
 use Rattle.rules.specs.declared.Step.{Step}
-use Rattle.rules.specs.Steps.{stepAt, decodeSteps}
+use Rattle.rules.specs.declared.Version.{Version}
+use Rattle.rules.specs.Steps.{versionOf, stepAt, decodeSteps}
 use Rattle.rules.specs.Rules.{names, body, namesTest, running, root, run, accepts}
 use Rattle.rules.specs.Derive.{checked, check}
 use Rattle.rules.proofs.Names.{check-names}
@@ -54,47 +55,51 @@ module _ (d : List ℕ) {count : ℕ} (e : stepCount d ≡ answer count) where
       let q : length (s .0) ≡ count = cc (s .2) in
       step-within d (read-fine d (s .0) (s .1)) k (omega (arith, read-length d (s .0) (s .1), q))
 
-  -- what the steps come to is the answer; a refusal is none of 40 to 44
+  -- what the steps come to is the answer; a refusal is none of 40 to 44 and 65
   pub steps-end : {t : ℕ → Node} {n : ℕ} {goals w w′ : List ℕ} {r : Checked}
-      → checkedOf r ≡ accepts (expand t) goals n (listFrom (stepAt d) 0 count) → Replayed t n goals w d w′ r
+      → checkedOf r ≡ accepts (versionOf d) (expand t) goals n (listFrom (stepAt d) 0 count) → Replayed t n goals w d w′ r
   steps-end {t} {n} {goals} q =
       record {
-        answered = q ∙ ap (_>>= accepts (expand t) goals n) (sym steps-read);
+        answered = q ∙ ap (_>>= accepts (versionOf d) (expand t) goals n) (sym steps-read);
         work = λ number place s. refused-no (sym s ∙ steps-read);
       }
 
 -- ---- row 64 of the head, and the steps after it
 
-module _ (e : ℕ → List (List ℕ)) (goals : List ℕ) (n : ℕ) (f : ℕ → Step) (count : ℕ) where
+module _ (v : Version) (e : ℕ → List (List ℕ)) (goals : List ℕ) (n : ℕ) (f : ℕ → Step) (count : ℕ) where
   abbrev all-steps : List Step
   all-steps = listFrom f 0 count
 
   -- the names are refused
-  pub head-refused : {number place : ℕ} → refused number place ≡ headOf goals (names all-steps) → refused number place ≡ accepts e goals n all-steps
+  pub head-refused : {number place : ℕ} → refused number place ≡ headOf v goals (names all-steps) → refused number place ≡ accepts v e goals n all-steps
   unfolding accepts
-  head-refused q = go (namesTest goals (names all-steps)) q
+  head-refused q = go (namesTest v goals (names all-steps)) q
     where
       go : (o : Outcome (Unit {0})) {number place : ℕ} → refused number place ≡ (o >> answer (length (names all-steps)))
-          → refused number place ≡ (o >> run e goals n (length (names all-steps)) (body all-steps) (running root []))
+          → refused number place ≡ (o >> run v e goals n (length (names all-steps)) (body all-steps) (running root []))
       go (answer u) q = refused-no q
       go (refused m p) q = cc
 
-  module _ {from : ℕ} (q : answer from ≡ headOf goals (names all-steps)) where
+  module _ {from : ℕ} (q : answer from ≡ headOf v goals (names all-steps)) where
     named : length (names all-steps) ≡ from
     named =
-        let z = then-next (namesTest goals (names all-steps)) (answer (length (names all-steps))) (sym q) in
+        let z = then-next (namesTest v goals (names all-steps)) (answer (length (names all-steps))) (sym q) in
         cc
 
     pub head-within : from ≤ count
     head-within = omega (arith, names-most f count 0, named)
 
     -- the other steps decide
-    pub head-runs : run e goals n from (listFrom f from (count - from)) (running root []) ≡ accepts e goals n all-steps
+    pub head-runs : run v e goals n from (listFrom f from (count - from)) (running root []) ≡ accepts v e goals n all-steps
     unfolding accepts
     head-runs =
         let z : 0 + from ≡ from = omega arith in
         let body-is = body-from f count 0 from named in
-        rw (then-first (namesTest goals (names all-steps)) (answer (length (names all-steps))) (sym q), named, body-is, z)
+        rw (then-first (namesTest v goals (names all-steps)) (answer (length (names all-steps))) (sym q), named, body-is, z)
+
+-- by the version that the bytes have
+pub in-version : (e : ℕ → List (List ℕ)) (goals : List ℕ) (n : ℕ) (ss : List Step) {v u : Version} → v ≡ u → accepts v e goals n ss ≡ accepts u e goals n ss
+in-version e goals n ss q = ap (λ (v : Version). accepts v e goals n ss) q
 
 -- ---- the answer, and what it means
 
@@ -110,7 +115,7 @@ module _ (t goals w d : List ℕ) (all : Bytes t) where
     answered = e;
     work = kept;
     never = λ q. check-never t all goals w d (sym e ∙ ap checkedOf q);
-    ours = λ rs a q h s. checked-accepted r (e ∙ ap (check t goals w) s ∙ own-accepted t all goals w rs a q h);
+    ours = λ v rs a q h s. checked-accepted r (e ∙ ap (check t goals w) s ∙ own-accepted t all goals v w rs a q h);
     only = λ q g u others v c. check-names d g t u goals others w v (sym e ∙ ap checkedOf q) c;
     published = λ q. check-derives t goals w d (sym e ∙ ap checkedOf q);
   }
@@ -124,12 +129,12 @@ module _ (t goals w d : List ℕ) (all : Bytes t) where
 
   module _ {x : List ℕ} {n : ℕ} (p : Prepared t goals 0 0 (length w) x n) where
     -- the run over the index is that over the nodes
-    check-in : check t goals w d ≡ (decodeSteps d >>= accepts (expand (indexNode x)) goals n)
+    check-in : check t goals w d ≡ (decodeSteps d >>= accepts (versionOf d) (expand (indexNode x)) goals n)
     unfolding check checked
     check-in = rw (p .answered, p .count) (go (decodeSteps d))
       where
-        go : (o : Outcome (List Step)) → (o >>= accepts (expand (nodesOf (p .nodes))) goals n) ≡ (o >>= accepts (expand (indexNode x)) goals n)
-        go (answer ss) = sym (accepts-same n (indexNode x) goals (p .indexed .table) (p .admitted .below) (nodesOf (p .nodes)) (p .same) ss)
+        go : (o : Outcome (List Step)) → (o >>= accepts (versionOf d) (expand (nodesOf (p .nodes))) goals n) ≡ (o >>= accepts (versionOf d) (expand (indexNode x)) goals n)
+        go (answer ss) = sym (accepts-same n (indexNode x) goals (p .indexed .table) (p .admitted .below) (nodesOf (p .nodes)) (p .same) (versionOf d) ss)
         go (refused number place) = refl
 
     pub ends : {w′ : List ℕ} (r : Checked) → Replayed (indexNode x) n goals w d w′ r → Checks t goals w d w′ r

@@ -10,15 +10,18 @@ use Rattle.scope.specs.declared.Node.{Node}
 use Rattle.scope.specs.Outcome.{Outcome, answer, refused, _>>_, _>>=_}
 use Rattle.scope.proofs.Tests.{refused-no}
 use Rattle.calculus.specs.Expansion.{expand}
-use Rattle.calculus.specs.Order.{Value, holds, fails, undecided, valueOf, clauses}
+use Rattle.calculus.specs.Order.{Value, holds, fails, undecided, valueOf, isEmpty as allFalse, stateOf, clauses}
 use Rattle.calculus.specs.Model.{All, Table, Below, Fresh, Good}
 use Rattle.scope.proofs.Tests.{by-test}
 use Rattle.calculus.proofs.Lists.{all-getD}
 use Rattle.calculus.proofs.Literals.{neg-fresh}
 use Rattle.calculus.proofs.Fresh.{clauses-below}
 use Rattle.rules.specs.declared.Step.{Step}
-use Rattle.rules.specs.Rules.{among, Branch, root, isFails, isUndecided, unstruck, anyHolds, Progress, running, complete, turn, only, clauseAt, stands, left, ruleU, ruleR, ruleE, ruleC, ruleS, names, body, namesTest, apply, advance, ended, run, accepts}
-use Rattle.rules.proofs.Laws.{place, After, after-given, after-only, after-apply, after-advance}
+use Rattle.rules.specs.declared.Version.{Version}
+use Rattle.rules.specs.declared.Version.the-variants.{One, Two}
+use Rattle.rules.specs.Rules.{among, Branch, root, isFails, isUndecided, unstruck, anyHolds, Progress, running, complete, turn, only, clauseAt, stands, left, ruleU, ruleR, ruleE, ruleC, ruleS, unitTwo, conflictTwo, inList, names, body, namesTest, apply, applyTwo, applyIn, advance, ended, run, accepts}
+use Rattle.rules.proofs.Laws.{place, After, after-given, after-only, after-one, after-apply, after-two, after-advance}
+use Rattle.seen.proofs.States.{one-says}
 use Rattle.asking.proofs.Same.{clauses-same}
 
 -- ---- the one literal that a clause has left is one of its literals
@@ -101,36 +104,62 @@ module _ (n : ℕ) (t : ℕ → Node) (goals : List ℕ) (T : Table n t) (B : Be
         let f : Fresh n (b .G) l = (ltb-true l (2 * n) i, is-undecided (valueOf (b .G) l) e) in
         ((f, g), ((neg-fresh n (b .G) l f, g), h))))
 
-    kept-advance : (i : ℕ) (s : Step) → After Kept (advance (expand t) goals n i s (running b waiting))
-    kept-advance i s =
-        after-advance Kept (expand t) goals n s b waiting i
-        (after-apply Kept (expand t) goals n s b waiting
-        (kept-U (s .value)) (kept-R (s .position) (s .value)) (kept-E (s .value)) (kept-C (s .value)) (kept-S (s .value)))
+    kept-unitTwo : (k : ℕ) → After Kept (unitTwo (expand t) goals n k b waiting)
+    unfolding unitTwo
+    kept-unitTwo k =
+        after-given Kept (inList (expand t) goals n b k) _
+        (λ s. after-one Kept (stateOf (b .G) (clauseAt (expand t) goals n b k)) _
+        (λ l e.
+        let below : Below n (clauseAt (expand t) goals n b k) =
+        all-getD (Below n) (clauses (expand t) goals (b .G)) k [] tt (clauses-below n t T goals B (b .G) g) in
+        ((one-says (λ m. m < 2 * n) (b .G) (clauseAt (expand t) goals n b k) l below e, g), h)))
+
+    kept-conflictTwo : (k : ℕ) → After Kept (conflictTwo (expand t) goals n k b waiting)
+    unfolding conflictTwo
+    kept-conflictTwo k =
+        after-given Kept (inList (expand t) goals n b k) _
+        (λ s. after-given Kept (allFalse (stateOf (b .G) (clauseAt (expand t) goals n b k))) _ (λ e. kept-turn waiting h))
+
+    kept-apply : (v : Version) (s : Step) → After Kept (applyIn (expand t) goals n v s b waiting)
+    kept-apply One s =
+        after-apply Kept (expand t) goals n s b waiting
+        (kept-U (s .value)) (kept-R (s .position) (s .value)) (kept-E (s .value)) (kept-C (s .value)) (kept-S (s .value))
+    kept-apply Two s =
+        after-two Kept (expand t) goals n s b waiting (kept-unitTwo (s .value)) (kept-conflictTwo (s .value)) (kept-S (s .value))
+
+    kept-advance : (v : Version) (i : ℕ) (s : Step) → After Kept (advance v (expand t) goals n i s (running b waiting))
+    kept-advance v i s = after-advance Kept (expand t) goals n s b waiting v i (kept-apply v s)
 
   -- ---- nodes that agree
 
   module _ (u : ℕ → Node) (same : (i : ℕ) → i < n → t i ≡ u i) where
-    advance-same : (i : ℕ) (s : Step) (b : Branch) (waiting : List Branch) → GoodBranch b
-        → advance (expand t) goals n i s (running b waiting) ≡ advance (expand u) goals n i s (running b waiting)
-    unfolding advance apply ruleU ruleR ruleE ruleC ruleS
-    advance-same i s b waiting g = rw (clauses-same n t u same goals (b .G) g)
+    apply-same : (v : Version) (s : Step) (b : Branch) (waiting : List Branch) → GoodBranch b
+        → applyIn (expand t) goals n v s b waiting ≡ applyIn (expand u) goals n v s b waiting
+    unfolding apply applyTwo ruleU ruleR ruleE ruleC ruleS unitTwo conflictTwo
+    apply-same One s b waiting g = rw (clauses-same n t u same goals (b .G) g)
+    apply-same Two s b waiting g = rw (clauses-same n t u same goals (b .G) g)
 
-    run-kept : (ss : List Step) (i : ℕ) (p : Progress) → Kept p → run (expand t) goals n i ss p ≡ run (expand u) goals n i ss p
+    advance-same : (v : Version) (i : ℕ) (s : Step) (b : Branch) (waiting : List Branch) → GoodBranch b
+        → advance v (expand t) goals n i s (running b waiting) ≡ advance v (expand u) goals n i s (running b waiting)
+    unfolding advance
+    advance-same v i s b waiting g = rw (apply-same v s b waiting g)
+
+    run-kept : (v : Version) (ss : List Step) (i : ℕ) (p : Progress) → Kept p → run v (expand t) goals n i ss p ≡ run v (expand u) goals n i ss p
     unfolding run ended advance
-    run-kept [] i (running b waiting) h = refl
-    run-kept [] i complete h = refl
-    run-kept (s ∷ ss) i complete h = refl
-    run-kept (s ∷ ss) i (running b waiting) h =
-        go (advance (expand t) goals n i s (running b waiting)) (kept-advance b waiting (h .0) (h .1) i s) (run-kept ss (suc i))
-        ∙ ap (_>>= run (expand u) goals n (suc i) ss) (advance-same i s b waiting (h .0))
+    run-kept v [] i (running b waiting) h = refl
+    run-kept v [] i complete h = refl
+    run-kept v (s ∷ ss) i complete h = refl
+    run-kept v (s ∷ ss) i (running b waiting) h =
+        go (advance v (expand t) goals n i s (running b waiting)) (kept-advance b waiting (h .0) (h .1) v i s) (run-kept v ss (suc i))
+        ∙ ap (_>>= run v (expand u) goals n (suc i) ss) (advance-same v i s b waiting (h .0))
       where
         go : (o : Outcome Progress) → After Kept o
-            → ((p : Progress) → Kept p → run (expand t) goals n (suc i) ss p ≡ run (expand u) goals n (suc i) ss p)
-            → (o >>= run (expand t) goals n (suc i) ss) ≡ (o >>= run (expand u) goals n (suc i) ss)
+            → ((p : Progress) → Kept p → run v (expand t) goals n (suc i) ss p ≡ run v (expand u) goals n (suc i) ss p)
+            → (o >>= run v (expand t) goals n (suc i) ss) ≡ (o >>= run v (expand u) goals n (suc i) ss)
         go (answer p) k r = r p k
         go (refused number place) k r = refl
 
     -- steps are accepted over t as over u
-    pub accepts-same : (ss : List Step) → accepts (expand t) goals n ss ≡ accepts (expand u) goals n ss
+    pub accepts-same : (v : Version) (ss : List Step) → accepts v (expand t) goals n ss ≡ accepts v (expand u) goals n ss
     unfolding accepts
-    accepts-same ss = ap (namesTest goals (names ss) >>_) (run-kept (body ss) (length (names ss)) (running root []) (tt, tt))
+    accepts-same v ss = ap (namesTest v goals (names ss) >>_) (run-kept v (body ss) (length (names ss)) (running root []) (tt, tt))

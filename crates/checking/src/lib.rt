@@ -12,7 +12,7 @@ ghost use Rattle.index.specs.Index.{indexNode};
 ghost use Rattle.area.specs.Area.{areaSize};
 ghost use Rattle.branch.specs.Holds.{Indexed, Goals};
 ghost use Rattle.steps.specs.Opened.{placeOf};
-ghost use Rattle.rules.specs.Steps.{stepAt};
+ghost use Rattle.rules.specs.Steps.{versionOf, stepAt};
 ghost use Rattle.rules.specs.Rules.{accepts};
 ghost use Rattle.scope.specs.Table.{listFrom};
 ghost use Rattle.calculus.specs.Expansion.{expand};
@@ -30,13 +30,14 @@ fn judged(x: &[u16], n: usize, goals: &[u16], work: &mut [u16], d: &[u8], count:
     requires { ⌜ Goals n (now goals) ⌝ }
     requires { ⌜ areaSize ≤ length (now work) ⌝ }
     requires { ⌜ ((k : ℕ) → k < count → placeOf k + 4 ≤ length (now d)) ⌝ }
-    ensures { λ r. ⌜ checkedOf r ≡ accepts (expand (indexNode (now (x .entry)))) (now (goals .entry)) n (listFrom (stepAt (now (d .entry))) 0 count) ⌝ }
+    ensures { λ r. ⌜ checkedOf r ≡ accepts (versionOf (now (d .entry))) (expand (indexNode (now (x .entry)))) (now (goals .entry)) n (listFrom (stepAt (now (d .entry))) 0 count) ⌝ }
 {
-    let head = naming::head(goals, d, count);
+    let version = steps::version_of(d);
+    let head = naming::head(version, goals, d, count);
     match head {
         Named::Refused(f) => Checked::Refused(f),
         Named::Goals(from) => {
-            let v = replay::check_run(x, n, goals, work, d, from, count);
+            let v = replay::check_run(version, x, n, goals, work, d, from, count);
             match v {
                 Verdict::Fine => Checked::Accepted,
                 Verdict::Refused(failed) => Checked::Refused(failed),
@@ -45,7 +46,7 @@ fn judged(x: &[u16], n: usize, goals: &[u16], work: &mut [u16], d: &[u8], count:
     }
 }
 
-// Rows 40 to 44, then the steps.
+// Rows 40 to 44 and 65, then the steps.
 fn replayed(x: &[u16], n: usize, goals: &[u16], work: &mut [u16], d: &[u8]) -> Checked
     requires { ⌜ Indexed (now x) n ⌝ }
     requires { ⌜ Goals n (now goals) ⌝ }

@@ -1,6 +1,7 @@
 // How many steps the derivation in the solver's order has, up to a limit. The search runs as decide's does and writes nothing; where a
 // model is found there is no derivation. The count stops at its limit, and the search goes on.
 use calculus::Move;
+use rules::Version;
 use searching::Stop;
 ghost use mathlib.Core.Path.{_≡_};
 ghost use Prim.Native.Nat.{_+_, _≤_};
@@ -11,7 +12,7 @@ ghost use Rattle.clause.specs.Templates.{rows};
 ghost use Rattle.state.specs.Work.{tail, gOf, Ready, Numbered};
 ghost use Rattle.state.specs.Holds.{Holds};
 ghost use Rattle.moves.specs.Place.{placeNumber, Placed};
-ghost use Rattle.counting.specs.Count.{atMost, Sized, Advanced, Tallied};
+ghost use Rattle.counting.specs.Count.{atMost, Sized, SizedIn, Advanced, Tallied};
 
 // Where the units end, and the count up to there.
 struct Told {
@@ -46,9 +47,34 @@ fn clause_size(templates: &[[u8; 9]; 14], x: &[u16], n: usize, goals: &[u16], wo
     if c.len < 3 { c.len as usize } else { 3 }
 }
 
-// The units join, one after another, up to another move. A unit has as many steps as its clause has literals: an R for each but one,
-// and a U. A conflict has one more than its clause's literals.
+// The same in version one; in version two, which has no R, the literals that are free: undecided.
+fn size_in(
+    version: Version,
+    templates: &[[u8; 9]; 14],
+    x: &[u16],
+    n: usize,
+    goals: &[u16],
+    work: &[u16],
+    free: usize,
+) -> usize
+    requires { ⌜ now templates ≡ rows ⌝ }
+    requires { ⌜ Indexed (now x) n ⌝ }
+    requires { ⌜ Goals n (now goals) ⌝ }
+    requires { ⌜ Ready n (now work) × Numbered (indexNode (now x)) (now goals) (tail (now work)) ⌝ }
+    requires { ⌜ Placed (indexNode (now x)) (now goals) (now work) (placeNumber (now work)) ⌝ }
+    requires { ⌜ free ≤ 1 ⌝ }
+    ensures { λ r. ⌜ SizedIn version (indexNode (now (x .entry))) (now (goals .entry)) (gOf (now (work .entry))) (placeNumber (now (work .entry))) free r ⌝ }
+{
+    match version {
+        Version::One => clause_size(templates, x, n, goals, work),
+        Version::Two => free,
+    }
+}
+
+// The units join, one after another, up to another move. A unit of version one has as many steps as its clause has literals: an R for
+// each but one, and a U. A conflict has one more than its clause's literals.
 fn units(
+    version: Version,
     templates: &[[u8; 9]; 14],
     x: &[u16],
     n: usize,
@@ -63,14 +89,14 @@ fn units(
     requires { ⌜ Goals n (now goals) ⌝ }
     requires { ⌜ Holds (indexNode (now x)) n (now goals) (now work) (now masks) ⌝ }
     requires { ⌜ s ≤ cap ⌝ }
-    ensures { λ r. ⌜ Advanced (indexNode (now (x .entry))) n (now (goals .entry)) (now (work .entry)) (now (work .exit)) (now (masks .exit)) cap s r ⌝ }
+    ensures { λ r. ⌜ Advanced version (indexNode (now (x .entry))) n (now (goals .entry)) (now (work .entry)) (now (work .exit)) (now (masks .exit)) cap s r ⌝ }
 {
     let mut count = s;
     loop {
         let m = moves::next_move(x, n, goals, work, masks);
         match m {
             Move::Conflict(_) => {
-                let size = clause_size(templates, x, n, goals, work);
+                let size = size_in(version, templates, x, n, goals, work, 0);
                 count = capped(count, size + 1, cap);
                 return Told {
                     stop: Stop::Closed,
@@ -78,7 +104,7 @@ fn units(
                 };
             }
             Move::Unit(_, l) => {
-                let size = clause_size(templates, x, n, goals, work);
+                let size = size_in(version, templates, x, n, goals, work, 1);
                 count = capped(count, size, cap);
                 solver::assume(x, n, goals, work, masks, l);
             }
@@ -101,6 +127,7 @@ fn units(
 
 // The search from the literals held, which stay held, s steps being counted: a model, or the count with that of all its steps.
 pub fn count(
+    version: Version,
     templates: &[[u8; 9]; 14],
     x: &[u16],
     n: usize,
@@ -115,9 +142,9 @@ pub fn count(
     requires { ⌜ Goals n (now goals) ⌝ }
     requires { ⌜ Holds (indexNode (now x)) n (now goals) (now work) (now masks) ⌝ }
     requires { ⌜ s ≤ cap ⌝ }
-    ensures { λ r. ⌜ Tallied (indexNode (now (x .entry))) n (now (goals .entry)) (now (work .entry)) (now (work .exit)) (now (masks .exit)) cap s r ⌝ }
+    ensures { λ r. ⌜ Tallied version (indexNode (now (x .entry))) n (now (goals .entry)) (now (work .entry)) (now (work .exit)) (now (masks .exit)) cap s r ⌝ }
 {
-    let told = units(templates, x, n, goals, work, masks, cap, s);
+    let told = units(version, templates, x, n, goals, work, masks, cap, s);
     let stop = told.stop;
     match stop {
         Stop::Closed => Tally::Closed(told.count),
@@ -125,13 +152,23 @@ pub fn count(
         Stop::Fork(l) => {
             let held = state::count(work);
             solver::assume(x, n, goals, work, masks, l);
-            let left = count(templates, x, n, goals, work, masks, cap, told.count);
+            let left = count(
+                version,
+                templates,
+                x,
+                n,
+                goals,
+                work,
+                masks,
+                cap,
+                told.count,
+            );
             match left {
                 Tally::Open => Tally::Open,
                 Tally::Closed(c) => {
                     solver::undo_to(x, n, goals, work, masks, held);
                     solver::assume(x, n, goals, work, masks, clause::negated(l));
-                    count(templates, x, n, goals, work, masks, cap, c)
+                    count(version, templates, x, n, goals, work, masks, cap, c)
                 }
             }
         }

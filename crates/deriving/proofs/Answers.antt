@@ -12,6 +12,7 @@ use Rattle.calculus.specs.Order.{Tree, tree}
 use Rattle.calculus.specs.Decide.{nodesOf, asked}
 use Rattle.index.specs.Index.{indexNode}
 use Rattle.rules.specs.declared.Step.{Step}
+use Rattle.rules.specs.declared.Version.{Version}
 use Rattle.rules.specs.Derivation.{namedSteps}
 use Rattle.rules.specs.Derive.{derivationOf, Derived as Given, blocks, derived, derive, derivedAfter, check}
 use Rattle.asking.specs.Asks.{Prepared}
@@ -22,69 +23,69 @@ use Rattle.deriving.specs.declared.Derived.{Derived}
 use Rattle.deriving.specs.declared.Derived.the-variants.{Steps, Refused}
 use Rattle.deriving.proofs.Same.{derivation-same}
 
-module _ (t goals w d : List ℕ) (all : Bytes t) where
+module _ (v : Version) (t goals w d : List ℕ) (all : Bytes t) where
   -- ---- the contract, where its first three fields hold
 
   module _ (r : Derived) {d′ : List ℕ}
-      (answers : derivedOf r ≡ (derive t goals w d >>= λ x. answer (x .steps))) (file : d′ ≡ derivedAfter d (derive t goals w d)) where
+      (answers : derivedOf r ≡ (derive v t goals w d >>= λ x. answer (x .steps))) (file : d′ ≡ derivedAfter d (derive v t goals w d)) where
     -- a step count is an answer's, and so are the bytes
-    counted : (k : ℕ) → r ≡ Steps k → (x : Given) × (derive t goals w d ≡ answer x) × (blocks (x .steps) (x .bytes) ≡ blocks k d′)
+    counted : (k : ℕ) → r ≡ Steps k → (x : Given) × (derive v t goals w d ≡ answer x) × (blocks (x .steps) (x .bytes) ≡ blocks k d′)
     counted k q =
-        let b = bound (derive t goals w d) (λ x. answer (x .steps)) (sym answers ∙ ap derivedOf q) in
+        let b = bound (derive v t goals w d) (λ x. answer (x .steps)) (sym answers ∙ ap derivedOf q) in
         let s : answer (b .0 .steps) ≡ answer k = b .2 in
         let z : b .0 .steps ≡ k = cc in
         (b .0, b .1, ap (λ (m : ℕ). blocks m (b .0 .bytes)) z ∙ ap (blocks k) (sym (file ∙ ap (derivedAfter d) (b .1))))
 
-    refusal : {number place : ℕ} → derivedOf r ≡ refused number place → derive t goals w d ≡ refused number place
-    refusal q = go (derive t goals w d) (sym answers ∙ q)
+    refusal : {number place : ℕ} → derivedOf r ≡ refused number place → derive v t goals w d ≡ refused number place
+    refusal q = go (derive v t goals w d) (sym answers ∙ q)
       where
         go : (o : Outcome Given) {number place : ℕ} → (o >>= λ x. answer (x .steps)) ≡ refused number place → o ≡ refused number place
         go (answer x) e = refused-no (sym e)
         go (refused n p) e = cc
 
-    derives : {w′ : List ℕ} → ((number place : ℕ) → asked t goals 0 0 (length w) ≡ refused number place → w′ ≡ w) → Derives t goals w d w′ d′ r
+    derives : {w′ : List ℕ} → ((number place : ℕ) → asked t goals 0 0 (length w) ≡ refused number place → w′ ≡ w) → Derives v t goals w d w′ d′ r
     derives kept = record {
       answered = answers;
       bytes = file;
       work = kept;
       never = λ k q.
           let c = counted k q in
-          derive-never t all goals w d (c .0) (c .1);
+          derive-never t all goals v w d (c .0) (c .1);
       accepted = λ k q.
           let c = counted k q in
-          ap (check t goals w) (sym (c .2)) ∙ derived-accepted t all goals w d (c .0) (c .1);
+          ap (check t goals w) (sym (c .2)) ∙ derived-accepted t all goals v w d (c .0) (c .1);
       published = λ k q.
           let c = counted k q in
-          rw (← c .2) (derived-published t all goals w d (c .0) (c .1));
-      complete = λ place q rs e. derive-open t all goals w d (refusal q) rs e;
+          rw (← c .2) (derived-published t all goals v w d (c .0) (c .1));
+      complete = λ place q rs e. derive-open t all goals v w d (refusal q) rs e;
     }
 
   -- ---- where derive ends
 
-  refused-by : {number place : ℕ} → asked t goals 0 0 (length w) ≡ refused number place → derive t goals w d ≡ refused number place
+  refused-by : {number place : ℕ} → asked t goals 0 0 (length w) ≡ refused number place → derive v t goals w d ≡ refused number place
   unfolding derive
   refused-by q = rw q
 
-  pub refuses : (f : Refusal) → asked t goals 0 0 (length w) ≡ refused (f .number) (f .place) → Derives t goals w d w d (Refused f)
+  pub refuses : (f : Refusal) → asked t goals 0 0 (length w) ≡ refused (f .number) (f .place) → Derives v t goals w d w d (Refused f)
   refuses f q =
       let z = refused-by q in
       derives (Refused f) (rw z) (rw z) (λ number place a. refl)
 
   module _ {x : List ℕ} {n : ℕ} (p : Prepared t goals 0 0 (length w) x n) where
     -- the steps over the index are those over the nodes
-    steps-in : namedSteps (expand (indexNode x)) goals (tree (expand (indexNode x)) goals n []) ≡ derivationOf (p .nodes) goals
+    steps-in : namedSteps v (expand (indexNode x)) goals (tree (expand (indexNode x)) goals n []) ≡ derivationOf v (p .nodes) goals
     steps-in =
-        derivation-same n (indexNode x) (nodesOf (p .nodes)) (p .same) goals (p .indexed .table) (p .admitted .below)
-        ∙ ap (λ (k : ℕ). namedSteps (expand (nodesOf (p .nodes))) goals (tree (expand (nodesOf (p .nodes))) goals k [])) (sym (p .count))
+        derivation-same v n (indexNode x) (nodesOf (p .nodes)) (p .same) goals (p .indexed .table) (p .admitted .below)
+        ∙ ap (λ (k : ℕ). namedSteps v (expand (nodesOf (p .nodes))) goals (tree (expand (nodesOf (p .nodes))) goals k [])) (sym (p .count))
 
-    ends-on : derive t goals w d ≡ produced (indexNode x) n goals d
+    ends-on : derive v t goals w d ≡ produced v (indexNode x) n goals d
     unfolding derive derived
     ends-on =
         rw (p .answered)
-        (ap (λ (s : Tree). producedBy s (derivationOf (p .nodes) goals) d) (sym (search-in p))
-        ∙ ap (λ (ss : List Step). producedBy (tree (expand (indexNode x)) goals n []) ss d) (sym steps-in))
+        (ap (λ (s : Tree). producedBy v s (derivationOf v (p .nodes) goals) d) (sym (search-in p))
+        ∙ ap (λ (ss : List Step). producedBy v (tree (expand (indexNode x)) goals n []) ss d) (sym steps-in))
 
-    pub ends : {w′ d′ : List ℕ} (r : Derived) → Produced (indexNode x) n goals d d′ r → Derives t goals w d w′ d′ r
+    pub ends : {w′ d′ : List ℕ} (r : Derived) → Produced v (indexNode x) n goals d d′ r → Derives v t goals w d w′ d′ r
     ends r h =
         derives r
         (h .answered ∙ ap (_>>= λ x. answer (x .steps)) (sym ends-on))

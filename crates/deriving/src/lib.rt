@@ -1,6 +1,7 @@
 // Derive: the derivation of impossible goals in the solver's order, in blocks of a lent buffer. A first pass counts the steps, so
 // that nothing is written before it is known that the goals are impossible and that the blocks fit; the second writes them.
 use counting::Tally;
+use rules::Version;
 use scope::Refusal;
 use table::Counted;
 ghost use mathlib.Core.Path.{_≡_};
@@ -30,17 +31,34 @@ fn room(lent: usize) -> usize
 }
 
 // The derivation of goals over an index: counted first, then, from the start again, written.
-fn produce(x: &[u16], n: usize, goals: &[u16], work: &mut [u16], d: &mut [u8]) -> Derived
+fn produce(
+    version: Version,
+    x: &[u16],
+    n: usize,
+    goals: &[u16],
+    work: &mut [u16],
+    d: &mut [u8],
+) -> Derived
     requires { ⌜ Indexed (now x) n ⌝ }
     requires { ⌜ Goals n (now goals) ⌝ }
     requires { ⌜ 32768 ≤ length (now work) ⌝ }
-    ensures { λ r. ⌜ Produced (indexNode (now (x .entry))) n (now (goals .entry)) (now (d .entry)) (now (d .exit)) r ⌝ }
+    ensures { λ r. ⌜ Produced version (indexNode (now (x .entry))) n (now (goals .entry)) (now (d .entry)) (now (d .exit)) r ⌝ }
 {
     let mut masks = [0u64; 33];
     solver::start(x, n, goals, work, &mut masks);
     let most = room(d.len());
     let templates = clause::templates();
-    let tally = counting::count(&templates, x, n, goals, work, &mut masks, most + 1, 0);
+    let tally = counting::count(
+        version,
+        &templates,
+        x,
+        n,
+        goals,
+        work,
+        &mut masks,
+        most + 1,
+        0,
+    );
     match tally {
         Tally::Open => Derived::Refused(Refusal {
             number: 30,
@@ -55,20 +73,20 @@ fn produce(x: &[u16], n: usize, goals: &[u16], work: &mut [u16], d: &mut [u8]) -
                 });
             }
             solver::start(x, n, goals, work, &mut masks);
-            emitting::write(&templates, x, n, goals, work, &mut masks, d);
+            emitting::write(version, &templates, x, n, goals, work, &mut masks, d);
             Derived::Steps(steps)
         }
     }
 }
 
-// The derivation of impossible goals in the solver's order, written at the start of d, and how many steps it has.
-pub fn derive(t: &[u8], goals: &[u16], work: &mut [u16], d: &mut [u8]) -> Derived
-    ensures { λ r. ⌜ Derives (now (t .entry)) (now (goals .entry)) (now (work .entry)) (now (d .entry)) (now (work .exit)) (now (d .exit)) r ⌝ }
+// The derivation of impossible goals in the solver's order, of a version, written at the start of d, and how many steps it has.
+pub fn derive(version: Version, t: &[u8], goals: &[u16], work: &mut [u16], d: &mut [u8]) -> Derived
+    ensures { λ r. ⌜ Derives version (now (t .entry)) (now (goals .entry)) (now (work .entry)) (now (d .entry)) (now (work .exit)) (now (d .exit)) r ⌝ }
 {
     let mut x = [0u16; 18270];
     let a = asking::ask(t, goals, 0, 0, work.len(), &mut x);
     match a {
         Counted::Refused(r) => Derived::Refused(r),
-        Counted::Nodes(n) => produce(&x, n, goals, work, d),
+        Counted::Nodes(n) => produce(version, &x, n, goals, work, d),
     }
 }

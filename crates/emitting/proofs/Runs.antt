@@ -3,7 +3,8 @@ use mathlib.Core.Path.{_≡_, refl, sym, ap, _∙_}
 use mathlib.Core.List.{List, [], _∷_, _++_, map, append-assoc, append-nil}
 use Prim.Native.Nat.{ℕ, _+_, _<_}
 use native.Mathlib.Omega.{arith}
-use lib.ListN.{length, length-append, length-map}
+use lib.ListN.{length, getD, set, replicate, length-append, length-map, length-set, length-replicate}
+use lib.Seq.{getD-set-same}
 use Rattle.scope.specs.declared.Node.{Node}
 use Rattle.calculus.specs.Expansion.{neg, expand}
 use Rattle.calculus.specs.Order.{move, impossible}
@@ -13,6 +14,7 @@ use Rattle.calculus.proofs.Count.{room}
 use Rattle.calculus.proofs.Fresh.{unit-fresh, split-fresh}
 use Rattle.calculus.proofs.Search.{possible-closed}
 use Rattle.rules.specs.declared.Step.{Step}
+use Rattle.rules.specs.declared.Version.{Version}
 use Rattle.rules.specs.Steps.{U, C, S, G as name}
 use Rattle.rules.specs.Derivation.{removed}
 use Rattle.calculus.proofs.Sound.{or-closed}
@@ -46,18 +48,18 @@ space-first ss ts e s = space-less (omega (arith, length-append ss ts, ap length
 -- ---- a phase
 
 -- what holds before each turn
-pub record Run (t : ℕ → Node) (n : ℕ) (goals w m w′ m′ out out′ : List ℕ) (g g′ : Writer) : Type 0 where
+pub record Run (v : Version) (t : ℕ → Node) (n : ℕ) (goals w m w′ m′ out out′ : List ℕ) (g g′ : Writer) : Type 0 where
   pub holds : Holds t n goals w′ m′
   pub grows : Extends (gOf w) (gOf w′)
   pub steps : List Step
   pub pushed : Pushed steps out g out′ g′
-  pub whole : steps ++ stepsFrom t n goals (gOf w′) ≡ stepsFrom t n goals (gOf w)
-  pub due : Due t n goals (gOf w′) out′ g′
+  pub whole : steps ++ stepsFrom v t n goals (gOf w′) ≡ stepsFrom v t n goals (gOf w)
+  pub due : Due v t n goals (gOf w′) out′ g′
   pub size : length w′ ≡ length w
   pub sets : length m′ ≡ length m
 
-pub run-starts : {t : ℕ → Node} {n : ℕ} {goals w m out : List ℕ} {g : Writer} → Holds t n goals w m → Due t n goals (gOf w) out g
-    → Run t n goals w m w m out out g g
+pub run-starts : {v : Version} {t : ℕ → Node} {n : ℕ} {goals w m out : List ℕ} {g : Writer} → Holds t n goals w m → Due v t n goals (gOf w) out g
+    → Run v t n goals w m w m out out g g
 run-starts {w = w} {out} {g} h d = record {
   holds = h;
   grows = extends-self (gOf w);
@@ -70,8 +72,8 @@ run-starts {w = w} {out} {g} h d = record {
 }
 
 -- the next move is looked up, which leaves the literals held
-pub run-looked : {t : ℕ → Node} {n : ℕ} {goals w m w′ m′ w″ out out′ : List ℕ} {g g′ : Writer} → Run t n goals w m w′ m′ out out′ g g′
-    → Holds t n goals w″ m′ → gOf w″ ≡ gOf w′ → length w″ ≡ length w′ → Run t n goals w m w″ m′ out out′ g g′
+pub run-looked : {v : Version} {t : ℕ → Node} {n : ℕ} {goals w m w′ m′ w″ out out′ : List ℕ} {g g′ : Writer} → Run v t n goals w m w′ m′ out out′ g g′
+    → Holds t n goals w″ m′ → gOf w″ ≡ gOf w′ → length w″ ≡ length w′ → Run v t n goals w m w″ m′ out out′ g g′
 run-looked r h e z = record {
   holds = h;
   grows = rw e (r .grows);
@@ -83,31 +85,31 @@ run-looked r h e z = record {
   sets = r .sets;
 }
 
-module _ {t : ℕ → Node} {n : ℕ} {goals w m w′ m′ out out′ : List ℕ} {g g′ : Writer} (r : Run t n goals w m w′ m′ out out′ g g′) where
+module _ {v : Version} {t : ℕ → Node} {n : ℕ} {goals w m w′ m′ out out′ : List ℕ} {g g′ : Writer} (r : Run v t n goals w m w′ m′ out out′ g g′) where
   -- some of the steps that are due are pushed
-  more-whole : (ss ts : List Step) → stepsFrom t n goals (gOf w′) ≡ ss ++ ts → (r .steps ++ ss) ++ ts ≡ stepsFrom t n goals (gOf w)
+  more-whole : (ss ts : List Step) → stepsFrom v t n goals (gOf w′) ≡ ss ++ ts → (r .steps ++ ss) ++ ts ≡ stepsFrom v t n goals (gOf w)
   more-whole ss ts e = append-assoc (r .steps) ss ts ∙ ap (r .steps ++_) (sym e) ∙ r .whole
 
-  more-space : (ss ts : List Step) {out₂ : List ℕ} {g₂ : Writer} → stepsFrom t n goals (gOf w′) ≡ ss ++ ts → Pushed ss out′ g′ out₂ g₂
+  more-space : (ss ts : List Step) {out₂ : List ℕ} {g₂ : Writer} → stepsFrom v t n goals (gOf w′) ≡ ss ++ ts → Pushed ss out′ g′ out₂ g₂
       → Space (length ts) out₂ g₂
   more-space ss ts e p = space-rest ss ts (sym e) (r .due .space) p
 
   -- a conflict
   module _ {k : ℕ} (e : move (expand t) goals (gOf w′) ≡ Conflict k) where
-    conflict-steps : stepsFrom t n goals (gOf w′) ≡ removed (expand t) goals (gOf w′) k ++ C k ∷ []
-    conflict-steps = steps-conflict t goals (gOf w′) n e
+    conflict-steps : stepsFrom v t n goals (gOf w′) ≡ removed v (expand t) goals (gOf w′) k ++ C k ∷ []
+    conflict-steps = steps-conflict v t goals (gOf w′) n e
 
-    pub conflict-space : Space (length (removed (expand t) goals (gOf w′) k) + 1) out′ g′
-    conflict-space = space-less (omega (arith, ap length conflict-steps, length-append (removed (expand t) goals (gOf w′) k) (C k ∷ []))) (r .due .space)
+    pub conflict-space : Space (length (removed v (expand t) goals (gOf w′) k) + 1) out′ g′
+    conflict-space = space-less (omega (arith, ap length conflict-steps, length-append (removed v (expand t) goals (gOf w′) k) (C k ∷ []))) (r .due .space)
 
-    pub run-conflict : {out₂ : List ℕ} {g₂ : Writer} → Pushed (removed (expand t) goals (gOf w′) k ++ C k ∷ []) out′ g′ out₂ g₂
-        → Stepped t n goals w w′ m′ out out₂ g g₂ Closed
+    pub run-conflict : {out₂ : List ℕ} {g₂ : Writer} → Pushed (removed v (expand t) goals (gOf w′) k ++ C k ∷ []) out′ g′ out₂ g₂
+        → Stepped v t n goals w w′ m′ out out₂ g g₂ Closed
     run-conflict p = record {
       holds = r .holds;
       grows = r .grows;
-      steps = r .steps ++ (removed (expand t) goals (gOf w′) k ++ C k ∷ []);
+      steps = r .steps ++ (removed v (expand t) goals (gOf w′) k ++ C k ∷ []);
       pushed = pushed-on (r .pushed) p;
-      whole = more-whole (removed (expand t) goals (gOf w′) k ++ C k ∷ []) [] (conflict-steps ∙ sym (append-nil (removed (expand t) goals (gOf w′) k ++ C k ∷ [])));
+      whole = more-whole (removed v (expand t) goals (gOf w′) k ++ C k ∷ []) [] (conflict-steps ∙ sym (append-nil (removed v (expand t) goals (gOf w′) k ++ C k ∷ [])));
       closes = r .due .closes;
       forks = λ l q. closed-fork q;
     }
@@ -125,27 +127,27 @@ module _ {t : ℕ → Node} {n : ℕ} {goals w m w′ m′ out out′ : List ℕ
       pub run-room : length (gOf w′) < n
       run-room = room n (gOf w′) l (r .holds .ready .trail .good) run-fresh
 
-      unit-steps : stepsFrom t n goals (gOf w′) ≡ (removed (expand t) goals (gOf w′) k ++ U k ∷ []) ++ stepsFrom t n goals (l ∷ gOf w′)
+      unit-steps : stepsFrom v t n goals (gOf w′) ≡ (removed v (expand t) goals (gOf w′) k ++ U k ∷ []) ++ stepsFrom v t n goals (l ∷ gOf w′)
       unit-steps =
-          steps-unit t goals (gOf w′) n run-room e
-          ∙ sym (append-assoc (removed (expand t) goals (gOf w′) k) (U k ∷ []) (stepsFrom t n goals (l ∷ gOf w′)))
+          steps-unit v t goals (gOf w′) n run-room e
+          ∙ sym (append-assoc (removed v (expand t) goals (gOf w′) k) (U k ∷ []) (stepsFrom v t n goals (l ∷ gOf w′)))
 
-      pub unit-space : Space (length (removed (expand t) goals (gOf w′) k) + 1) out′ g′
+      pub unit-space : Space (length (removed v (expand t) goals (gOf w′) k) + 1) out′ g′
       unit-space =
-          space-less (omega (arith, length-append (removed (expand t) goals (gOf w′) k) (U k ∷ [])))
-          (space-first (removed (expand t) goals (gOf w′) k ++ U k ∷ []) (stepsFrom t n goals (l ∷ gOf w′)) unit-steps (r .due .space))
+          space-less (omega (arith, length-append (removed v (expand t) goals (gOf w′) k) (U k ∷ [])))
+          (space-first (removed v (expand t) goals (gOf w′) k ++ U k ∷ []) (stepsFrom v t n goals (l ∷ gOf w′)) unit-steps (r .due .space))
 
-      pub run-unit : {w″ m″ out₂ : List ℕ} {g₂ : Writer} → Pushed (removed (expand t) goals (gOf w′) k ++ U k ∷ []) out′ g′ out₂ g₂
-          → Holds t n goals w″ m″ → gOf w″ ≡ l ∷ gOf w′ → length w″ ≡ length w′ → length m″ ≡ length m′ → Run t n goals w m w″ m″ out out₂ g g₂
+      pub run-unit : {w″ m″ out₂ : List ℕ} {g₂ : Writer} → Pushed (removed v (expand t) goals (gOf w′) k ++ U k ∷ []) out′ g′ out₂ g₂
+          → Holds t n goals w″ m″ → gOf w″ ≡ l ∷ gOf w′ → length w″ ≡ length w′ → length m″ ≡ length m′ → Run v t n goals w m w″ m″ out out₂ g g₂
       run-unit p h q z y = record {
         holds = h;
         grows = rw q (extends-more (r .grows) l);
-        steps = r .steps ++ (removed (expand t) goals (gOf w′) k ++ U k ∷ []);
+        steps = r .steps ++ (removed v (expand t) goals (gOf w′) k ++ U k ∷ []);
         pushed = pushed-on (r .pushed) p;
-        whole = rw q (more-whole (removed (expand t) goals (gOf w′) k ++ U k ∷ []) (stepsFrom t n goals (l ∷ gOf w′)) unit-steps);
+        whole = rw q (more-whole (removed v (expand t) goals (gOf w′) k ++ U k ∷ []) (stepsFrom v t n goals (l ∷ gOf w′)) unit-steps);
         due = rw q (record {
           closes = sym (result-unit t goals (gOf w′) n run-room e) ∙ r .due .closes;
-          space = more-space (removed (expand t) goals (gOf w′) k ++ U k ∷ []) (stepsFrom t n goals (l ∷ gOf w′)) unit-steps p;
+          space = more-space (removed v (expand t) goals (gOf w′) k ++ U k ∷ []) (stepsFrom v t n goals (l ∷ gOf w′)) unit-steps p;
         });
         size = z ∙ r .size;
         sets = y ∙ r .sets;
@@ -158,30 +160,30 @@ module _ {t : ℕ → Node} {n : ℕ} {goals w m w′ m′ out out′ : List ℕ
           let good = r .holds .ready .trail .good in
           room n (gOf w′) l good (split-fresh n t goals T B (gOf w′) good l e)
 
-      split-steps : stepsFrom t n goals (gOf w′) ≡ (S l ∷ []) ++ left t n goals (gOf w′) (Fork l)
-      split-steps = steps-split t goals (gOf w′) n split-room e
+      split-steps : stepsFrom v t n goals (gOf w′) ≡ (S l ∷ []) ++ left v t n goals (gOf w′) (Fork l)
+      split-steps = steps-split v t goals (gOf w′) n split-room e
 
       pub split-space : Space 1 out′ g′
-      split-space = space-first (S l ∷ []) (left t n goals (gOf w′) (Fork l)) split-steps (r .due .space)
+      split-space = space-first (S l ∷ []) (left v t n goals (gOf w′) (Fork l)) split-steps (r .due .space)
 
-      pub run-split : {out₂ : List ℕ} {g₂ : Writer} → Pushed (S l ∷ []) out′ g′ out₂ g₂ → Stepped t n goals w w′ m′ out out₂ g g₂ (Fork l)
+      pub run-split : {out₂ : List ℕ} {g₂ : Writer} → Pushed (S l ∷ []) out′ g′ out₂ g₂ → Stepped v t n goals w w′ m′ out out₂ g g₂ (Fork l)
       run-split p = record {
         holds = r .holds;
         grows = r .grows;
         steps = r .steps ++ S l ∷ [];
         pushed = pushed-on (r .pushed) p;
-        whole = more-whole (S l ∷ []) (left t n goals (gOf w′) (Fork l)) split-steps;
+        whole = more-whole (S l ∷ []) (left v t n goals (gOf w′) (Fork l)) split-steps;
         closes = r .due .closes;
         forks = λ k q. let z : l ≡ k = cc in e ∙ ap Split z;
       }
 
 -- ---- the recursion
 
-module _ {t : ℕ → Node} {n : ℕ} {goals w w₁ m₁ out out₁ : List ℕ} {g g₁ : Writer} {turn : Turn} (s : Stepped t n goals w w₁ m₁ out out₁ g g₁ turn) where
+module _ {v : Version} {t : ℕ → Node} {n : ℕ} {goals w w₁ m₁ out out₁ : List ℕ} {g g₁ : Writer} {turn : Turn} (s : Stepped v t n goals w w₁ m₁ out out₁ g g₁ turn) where
   -- a phase that ends on a conflict has pushed all steps
-  pub emitted-closed : turn ≡ Closed → Emitted t n goals w w₁ m₁ out out₁ g g₁
+  pub emitted-closed : turn ≡ Closed → Emitted v t n goals w w₁ m₁ out out₁ g g₁
   emitted-closed e =
-      let z : s .steps ≡ stepsFrom t n goals (gOf w) = sym (append-nil (s .steps)) ∙ rw e at (s .whole) in
+      let z : s .steps ≡ stepsFrom v t n goals (gOf w) = sym (append-nil (s .steps)) ∙ rw e at (s .whole) in
       record { holds = s .holds; grows = s .grows; pushed = rw (← z) (s .pushed) }
 
   -- or it ends on a split
@@ -190,36 +192,36 @@ module _ {t : ℕ → Node} {n : ℕ} {goals w w₁ m₁ out out₁ : List ℕ} 
     forked = record { table = T; below = B; good = s .holds .ready .trail .good; grows = s .grows; splits = s .forks l e }
 
     abbrev lefts : List Step
-    lefts = stepsFrom t n goals (l ∷ gOf w₁)
+    lefts = stepsFrom v t n goals (l ∷ gOf w₁)
 
     abbrev rights : List Step
-    rights = stepsFrom t n goals (neg l ∷ gOf w₁)
+    rights = stepsFrom v t n goals (neg l ∷ gOf w₁)
 
     fork-closes : (result t n goals (l ∷ gOf w₁) ≡ impossible) × (result t n goals (neg l ∷ gOf w₁) ≡ impossible)
     fork-closes = or-closed (result t n goals (l ∷ gOf w₁)) (result t n goals (neg l ∷ gOf w₁)) (fork-result forked ∙ s .closes)
 
-    fork-whole : s .steps ++ (lefts ++ rights) ≡ stepsFrom t n goals (gOf w)
+    fork-whole : s .steps ++ (lefts ++ rights) ≡ stepsFrom v t n goals (gOf w)
     fork-whole = rw e at (s .whole)
 
-    module _ (d : Space (length (stepsFrom t n goals (gOf w))) out g) where
+    module _ (d : Space (length (stepsFrom v t n goals (gOf w))) out g) where
       fork-space : Space (length (lefts ++ rights)) out₁ g₁
       fork-space = space-rest (s .steps) (lefts ++ rights) fork-whole d (s .pushed)
 
       -- the left branch
-      pub left-due : {F : List ℕ} → F ≡ l ∷ gOf w₁ → Due t n goals F out₁ g₁
+      pub left-due : {F : List ℕ} → F ≡ l ∷ gOf w₁ → Due v t n goals F out₁ g₁
       left-due q = rw q (record { closes = fork-closes .0; space = space-first lefts rights refl fork-space })
 
-      module _ {w₂ w₃ m₃ out₂ : List ℕ} {g₂ : Writer} (q : gOf w₂ ≡ l ∷ gOf w₁) (a : Emitted t n goals w₂ w₃ m₃ out₁ out₂ g₁ g₂) where
+      module _ {w₂ w₃ m₃ out₂ : List ℕ} {g₂ : Writer} (q : gOf w₂ ≡ l ∷ gOf w₁) (a : Emitted v t n goals w₂ w₃ m₃ out₁ out₂ g₁ g₂) where
         left-pushed : Pushed lefts out₁ g₁ out₂ g₂
         left-pushed = rw q at (a .pushed)
 
         -- the right branch
-        pub right-due : {F : List ℕ} → F ≡ neg l ∷ gOf w₁ → Due t n goals F out₂ g₂
+        pub right-due : {F : List ℕ} → F ≡ neg l ∷ gOf w₁ → Due v t n goals F out₂ g₂
         right-due r = rw r (record { closes = fork-closes .1; space = space-rest lefts rights refl fork-space left-pushed })
 
         -- the steps of a phase, of the left branch and of the right are all
-        pub emitted-fork : {w₄ w₅ m₅ out₃ : List ℕ} {g₃ : Writer} → gOf w₄ ≡ neg l ∷ gOf w₁ → Emitted t n goals w₄ w₅ m₅ out₂ out₃ g₂ g₃
-            → Emitted t n goals w w₅ m₅ out out₃ g g₃
+        pub emitted-fork : {w₄ w₅ m₅ out₃ : List ℕ} {g₃ : Writer} → gOf w₄ ≡ neg l ∷ gOf w₁ → Emitted v t n goals w₄ w₅ m₅ out₂ out₃ g₂ g₃
+            → Emitted v t n goals w w₅ m₅ out out₃ g g₃
         emitted-fork r b = record {
           holds = b .holds;
           grows = fork-grows forked r (b .grows);
@@ -228,24 +230,36 @@ module _ {t : ℕ → Node} {n : ℕ} {goals w w₁ m₁ out out₁ : List ℕ} 
 
 -- ---- the whole
 
--- the first step finds an empty block
-start-space : {t : ℕ → Node} {n : ℕ} {goals G d : List ℕ} (block : List ℕ) → length block ≡ 512 → Fits t n goals G d
-    → Space (length goals + length (stepsFrom t n goals G)) d (gathered block 0 0)
+-- an empty block with its letter
+abbrev pub emptyBlock : ℕ → List ℕ
+emptyBlock letter = set (replicate 512 0) 0 letter
+
+pub empty-length : (letter : ℕ) → length (emptyBlock letter) ≡ 512
+empty-length letter = simp length-set (length-replicate {A = ℕ} 512 0)
+
+pub empty-letter : (letter : ℕ) → getD (emptyBlock letter) 0 0 ≡ letter
+empty-letter letter =
+    let h : 0 < length (replicate {A = ℕ} 512 0) = omega (arith, length-replicate {A = ℕ} 512 0) in
+    getD-set-same (replicate 512 0) 0 letter 0 h
+
+-- the first step finds it
+start-space : {v : Version} {t : ℕ → Node} {n : ℕ} {goals G d : List ℕ} (block : List ℕ) → length block ≡ 512 → Fits v t n goals G d
+    → Space (length goals + length (stepsFrom v t n goals G)) d (gathered block 0 0)
 start-space block l f = record { gathers = record { few = omega arith; whole = l }; lent = omega (arith, f .lent); most = omega (arith, f .most) }
 
 -- the names of the goals fit
-pub names-fit : {t : ℕ → Node} {n : ℕ} {goals G d : List ℕ} (block : List ℕ) → length block ≡ 512 → Fits t n goals G d → Space (length goals) d (gathered block 0 0)
+pub names-fit : {v : Version} {t : ℕ → Node} {n : ℕ} {goals G d : List ℕ} (block : List ℕ) → length block ≡ 512 → Fits v t n goals G d → Space (length goals) d (gathered block 0 0)
 names-fit block l f = space-less (omega arith) (start-space block l f)
 
 -- .. and after them the steps of the search
-pub named-due : {t : ℕ → Node} {n : ℕ} {goals G d : List ℕ} (block : List ℕ) → length block ≡ 512 → Fits t n goals G d
-    → {out : List ℕ} {w : Writer} → Pushed (map name goals) d (gathered block 0 0) out w → Due t n goals G out w
-named-due {t} {n} {goals} {G} block l f p = record {
+pub named-due : {v : Version} {t : ℕ → Node} {n : ℕ} {goals G d : List ℕ} (block : List ℕ) → length block ≡ 512 → Fits v t n goals G d
+    → {out : List ℕ} {w : Writer} → Pushed (map name goals) d (gathered block 0 0) out w → Due v t n goals G out w
+named-due {v} {t} {n} {goals} {G} block l f p = record {
   closes = f .closes;
-  space = space-left (length (stepsFrom t n goals G)) (rw length-map (start-space block l f)) p;
+  space = space-left (length (stepsFrom v t n goals G)) (rw length-map (start-space block l f)) p;
 }
 
 -- .. and then nothing more
-pub none-due : {t : ℕ → Node} {n : ℕ} {goals G out out′ : List ℕ} {w w′ : Writer} → Due t n goals G out w → Pushed (stepsFrom t n goals G) out w out′ w′
+pub none-due : {v : Version} {t : ℕ → Node} {n : ℕ} {goals G out out′ : List ℕ} {w w′ : Writer} → Due v t n goals G out w → Pushed (stepsFrom v t n goals G) out w out′ w′
     → Space 0 out′ w′
 none-due d p = space-left 0 (space-less (omega arith) (d .space)) p

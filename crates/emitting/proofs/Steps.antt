@@ -13,6 +13,8 @@ use Rattle.calculus.specs.Expansion.{neg, expand}
 use Rattle.calculus.specs.Order.{Value, holds, fails, undecided, valueOf, clauses, move}
 use Rattle.calculus.specs.Model.{Below}
 use Rattle.calculus.specs.declared.Move.the-variants.{Conflict, Unit as Single, Split}
+use Rattle.rules.specs.declared.Version.{Version}
+use Rattle.rules.specs.declared.Version.the-variants.{One, Two}
 use Rattle.rules.specs.Steps.{U, R, C, S}
 use Rattle.rules.specs.Rules.{isFails}
 use Rattle.rules.specs.Derivation.{removals, removed, stepsOf}
@@ -28,19 +30,19 @@ use Rattle.emitting.specs.Trace.{falseBit, falseBits}
 
 -- ---- the search from G, by its next move
 
-module _ (t : ℕ → Node) (goals G : List ℕ) (n : ℕ) where
-  pub steps-conflict : {k : ℕ} → move (expand t) goals G ≡ Conflict k → stepsFrom t n goals G ≡ removed (expand t) goals G k ++ C k ∷ []
+module _ (v : Version) (t : ℕ → Node) (goals G : List ℕ) (n : ℕ) where
+  pub steps-conflict : {k : ℕ} → move (expand t) goals G ≡ Conflict k → stepsFrom v t n goals G ≡ removed v (expand t) goals G k ++ C k ∷ []
   unfolding stepsOf
   steps-conflict e = rw (tree-conflict t goals G (n - length G) e)
 
   module _ (h : length G < n) where
     pub steps-unit : {k l : ℕ} → move (expand t) goals G ≡ Single k l
-        → stepsFrom t n goals G ≡ removed (expand t) goals G k ++ U k ∷ stepsFrom t n goals (l ∷ G)
+        → stepsFrom v t n goals G ≡ removed v (expand t) goals G k ++ U k ∷ stepsFrom v t n goals (l ∷ G)
     unfolding stepsOf
     steps-unit e = rw (fuel t goals G n h, tree-unit t goals G (n - suc (length G)) e)
 
     pub steps-split : {l : ℕ} → move (expand t) goals G ≡ Split l
-        → stepsFrom t n goals G ≡ S l ∷ (stepsFrom t n goals (l ∷ G) ++ stepsFrom t n goals (neg l ∷ G))
+        → stepsFrom v t n goals G ≡ S l ∷ (stepsFrom v t n goals (l ∷ G) ++ stepsFrom v t n goals (neg l ∷ G))
     unfolding stepsOf
     steps-split e = rw (fuel t goals G n h, tree-split t goals G (n - suc (length G)) e)
 
@@ -121,8 +123,13 @@ removals-bits G k (l ∷ c) (suc more) p h = go (isFails (valueOf G l)) (falseBi
         rw (even, half, e)
 
 -- those of the clause that the move looked up is on
-pub removed-is : {t : ℕ → Node} {n : ℕ} {goals w : List ℕ} {k bits : ℕ} {c : Clause} → Placed t goals w k → Reasoned t n goals w c
-    → bits ≡ falseBits (gOf w) (literals c) → removed (expand t) goals (gOf w) k ≡ removalsAt positions k 0 bits
-removed-is {t} {n} {goals} {w} {k} {bits} {c} p r e =
+pub removed-is : {v : Version} {t : ℕ → Node} {n : ℕ} {goals w : List ℕ} {k bits : ℕ} {c : Clause} → v ≡ One → Placed t goals w k → Reasoned t n goals w c
+    → bits ≡ falseBits (gOf w) (literals c) → removed v (expand t) goals (gOf w) k ≡ removalsAt positions k 0 bits
+removed-is {t = t} {n} {goals} {w} {k} {bits} {c} one p r e =
     let clause : literals c ≡ getD (clauses (expand t) goals (gOf w)) k [] = rw (p .number) at (r .clause) in
-    ap (removals (gOf w) k 0) (sym clause) ∙ sym (removals-bits (gOf w) k (literals c) positions 0 (few-literals c)) ∙ ap (removalsAt positions k 0) (sym e)
+    rw one
+    (ap (removals (gOf w) k 0) (sym clause) ∙ sym (removals-bits (gOf w) k (literals c) positions 0 (few-literals c)) ∙ ap (removalsAt positions k 0) (sym e))
+
+-- version two has none
+pub removed-none : {v : Version} (t : ℕ → Node) (goals G : List ℕ) (k : ℕ) → v ≡ Two → removed v (expand t) goals G k ≡ removalsAt positions k 0 0
+removed-none t goals G k two = rw two (sym (removals-zero positions k 0))

@@ -9,6 +9,7 @@ use Rattle.calculus.specs.Expansion.{neg, expand}
 use Rattle.calculus.specs.Order.{valueOf, move, impossible}
 use Rattle.calculus.specs.declared.Move.the-variants.{Split}
 use Rattle.rules.specs.declared.Step.{Step}
+use Rattle.rules.specs.declared.Version.{Version}
 use Rattle.rules.specs.Steps.{encodeSteps}
 use Rattle.rules.specs.Rules.{isFails}
 use Rattle.state.specs.Work.{gOf}
@@ -29,37 +30,37 @@ falseBits G [] = 0
 falseBits G (l ∷ c) = falseBit G l + 2 * falseBits G c
 
 -- the search from G closes, and its steps fit
-pub record Due (t : ℕ → Node) (n : ℕ) (goals G out : List ℕ) (g : Writer) : Type 0 where
+pub record Due (v : Version) (t : ℕ → Node) (n : ℕ) (goals G out : List ℕ) (g : Writer) : Type 0 where
   pub closes : result t n goals G ≡ impossible
-  pub space : Space (length (stepsFrom t n goals G)) out g
+  pub space : Space (length (stepsFrom v t n goals G)) out g
 
 -- the steps that are left where a phase ends
-abbrev pub left : (ℕ → Node) → ℕ → List ℕ → List ℕ → Turn → List Step
-left t n goals G Closed = []
-left t n goals G (Fork l) = stepsFrom t n goals (l ∷ G) ++ stepsFrom t n goals (neg l ∷ G)
+abbrev pub left : Version → (ℕ → Node) → ℕ → List ℕ → List ℕ → Turn → List Step
+left v t n goals G Closed = []
+left v t n goals G (Fork l) = stepsFrom v t n goals (l ∷ G) ++ stepsFrom v t n goals (neg l ∷ G)
 
 -- a phase is done: the units have joined, up to a conflict or a split, and the steps so far were pushed
-pub record Stepped (t : ℕ → Node) (n : ℕ) (goals w w′ m′ out out′ : List ℕ) (g g′ : Writer) (turn : Turn) : Type 0 where
+pub record Stepped (v : Version) (t : ℕ → Node) (n : ℕ) (goals w w′ m′ out out′ : List ℕ) (g g′ : Writer) (turn : Turn) : Type 0 where
   pub holds : Holds t n goals w′ m′
   pub grows : Extends (gOf w) (gOf w′)
   pub steps : List Step
   pub pushed : Pushed steps out g out′ g′
-  pub whole : steps ++ left t n goals (gOf w′) turn ≡ stepsFrom t n goals (gOf w)
+  pub whole : steps ++ left v t n goals (gOf w′) turn ≡ stepsFrom v t n goals (gOf w)
   pub closes : result t n goals (gOf w′) ≡ impossible
   pub forks : (l : ℕ) → turn ≡ Fork l → move (expand t) goals (gOf w′) ≡ Split l
 
 -- a search is done: its steps were pushed, and the literals of the start are still held
-pub record Emitted (t : ℕ → Node) (n : ℕ) (goals w w′ m′ out out′ : List ℕ) (g g′ : Writer) : Type 0 where
+pub record Emitted (v : Version) (t : ℕ → Node) (n : ℕ) (goals w w′ m′ out out′ : List ℕ) (g g′ : Writer) : Type 0 where
   pub holds : Holds t n goals w′ m′
   pub grows : Extends (gOf w) (gOf w′)
-  pub pushed : Pushed (stepsFrom t n goals (gOf w)) out g out′ g′
+  pub pushed : Pushed (stepsFrom v t n goals (gOf w)) out g out′ g′
 
 -- the search from G closes, and its steps fit a buffer from its start, with the names of the goals
-pub record Fits (t : ℕ → Node) (n : ℕ) (goals G d : List ℕ) : Type 0 where
+pub record Fits (v : Version) (t : ℕ → Node) (n : ℕ) (goals G d : List ℕ) : Type 0 where
   pub closes : result t n goals G ≡ impossible
-  pub lent : length goals + length (stepsFrom t n goals G) ≤ 126 * (length d / 512)
-  pub most : length goals + length (stepsFrom t n goals G) ≤ 126 * 65536
+  pub lent : length goals + length (stepsFrom v t n goals G) ≤ 126 * (length d / 512)
+  pub most : length goals + length (stepsFrom v t n goals G) ≤ 126 * 65536
 
 -- the derivation's bytes in a buffer: 'Bytes past its last block stay'
-abbrev pub written : List Step → List ℕ → List ℕ
-written ss d = encodeSteps ss ++ drop (length (encodeSteps ss)) d
+abbrev pub written : Version → List Step → List ℕ → List ℕ
+written v ss d = encodeSteps v ss ++ drop (length (encodeSteps v ss)) d

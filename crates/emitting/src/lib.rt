@@ -6,6 +6,7 @@ use clause::Clause;
 use gather::At;
 use gather::Writer;
 use rules::Step;
+use rules::Version;
 ghost use mathlib.Core.Path.{_≡_};
 ghost use mathlib.Core.Bool.{cond};
 ghost use mathlib.Core.List.{[], _∷_, _++_, map};
@@ -69,8 +70,9 @@ fn false_bits(n: usize, work: &[u16], c: Clause) -> u8
     first + 2 * (second + 2 * third)
 }
 
-// The steps on clause k, that of the move looked up: its removals, and a U or a C.
+// The steps on clause k, that of the move looked up: in version one its removals, and a U or a C.
 fn on_clause(
+    version: Version,
     templates: &[[u8; 9]; 14],
     x: &[u16],
     n: usize,
@@ -86,16 +88,22 @@ fn on_clause(
     requires { ⌜ Goals n (now goals) ⌝ }
     requires { ⌜ Ready n (now work) × Numbered (indexNode (now x)) (now goals) (tail (now work)) ⌝ }
     requires { ⌜ Placed (indexNode (now x)) (now goals) (now work) k ⌝ }
-    requires { ⌜ Space (length (removed (expand (indexNode (now x))) (now goals) (gOf (now work)) k) + 1) (now out) w ⌝ }
-    ensures { λ r. ⌜ Pushed (removed (expand (indexNode (now (x .entry)))) (now (goals .entry)) (gOf (now (work .entry))) k ++ step rule 0 k ∷ []) (now (out .entry)) w (now (out .exit)) r ⌝ }
+    requires { ⌜ Space (length (removed version (expand (indexNode (now x))) (now goals) (gOf (now work)) k) + 1) (now out) w ⌝ }
+    ensures { λ r. ⌜ Pushed (removed version (expand (indexNode (now (x .entry)))) (now (goals .entry)) (gOf (now (work .entry))) k ++ step rule 0 k ∷ []) (now (out .entry)) w (now (out .exit)) r ⌝ }
 {
-    let c = moves::reason(templates, x, n, goals, work);
-    let bits = false_bits(n, work, c);
-    gather::push_move(out, w, rule, k, bits)
+    match version {
+        Version::One => {
+            let c = moves::reason(templates, x, n, goals, work);
+            let bits = false_bits(n, work, c);
+            gather::push_move(out, w, rule, k, bits)
+        }
+        Version::Two => gather::push_move(out, w, rule, k, 0),
+    }
 }
 
 // The moves up to a conflict or a split, with their steps.
 fn phase(
+    version: Version,
     templates: &[[u8; 9]; 14],
     x: &[u16],
     n: usize,
@@ -109,22 +117,22 @@ fn phase(
     requires { ⌜ Indexed (now x) n ⌝ }
     requires { ⌜ Goals n (now goals) ⌝ }
     requires { ⌜ Holds (indexNode (now x)) n (now goals) (now work) (now masks) ⌝ }
-    requires { ⌜ Due (indexNode (now x)) n (now goals) (gOf (now work)) (now out) w ⌝ }
-    ensures { λ r. ⌜ Stepped (indexNode (now (x .entry))) n (now (goals .entry)) (now (work .entry)) (now (work .exit)) (now (masks .exit)) (now (out .entry)) (now (out .exit)) w (r .w) (r .turn) ⌝ }
+    requires { ⌜ Due version (indexNode (now x)) n (now goals) (gOf (now work)) (now out) w ⌝ }
+    ensures { λ r. ⌜ Stepped version (indexNode (now (x .entry))) n (now (goals .entry)) (now (work .entry)) (now (work .exit)) (now (masks .exit)) (now (out .entry)) (now (out .exit)) w (r .w) (r .turn) ⌝ }
 {
     let mut v = w;
     loop {
         let m = moves::next_move(x, n, goals, work, masks);
         match m {
             Move::Conflict(k) => {
-                v = on_clause(templates, x, n, goals, work, out, v, 67, k);
+                v = on_clause(version, templates, x, n, goals, work, out, v, 67, k);
                 return Told {
                     turn: Turn::Closed,
                     w: v,
                 };
             }
             Move::Unit(k, l) => {
-                v = on_clause(templates, x, n, goals, work, out, v, 85, k);
+                v = on_clause(version, templates, x, n, goals, work, out, v, 85, k);
                 solver::assume(x, n, goals, work, masks, l);
             }
             Move::Done => {
@@ -154,6 +162,7 @@ fn phase(
 
 // The same, with the block lent.
 fn settle(
+    version: Version,
     templates: &[[u8; 9]; 14],
     x: &[u16],
     n: usize,
@@ -168,8 +177,8 @@ fn settle(
     requires { ⌜ Indexed (now x) n ⌝ }
     requires { ⌜ Goals n (now goals) ⌝ }
     requires { ⌜ Holds (indexNode (now x)) n (now goals) (now work) (now masks) ⌝ }
-    requires { ⌜ Due (indexNode (now x)) n (now goals) (gOf (now work)) (now out) (lent (now block) at) ⌝ }
-    ensures { λ r. ⌜ Stepped (indexNode (now (x .entry))) n (now (goals .entry)) (now (work .entry)) (now (work .exit)) (now (masks .exit)) (now (out .entry)) (now (out .exit)) (lent (now (block .entry)) at) (lent (now (block .exit)) (r .at)) (r .turn) ⌝ }
+    requires { ⌜ Due version (indexNode (now x)) n (now goals) (gOf (now work)) (now out) (lent (now block) at) ⌝ }
+    ensures { λ r. ⌜ Stepped version (indexNode (now (x .entry))) n (now (goals .entry)) (now (work .entry)) (now (work .exit)) (now (masks .exit)) (now (out .entry)) (now (out .exit)) (lent (now (block .entry)) at) (lent (now (block .exit)) (r .at)) (r .turn) ⌝ }
 {
     let held = *block;
     let w = Writer {
@@ -177,7 +186,7 @@ fn settle(
         count: at.count,
         blocks: at.blocks,
     };
-    let told = phase(templates, x, n, goals, work, masks, out, w);
+    let told = phase(version, templates, x, n, goals, work, masks, out, w);
     let v = told.w;
     let turn = told.turn;
     let after = v.block;
@@ -193,6 +202,7 @@ fn settle(
 
 // The steps of a search that closes. The literals held stay held; what joined is taken back only before a right branch.
 fn emit(
+    version: Version,
     templates: &[[u8; 9]; 14],
     x: &[u16],
     n: usize,
@@ -207,10 +217,10 @@ fn emit(
     requires { ⌜ Indexed (now x) n ⌝ }
     requires { ⌜ Goals n (now goals) ⌝ }
     requires { ⌜ Holds (indexNode (now x)) n (now goals) (now work) (now masks) ⌝ }
-    requires { ⌜ Due (indexNode (now x)) n (now goals) (gOf (now work)) (now out) (lent (now block) at) ⌝ }
-    ensures { λ r. ⌜ Emitted (indexNode (now (x .entry))) n (now (goals .entry)) (now (work .entry)) (now (work .exit)) (now (masks .exit)) (now (out .entry)) (now (out .exit)) (lent (now (block .entry)) at) (lent (now (block .exit)) r) ⌝ }
+    requires { ⌜ Due version (indexNode (now x)) n (now goals) (gOf (now work)) (now out) (lent (now block) at) ⌝ }
+    ensures { λ r. ⌜ Emitted version (indexNode (now (x .entry))) n (now (goals .entry)) (now (work .entry)) (now (work .exit)) (now (masks .exit)) (now (out .entry)) (now (out .exit)) (lent (now (block .entry)) at) (lent (now (block .exit)) r) ⌝ }
 {
-    let a = settle(templates, x, n, goals, work, masks, out, block, at);
+    let a = settle(version, templates, x, n, goals, work, masks, out, block, at);
     let turn = a.turn;
     let p = a.at;
     match turn {
@@ -218,16 +228,17 @@ fn emit(
         Turn::Fork(l) => {
             let held = state::count(work);
             solver::assume(x, n, goals, work, masks, l);
-            let b = emit(templates, x, n, goals, work, masks, out, block, p);
+            let b = emit(version, templates, x, n, goals, work, masks, out, block, p);
             solver::undo_to(x, n, goals, work, masks, held);
             solver::assume(x, n, goals, work, masks, clause::negated(l));
-            emit(templates, x, n, goals, work, masks, out, block, b)
+            emit(version, templates, x, n, goals, work, masks, out, block, b)
         }
     }
 }
 
 // The goals' names and the steps of a search that closes, in blocks at the start of d.
 pub fn write(
+    version: Version,
     templates: &[[u8; 9]; 14],
     x: &[u16],
     n: usize,
@@ -240,15 +251,27 @@ pub fn write(
     requires { ⌜ Indexed (now x) n ⌝ }
     requires { ⌜ Goals n (now goals) ⌝ }
     requires { ⌜ Holds (indexNode (now x)) n (now goals) (now work) (now masks) ⌝ }
-    requires { ⌜ Fits (indexNode (now x)) n (now goals) (gOf (now work)) (now d) ⌝ }
-    ensures { λ _. ⌜ now (d .exit) ≡ written (map name (now (goals .entry)) ++ stepsFrom (indexNode (now (x .entry))) n (now (goals .entry)) (gOf (now (work .entry)))) (now (d .entry)) ⌝ }
+    requires { ⌜ Fits version (indexNode (now x)) n (now goals) (gOf (now work)) (now d) ⌝ }
+    ensures { λ _. ⌜ now (d .exit) ≡ written version (map name (now (goals .entry)) ++ stepsFrom version (indexNode (now (x .entry))) n (now (goals .entry)) (gOf (now (work .entry)))) (now (d .entry)) ⌝ }
 {
     let mut block = [0u8; 512];
+    block[0] = steps::letter_of(version);
     let start = At {
         count: 0,
         blocks: 0,
     };
     let named = gather::add_goals(d, &mut block, start, goals);
-    let p = emit(templates, x, n, goals, work, masks, d, &mut block, named);
+    let p = emit(
+        version,
+        templates,
+        x,
+        n,
+        goals,
+        work,
+        masks,
+        d,
+        &mut block,
+        named,
+    );
     gather::close(d, &block, p.count, p.blocks);
 }

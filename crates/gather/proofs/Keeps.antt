@@ -7,29 +7,28 @@ use native.Mathlib.Numerals.{add-one}
 use lib.ListN.{length, set, take, drop, length-append, length-drop}
 use lib.Seq.{sets-eq, take-at, take-append-le, drop-append-le, drop-append-add, drop-drop, length-take-le}
 use borrow.Rule.Slice.PartMut.{midOf, putMid}
-use Rattle.scope.specs.Block.{blockOf}
+use Rattle.scope.specs.Block.{blockOf, fileOf}
 use Rattle.codec.specs.Valid.{front, rest}
 use Rattle.codec.proofs.Bytes.{drop-take}
-use Rattle.codec.proofs.Files.{flat-append}
+use Rattle.codec.proofs.Files.{flat-append, length-fileOf}
 use Rattle.codec.proofs.Grows.{length-front, last-block, grown, all-full}
 use Rattle.writer.proofs.Parts.{part-back}
 use Rattle.rules.specs.declared.Step.{Step}
-use Rattle.rules.specs.Steps.{derivations, stepBytes, encodeSteps}
+use Rattle.rules.specs.Steps.{lettered, stepBytes}
 use Rattle.rules.proofs.Steps.{length-step}
 use Rattle.steps.proofs.Form.{fits}
-use Rattle.steps.proofs.Encode.{length-encode-steps}
 use Rattle.gather.specs.Kept.{bodyOf}
 
--- the bytes of full blocks, and of the steps behind them
-abbrev pub fulls : List Step → List ℕ
-fulls ss = front derivations stepBytes ss
+-- the bytes of full blocks of a letter, and of the steps behind them
+abbrev pub fulls : ℕ → List Step → List ℕ
+fulls letter ss = front (lettered letter) stepBytes ss
 
-abbrev pub others : List Step → List ℕ
-others ss = rest derivations stepBytes ss
+abbrev pub others : ℕ → List Step → List ℕ
+others letter ss = rest (lettered letter) stepBytes ss
 
--- a block of steps
-abbrev pub stepBlock : ℕ → ℕ → List ℕ → List ℕ
-stepBlock count index body = blockOf 68 count index body
+-- the whole file
+abbrev pub file : ℕ → List Step → List ℕ
+file letter ss = fileOf (lettered letter) stepBytes ss
 
 -- ---- one step more
 
@@ -58,65 +57,68 @@ body-more block bytes k l h b =
     )
     (take-at (take (4 * k) (drop 4 block) ++ bytes) (drop (4 + 4 * k + 4) block) (4 * k + 4) s)
 
-module _ (ss : List Step) (s : Step) where
-  pub one-more : length (ss ++ s ∷ []) ≡ length ss + 1
-  one-more = length-append ss (s ∷ [])
+pub one-more : (ss : List Step) (s : Step) → length (ss ++ s ∷ []) ≡ length ss + 1
+one-more ss s = length-append ss (s ∷ [])
 
+module _ (letter : ℕ) (ss : List Step) (s : Step) where
   -- the last block has room left
   module _ (h : length ss % 126 < 125) where
-    pub fulls-same : fulls (ss ++ s ∷ []) ≡ fulls ss
+    pub fulls-same : fulls letter (ss ++ s ∷ []) ≡ fulls letter ss
     unfolding front
     fulls-same =
         let q : (length ss + 1) / 126 ≡ length ss / 126 = omega arith in
-        rw (one-more, q, take-append-le (126 * (length ss / 126)) ss (s ∷ []) (omega arith))
+        rw (one-more ss s, q, take-append-le (126 * (length ss / 126)) ss (s ∷ []) (omega arith))
 
-    pub others-more : others (ss ++ s ∷ []) ≡ others ss ++ stepBytes s
+    pub others-more : others letter (ss ++ s ∷ []) ≡ others letter ss ++ stepBytes s
     unfolding rest flatMap
     others-more =
         let q : (length ss + 1) / 126 ≡ length ss / 126 = omega arith in
-        rw (one-more, q, drop-append-le (126 * (length ss / 126)) ss (s ∷ []) (omega arith))
+        rw (one-more ss s, q, drop-append-le (126 * (length ss / 126)) ss (s ∷ []) (omega arith))
         (flat-append stepBytes (drop (126 * (length ss / 126)) ss) (s ∷ []) ∙ rw append-nil)
 
   -- it becomes full
   module _ (h : length ss % 126 ≡ 125) where
     full : length (ss ++ s ∷ []) % 126 ≡ 0
-    full = rw one-more (omega arith)
+    full = rw (one-more ss s) (omega arith)
 
-    pub fulls-more : fulls (ss ++ s ∷ []) ≡ fulls ss ++ stepBlock 126 (length ss / 126) (others ss ++ stepBytes s)
+    pub fulls-more : fulls letter (ss ++ s ∷ []) ≡ fulls letter ss ++ blockOf letter 126 (length ss / 126) (others letter ss ++ stepBytes s)
     fulls-more =
-        sym (all-full derivations fits stepBytes length-step (ss ++ s ∷ []) full .0)
-        ∙ grown derivations fits stepBytes length-step ss s
+        sym (all-full (lettered letter) (fits letter) stepBytes length-step (ss ++ s ∷ []) full .0)
+        ∙ grown (lettered letter) (fits letter) stepBytes length-step ss s
         ∙ rw h
 
-    pub others-none : others (ss ++ s ∷ []) ≡ []
-    others-none = all-full derivations fits stepBytes length-step (ss ++ s ∷ []) full .1
+    pub others-none : others letter (ss ++ s ∷ []) ≡ []
+    others-none = all-full (lettered letter) (fits letter) stepBytes length-step (ss ++ s ∷ []) full .1
 
 -- ---- a block is written behind the full ones
 
 -- .. through the part of the buffer that was lent
-pub block-back : (out block : List ℕ) (count index : ℕ) {ys : List ℕ} → 512 * (index + 1) ≤ length out
-    → ys ≡ stepBlock count index (midOf 4 (4 + 4 * count - 4) block) ++ drop 512 (midOf (512 * index) (length out - 512 * index) out)
+pub block-back : (letter : ℕ) (out block : List ℕ) (count index : ℕ) {ys : List ℕ} → 512 * (index + 1) ≤ length out
+    → ys ≡ blockOf letter count index (midOf 4 (4 + 4 * count - 4) block) ++ drop 512 (midOf (512 * index) (length out - 512 * index) out)
     → putMid (512 * index) (length out - 512 * index) out ys
-    ≡ take (512 * index) out ++ (stepBlock count index (bodyOf block count) ++ drop (512 * (index + 1)) out)
-block-back out block count index h e =
+    ≡ take (512 * index) out ++ (blockOf letter count index (bodyOf block count) ++ drop (512 * (index + 1)) out)
+block-back letter out block count index h e =
     let z : 512 * (index + 1) ≡ 512 * index + 512 = omega arith in
     let n : 4 + 4 * count - 4 ≡ 4 * count = omega arith in
-    part-back out (stepBlock count index (midOf 4 (4 + 4 * count - 4) block)) (512 * index) 512 (omega arith) e ∙ rw (n, z)
+    part-back out (blockOf letter count index (midOf 4 (4 + 4 * count - 4) block)) (512 * index) 512 (omega arith) e ∙ rw (n, z)
 
-module _ (ss : List Step) (d : List ℕ) (block : List ℕ) {out : List ℕ} {b : ℕ} (e : out ≡ fulls ss ++ drop (512 * b) d) (k : b ≡ length ss / 126) where
-  pub behind : take (512 * b) out ++ (block ++ drop (512 * (b + 1)) out) ≡ (fulls ss ++ block) ++ drop (512 * (b + 1)) d
+module _ (letter : ℕ) (ss : List Step) (d : List ℕ) (block : List ℕ) {out : List ℕ} {b : ℕ} (e : out ≡ fulls letter ss ++ drop (512 * b) d) (k : b ≡ length ss / 126) where
+  pub behind : take (512 * b) out ++ (block ++ drop (512 * (b + 1)) out) ≡ (fulls letter ss ++ block) ++ drop (512 * (b + 1)) d
   behind =
-      let n : length (fulls ss) ≡ 512 * b = length-front derivations fits stepBytes length-step ss ∙ ap (512 *_) (sym k) in
+      let n : length (fulls letter ss) ≡ 512 * b = length-front (lettered letter) (fits letter) stepBytes length-step ss ∙ ap (512 *_) (sym k) in
       let z : 512 * (b + 1) ≡ 512 * b + 512 = omega arith in
-      let q : drop (512 * b + 512) (fulls ss ++ drop (512 * b) d) ≡ drop 512 (drop (512 * b) d) = ap (λ (k : ℕ). drop (k + 512) (fulls ss ++ drop (512 * b) d)) (sym n) ∙ drop-append-add (fulls ss) (drop (512 * b) d) 512 in
-      rw (e, z, take-at (fulls ss) (drop (512 * b) d) (512 * b) n, q, drop-drop, append-assoc)
+      let q : drop (512 * b + 512) (fulls letter ss ++ drop (512 * b) d) ≡ drop 512 (drop (512 * b) d) = ap (λ (k : ℕ). drop (k + 512) (fulls letter ss ++ drop (512 * b) d)) (sym n) ∙ drop-append-add (fulls letter ss) (drop (512 * b) d) 512 in
+      rw (e, z, take-at (fulls letter ss) (drop (512 * b) d) (512 * b) n, q, drop-drop, append-assoc)
 
 -- ---- all steps
 
-module _ (ss : List Step) where
-  pub encode-partial : 0 < length ss % 126
-      → (encodeSteps ss ≡ fulls ss ++ stepBlock (length ss % 126) (length ss / 126) (others ss)) × (length (encodeSteps ss) ≡ 512 * (length ss / 126 + 1))
-  encode-partial h = (last-block derivations fits stepBytes length-step ss h, omega (arith, length-encode-steps ss))
+module _ (letter : ℕ) (ss : List Step) where
+  length-file : length (file letter ss) ≡ 512 * ((length ss + 125) / 126)
+  length-file = length-fileOf (lettered letter) (fits letter) stepBytes length-step ss
 
-  pub encode-full : length ss % 126 ≡ 0 → (encodeSteps ss ≡ fulls ss) × (length (encodeSteps ss) ≡ 512 * (length ss / 126))
-  encode-full h = (all-full derivations fits stepBytes length-step ss h .0, omega (arith, length-encode-steps ss))
+  pub encode-partial : 0 < length ss % 126
+      → (file letter ss ≡ fulls letter ss ++ blockOf letter (length ss % 126) (length ss / 126) (others letter ss)) × (length (file letter ss) ≡ 512 * (length ss / 126 + 1))
+  encode-partial h = (last-block (lettered letter) (fits letter) stepBytes length-step ss h, omega (arith, length-file))
+
+  pub encode-full : length ss % 126 ≡ 0 → (file letter ss ≡ fulls letter ss) × (length (file letter ss) ≡ 512 * (length ss / 126))
+  encode-full h = (all-full (lettered letter) (fits letter) stepBytes length-step ss h .0, omega (arith, length-file))

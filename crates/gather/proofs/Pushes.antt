@@ -3,15 +3,17 @@ use mathlib.Core.Path.{_≡_, _∙_, ap, sym, refl}
 use mathlib.Core.List.{List, [], _∷_, _++_, append-assoc, append-nil, flatMap}
 use Prim.Native.Nat.{ℕ, _+_, _*_, _/_, _%_, _<_, _≤_}
 use native.Mathlib.Omega.{arith}
-use lib.ListN.{length, take, drop, length-append, length-take, length-drop}
+use lib.ListN.{length, getD, take, drop, length-append, length-take, length-drop, List·getD-append}
+use lib.Seq.{getD-take}
 use Rattle.scope.specs.Block.{blockOf, blocksOf}
 use Rattle.codec.specs.Valid.{front, rest}
 use Rattle.rules.specs.declared.Step.{Step}
-use Rattle.rules.specs.Steps.{stepBytes, encodeSteps}
+use Rattle.rules.specs.declared.Version.{Version}
+use Rattle.rules.specs.Steps.{letterOf, stepBytes, encodeSteps}
 use Rattle.rules.proofs.Steps.{length-step}
 use Rattle.gather.specs.Kept.{bodyOf, gathered, Gathers, Space, Kept, Pushed, Closed}
 use Rattle.gather.specs.declared.Writer.{Writer}
-use Rattle.gather.proofs.Keeps.{others, body-more, one-more, fulls-same, others-more, fulls-more, others-none, behind, encode-partial, encode-full}
+use Rattle.gather.proofs.Keeps.{fulls, others, file, body-more, one-more, fulls-same, others-more, fulls-more, others-none, behind, encode-partial, encode-full}
 
 -- a step more in a block
 abbrev pub stored : List ℕ → ℕ → Step → List ℕ
@@ -20,7 +22,20 @@ stored block k s = take (4 + 4 * k) block ++ stepBytes s ++ drop (4 + 4 * k + 4)
 pub length-stored : (block : List ℕ) (k : ℕ) (s : Step) → length block ≡ 512 → k < 126 → length (stored block k s) ≡ 512
 length-stored block k s l h = simp (length-append, length-take, length-drop) (omega (arith, length-step s))
 
+-- the letter stays
+pub letter-stored : (block : List ℕ) (k : ℕ) (s : Step) → length block ≡ 512 → getD (stored block k s) 0 0 ≡ getD block 0 0
+letter-stored block k s l =
+    let m : 0 < length (take (4 + 4 * k) block) = simp length-take (omega arith) in
+    let n : 0 < 4 + 4 * k = omega arith in
+    rw append-assoc (List·getD-append (take (4 + 4 * k) block) (stepBytes s ++ drop (4 + 4 * k + 4) block) 0 0 m ∙ rw getD-take)
+
 module _ (out : List ℕ) (w : Writer) (s : Step) (r : Space 1 out w) where
+  abbrev letter : ℕ
+  letter = getD (w .block) 0 0
+
+  same-letter : (block : List ℕ) → block ≡ stored (w .block) (w .count) s → getD block 0 0 ≡ letter
+  same-letter block e = ap (λ (b : List ℕ). getD b 0 0) e ∙ letter-stored (w .block) (w .count) s (r .gathers .whole)
+
   -- the block has room left
   pub push-more : (block : List ℕ) → block ≡ stored (w .block) (w .count) s → w .count < 125
       → Pushed (s ∷ []) out w out (gathered block (w .count + 1) (w .blocks))
@@ -28,6 +43,7 @@ module _ (out : List ℕ) (w : Writer) (s : Step) (r : Space 1 out w) where
     gathers = record { few = omega arith; whole = ap length e ∙ length-stored (w .block) (w .count) s (r .gathers .whole) (r .gathers .few) };
     steps = omega arith;
     size = refl;
+    letter = same-letter block e;
     kept = λ ss d k.
         let few : length ss % 126 < 125 = omega (arith, k .count) in
         record {
@@ -37,14 +53,16 @@ module _ (out : List ℕ) (w : Writer) (s : Step) (r : Space 1 out w) where
               ap (λ (b : List ℕ). bodyOf b (w .count + 1)) e
               ∙ body-more (w .block) (stepBytes s) (w .count) (r .gathers .whole) (r .gathers .few) (length-step s)
               ∙ ap (_++ stepBytes s) (k .body)
-              ∙ sym (others-more ss s few);
-          bytes = k .bytes ∙ ap (_++ drop (512 * w .blocks) d) (sym (fulls-same ss s few));
+              ∙ sym (ap (λ (l : ℕ). others l (ss ++ s ∷ [])) (same-letter block e) ∙ others-more letter ss s few);
+          bytes =
+              k .bytes ∙ ap (_++ drop (512 * w .blocks) d)
+              (sym (ap (λ (l : ℕ). fulls l (ss ++ s ∷ [])) (same-letter block e) ∙ fulls-same letter ss s few));
         };
   }
 
   -- it is full, and written
   module _ (block out′ : List ℕ) (e : block ≡ stored (w .block) (w .count) s) (h : 125 ≤ w .count)
-      (f : out′ ≡ take (512 * w .blocks) out ++ (blockOf 68 126 (w .blocks) (bodyOf block 126) ++ drop (512 * (w .blocks + 1)) out))
+      (f : out′ ≡ take (512 * w .blocks) out ++ (blockOf (getD block 0 0) 126 (w .blocks) (bodyOf block 126) ++ drop (512 * (w .blocks + 1)) out))
       (z : length out′ ≡ length out) where
     last : w .count ≡ 125
     last = omega (arith, r .gathers .few)
@@ -54,10 +72,11 @@ module _ (out : List ℕ) (w : Writer) (s : Step) (r : Space 1 out w) where
       gathers = record { few = omega arith; whole = ap length e ∙ length-stored (w .block) (w .count) s (r .gathers .whole) (r .gathers .few) };
       steps = omega (arith, last);
       size = z;
+      letter = same-letter block e;
       kept = λ ss d k.
           let c : length ss % 126 ≡ 125 = omega (arith, k .count, last) in
           let n : w .count + 1 ≡ 126 = omega (arith, last) in
-          let body : bodyOf block 126 ≡ others ss ++ stepBytes s =
+          let body : bodyOf block 126 ≡ others letter ss ++ stepBytes s =
           ap (bodyOf block) (sym n)
           ∙ ap (λ (b : List ℕ). bodyOf b (w .count + 1)) e
           ∙ body-more (w .block) (stepBytes s) (w .count) (r .gathers .whole) (r .gathers .few) (length-step s)
@@ -65,11 +84,11 @@ module _ (out : List ℕ) (w : Writer) (s : Step) (r : Space 1 out w) where
           record {
             count = omega (arith, one-more ss s);
             blocks = omega (arith, k .blocks, one-more ss s);
-            body = sym (others-none ss s c);
+            body = sym (others-none (getD block 0 0) ss s c);
             bytes =
                 f
-                ∙ behind ss d (blockOf 68 126 (w .blocks) (bodyOf block 126)) (k .bytes) (k .blocks)
-                ∙ rw (body, k .blocks, fulls-more ss s c);
+                ∙ behind letter ss d (blockOf (getD block 0 0) 126 (w .blocks) (bodyOf block 126)) (k .bytes) (k .blocks)
+                ∙ rw (same-letter block e, body, k .blocks, fulls-more letter ss s c);
           };
     }
 
@@ -79,16 +98,16 @@ module _ (out : List ℕ) (w : Writer) where
   pub close-none : (0 < w .count → ⊥) → Closed out w out
   close-none h ss d k =
       let n : length ss % 126 ≡ 0 = omega (arith, k .count, h) in
-      let f = encode-full ss n in
+      let f = encode-full (getD (w .block) 0 0) ss n in
       k .bytes ∙ rw (f .1, ← k .blocks) (ap (_++ drop (512 * w .blocks) d) (sym (f .0)))
 
   pub close-some : (out′ : List ℕ) → 0 < w .count
-      → out′ ≡ take (512 * w .blocks) out ++ (blockOf 68 (w .count) (w .blocks) (bodyOf (w .block) (w .count)) ++ drop (512 * (w .blocks + 1)) out)
+      → out′ ≡ take (512 * w .blocks) out ++ (blockOf (getD (w .block) 0 0) (w .count) (w .blocks) (bodyOf (w .block) (w .count)) ++ drop (512 * (w .blocks + 1)) out)
       → Closed out w out′
   close-some out′ h e ss d k =
-      let f = encode-partial ss (omega (arith, k .count)) in
+      let f = encode-partial (getD (w .block) 0 0) ss (omega (arith, k .count)) in
       e
-      ∙ behind ss d (blockOf 68 (w .count) (w .blocks) (bodyOf (w .block) (w .count))) (k .bytes) (k .blocks)
+      ∙ behind (getD (w .block) 0 0) ss d (blockOf (getD (w .block) 0 0) (w .count) (w .blocks) (bodyOf (w .block) (w .count))) (k .bytes) (k .blocks)
       ∙ rw (f .1, f .0, k .body, k .count, k .blocks)
 
 -- ---- steps more fit
@@ -119,6 +138,7 @@ pushed-none out w g = record {
   gathers = g;
   steps = omega arith;
   size = refl;
+  letter = refl;
   kept = λ rs d k. rw append-nil k;
 }
 
@@ -128,10 +148,12 @@ pushed-on {ss} {ts} a b = record {
   gathers = b .gathers;
   steps = omega (arith, a .steps, b .steps, length-append ss ts);
   size = b .size ∙ a .size;
+  letter = b .letter ∙ a .letter;
   kept = λ rs d k. rw (← append-assoc rs ss ts) (b .kept (rs ++ ss) d (a .kept rs d k));
 }
 
 -- all steps pushed, and the last block written: the derivation's bytes, in front of what stood behind them
-pub written : {ss : List Step} {d block out : List ℕ} {w : Writer} {out′ : List ℕ} → Pushed ss d (gathered block 0 0) out w → Closed out w out′
-    → out′ ≡ encodeSteps ss ++ drop (length (encodeSteps ss)) d
-written {ss} {d} {block} p c = c ss d (p .kept [] d (kept-none block d))
+pub written : (v : Version) {ss : List Step} {d block out : List ℕ} {w : Writer} {out′ : List ℕ} → getD block 0 0 ≡ letterOf v
+    → Pushed ss d (gathered block 0 0) out w → Closed out w out′ → out′ ≡ encodeSteps v ss ++ drop (length (encodeSteps v ss)) d
+written v {ss} {d} {block} e p c =
+    c ss d (p .kept [] d (kept-none block d)) ∙ ap (λ (l : ℕ). file l ss ++ drop (length (file l ss)) d) (p .letter ∙ e)

@@ -5,12 +5,18 @@ use mathlib.Core.Bool.{cond}
 use mathlib.Core.List.{List, [], _∷_, _++_}
 use Prim.Native.Nat.{ℕ, zero, suc, _+_, _*_, _/_, _%_, _<_, _≤_}
 use lib.Dec.{eqb}
-use lib.ListN.{length, take, drop}
+use lib.ListN.{length, getD, take, drop}
+use Rattle.scope.specs.declared.Format.{Format}
+use Rattle.scope.specs.Block.{fileOf}
 use Rattle.codec.specs.Valid.{front, rest}
 use Rattle.rules.specs.declared.Step.{Step}
-use Rattle.rules.specs.Steps.{R, derivations, stepBytes, encodeSteps}
+use Rattle.rules.specs.Steps.{R, lettered, stepBytes}
 use Rattle.gather.specs.declared.Writer.{Writer}
 use Rattle.gather.specs.declared.At.{At}
+
+-- the format of a writer's blocks: 'Byte 0: letter'
+abbrev pub formatIn : Writer → Format
+formatIn w = lettered (getD (w .block) 0 0)
 
 -- the bytes of the steps that gather: 'Records start at byte 4', 'steps of 4 bytes'
 abbrev pub bodyOf : List ℕ → ℕ → List ℕ
@@ -56,16 +62,18 @@ pub record Space (m : ℕ) (out : List ℕ) (w : Writer) : Type 0 where
 pub record Kept (ss : List Step) (d out : List ℕ) (w : Writer) : Type 0 where
   pub count : w .count ≡ length ss % 126
   pub blocks : w .blocks ≡ length ss / 126
-  pub body : bodyOf (w .block) (w .count) ≡ rest derivations stepBytes ss
-  pub bytes : out ≡ front derivations stepBytes ss ++ drop (512 * w .blocks) d
+  pub body : bodyOf (w .block) (w .count) ≡ rest (formatIn w) stepBytes ss
+  pub bytes : out ≡ front (formatIn w) stepBytes ss ++ drop (512 * w .blocks) d
 
 -- the steps ss were pushed, whatever was pushed before
 pub record Pushed (ss : List Step) (out : List ℕ) (w : Writer) (out′ : List ℕ) (w′ : Writer) : Type 0 where
   pub gathers : Gathers w′
   pub steps : stepsIn w′ ≡ stepsIn w + length ss
   pub size : length out′ ≡ length out
+  pub letter : getD (w′ .block) 0 0 ≡ getD (w .block) 0 0
   pub kept : (rs : List Step) (d : List ℕ) → Kept rs d out w → Kept (rs ++ ss) d out′ w′
 
 -- the steps that gather are written: the buffer starts with the derivation's blocks, and 'Bytes past its last block stay'
 abbrev pub Closed : List ℕ → Writer → List ℕ → Type 0
-Closed out w out′ = (ss : List Step) (d : List ℕ) → Kept ss d out w → out′ ≡ encodeSteps ss ++ drop (length (encodeSteps ss)) d
+Closed out w out′ = (ss : List Step) (d : List ℕ) → Kept ss d out w
+    → out′ ≡ fileOf (formatIn w) stepBytes ss ++ drop (length (fileOf (formatIn w) stepBytes ss)) d

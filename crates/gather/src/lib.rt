@@ -1,14 +1,14 @@
-// Writing a derivation: steps gather in one block until it holds 126, and then the block is written.
+// Writing a derivation: steps gather in one block until it holds 126, and then the block is written, with the letter in its byte 0.
 use rules::Step;
 ghost use mathlib.Core.Path.{_≡_};
 ghost use mathlib.Core.List.{[], _∷_, _++_, map};
 ghost use Prim.Native.Nat.{_+_, _*_, _<_, _≤_};
-ghost use lib.ListN.{length, take, drop};
+ghost use lib.ListN.{length, getD, take, drop};
 ghost use Rattle.scope.specs.Block.{blockOf};
 ghost use Rattle.rules.specs.Steps.{G as name, stepBytes, step};
 ghost use Rattle.gather.specs.Kept.{bodyOf, gathered, lent, positions, removalIf, removalsAt, Space, Pushed, Closed};
 
-// The block that gathers, its steps from byte 4 on; how many steps it holds; and how many blocks are written.
+// The block that gathers, its letter in byte 0 and its steps from byte 4 on; how many steps it holds; and how many blocks are written.
 pub struct Writer {
     pub block: [u8; 512],
     pub count: usize,
@@ -36,13 +36,13 @@ fn put(block: &mut [u8; 512], k: usize, s: Step)
 // The steps that gather are written as the block of an index.
 fn flush(out: &mut [u8], block: &[u8], count: usize, index: usize)
     requires { ⌜ (length (now block) ≡ 512) × (count ≤ 126) × (index < 65536) × (512 * (index + 1) ≤ length (now out)) ⌝ }
-    ensures { λ _. ⌜ now (out .exit) ≡ take (512 * index) (now (out .entry)) ++ (blockOf 68 count index (bodyOf (now (block .entry)) count) ++ drop (512 * (index + 1)) (now (out .entry))) ⌝ }
+    ensures { λ _. ⌜ now (out .exit) ≡ take (512 * index) (now (out .entry)) ++ (blockOf (getD (now (block .entry)) 0 0) count index (bodyOf (now (block .entry)) count) ++ drop (512 * (index + 1)) (now (out .entry))) ⌝ }
 {
     let at = 512 * index;
     let end = 4 + 4 * count;
     writer::write_block(
         &mut out[at..],
-        68,
+        block[0],
         count as u8,
         index as u16,
         &block[4..end],

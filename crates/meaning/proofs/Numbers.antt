@@ -16,8 +16,9 @@ use Rattle.calculus.specs.Order.{answerOf}
 use Rattle.calculus.specs.Model.{mostGoals}
 use Rattle.calculus.specs.Decide.{nodesOf, searchOf, goalRow, goalsTest, rowsTest, asked, decided, decide}
 use Rattle.rules.specs.declared.Step.{Step}
-use Rattle.rules.specs.Steps.{derivations, stepAt, stepOk, sizeOk, formTest, decodeSteps, encodeSteps}
-use Rattle.rules.specs.Rules.{Progress, running, complete, root, isG, names, body, isEmpty, equal, agreed, namesTest, apply, advance, ended, run, accepts}
+use Rattle.rules.specs.declared.Version.{Version}
+use Rattle.rules.specs.Steps.{formatOf, derivations, versionOf, stepAt, stepOk, ruleIn, formRow, sizeOk, formTest, decodeSteps, encodeSteps}
+use Rattle.rules.specs.Rules.{Progress, running, complete, root, isG, names, body, isEmpty, equal, agreed, mayBeUnnamed, namesTest, applyIn, advance, ended, run, accepts}
 use Rattle.rules.specs.Derive.{derivationOf, isImpossible, derived, derive, checked, check}
 
 pub record Numbered {A : Type 0} (x : Outcome A) : Type 0 where
@@ -104,12 +105,12 @@ decide-numbered t goals s w =
     then (asked t goals 1024 (length s) (length w)) _ (asked-numbered t goals 1024 (length s) (length w))
     (λ rs. gives (decided rs goals s))
 
-pub derive-numbered : (t goals w d : List ℕ) → Numbered (derive t goals w d)
+pub derive-numbered : (v : Version) (t goals w d : List ℕ) → Numbered (derive v t goals w d)
 unfolding derive derived
-derive-numbered t goals w d =
+derive-numbered v t goals w d =
     then (asked t goals 0 0 (length w)) _ (asked-numbered t goals 0 0 (length w))
     (λ rs.
-    let size : ℕ = length (encodeSteps (derivationOf rs goals)) in
+    let size : ℕ = length (encodeSteps v (derivationOf v rs goals)) in
     rowed (isImpossible (answerOf (searchOf rs goals))) 30 0 _ (omega arith)
     (rowed (leb size (length d)) 31 0 _ (omega arith) (rowed (leb size 33554432) 31 0 _ (omega arith) (gives _))))
 
@@ -118,31 +119,32 @@ unfolding decodeSteps formTest
 form-numbered d =
     also (formTest d) _
     (rowed (sizeOk (length d)) 40 0 _ (omega arith)
-    (also (first (λ j. blockTest derivations (blockAt d j) j (eqb (suc j) (length d / 512))) 0 (length d / 512)) _
-    (each _ (λ j. block-numbered derivations (blockAt d j) j (eqb (suc j) (length d / 512)) (omega arith)) (length d / 512) 0)
-    (each (λ k. require (stepOk (stepAt d k)) 44 k) (λ k. row (stepOk (stepAt d k)) 44 k (omega arith)) (recordsIn derivations d) 0)))
+    (also (first (λ j. blockTest (formatOf (versionOf d)) (blockAt d j) j (eqb (suc j) (length d / 512))) 0 (length d / 512)) _
+    (each _ (λ j. block-numbered (formatOf (versionOf d)) (blockAt d j) j (eqb (suc j) (length d / 512)) (omega arith)) (length d / 512) 0)
+    (each (λ k. formRow (versionOf d) (stepAt d k) k)
+    (λ k. rowed (stepOk (stepAt d k)) 44 k _ (omega arith) (row (ruleIn (versionOf d) (stepAt d k .rule)) 65 k (omega arith))) (recordsIn derivations d) 0)))
     (gives _)
 
-run-numbered : (e : ℕ → List (List ℕ)) (goals : List ℕ) (n i : ℕ) (ss : List Step) (p : Progress) → Numbered (run e goals n i ss p)
+run-numbered : (v : Version) (e : ℕ → List (List ℕ)) (goals : List ℕ) (n i : ℕ) (ss : List Step) (p : Progress) → Numbered (run v e goals n i ss p)
 unfolding run ended advance
-run-numbered e goals n i [] complete = gives tt
-run-numbered e goals n i [] (running b waiting) = refuses 47 i (omega arith)
-run-numbered e goals n i (s ∷ ss) complete = refuses 46 i (omega arith)
-run-numbered e goals n i (s ∷ ss) (running b waiting) = go (apply e goals n s b waiting) refl (run-numbered e goals n (suc i) ss)
+run-numbered v e goals n i [] complete = gives tt
+run-numbered v e goals n i [] (running b waiting) = refuses 47 i (omega arith)
+run-numbered v e goals n i (s ∷ ss) complete = refuses 46 i (omega arith)
+run-numbered v e goals n i (s ∷ ss) (running b waiting) = go (applyIn e goals n v s b waiting) refl (run-numbered v e goals n (suc i) ss)
   where
-    go : (o : Outcome Progress) → apply e goals n s b waiting ≡ o → ((p : Progress) → Numbered (run e goals n (suc i) ss p))
-        → Numbered (run e goals n i (s ∷ ss) (running b waiting))
+    go : (o : Outcome Progress) → applyIn e goals n v s b waiting ≡ o → ((p : Progress) → Numbered (run v e goals n (suc i) ss p))
+        → Numbered (run v e goals n i (s ∷ ss) (running b waiting))
     go (answer p) q r = by-test (isG s) (λ t. rw t (refuses 64 i (omega arith))) (λ t. rw (t, q) (r p))
     go (refused number place) q r = by-test (isG s) (λ t. rw t (refuses 64 i (omega arith))) (λ t. rw (t, q) (refuses 45 i (omega arith)))
 
-accepts-numbered : (e : ℕ → List (List ℕ)) (goals : List ℕ) (n : ℕ) (ss : List Step) → Numbered (accepts e goals n ss)
+accepts-numbered : (v : Version) (e : ℕ → List (List ℕ)) (goals : List ℕ) (n : ℕ) (ss : List Step) → Numbered (accepts v e goals n ss)
 unfolding accepts namesTest
-accepts-numbered e goals n ss =
-    rowed (isEmpty (names ss) || equal (names ss) goals) 64 (agreed (names ss) goals) _ (omega arith)
-    (run-numbered e goals n (length (names ss)) (body ss) (running root []))
+accepts-numbered v e goals n ss =
+    rowed ((mayBeUnnamed v && isEmpty (names ss)) || equal (names ss) goals) 64 (agreed (names ss) goals) _ (omega arith)
+    (run-numbered v e goals n (length (names ss)) (body ss) (running root []))
 
 pub check-numbered : (t goals w d : List ℕ) → Numbered (check t goals w d)
 unfolding check checked
 check-numbered t goals w d =
     then (asked t goals 0 0 (length w)) _ (asked-numbered t goals 0 0 (length w))
-    (λ rs. then (decodeSteps d) _ (form-numbered d) (λ ss. accepts-numbered (expand (nodesOf rs)) goals (length rs) ss))
+    (λ rs. then (decodeSteps d) _ (form-numbered d) (λ ss. accepts-numbered (versionOf d) (expand (nodesOf rs)) goals (length rs) ss))

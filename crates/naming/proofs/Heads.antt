@@ -1,21 +1,24 @@
 -- The goals that a derivation names, a step at a time: how far they are the caller's, and whether they are. Assumes nothing.
 use mathlib.Core.Path.{_≡_, refl, sym, ap, ap₂, _∙_}
+use mathlib.Core.Logic.{_⊎_, inl, inr}
 use mathlib.Core.List.{List, [], _∷_}
-use mathlib.Core.Bool.{Bool, true, false, cond, _&&_, _||_, false≢true}
+use mathlib.Core.Bool.{Bool, true, false, cond, _&&_, _||_, and-false, false≢true}
 use Prim.Native.Nat.{ℕ, zero, suc, _+_, _-_, _<_, _≤_}
 use native.Mathlib.Omega.{arith}
 use native.Mathlib.Numerals.{add-one}
 use lib.Dec.{eqb, ltb}
 use lib.ListN.{length, getD, drop, drop-of-length-le}
 use lib.Seq.{drop-cons}
-use borrow.Author.Tests.{lt-ltb, le-ltb, ltb-true, ltb-false, eq-eqb, ne-eqb}
+use borrow.Author.Tests.{lt-ltb, le-ltb, ltb-true, ltb-false, eq-eqb, ne-eqb, eqb-true, eqb-false}
 use Rattle.scope.specs.Outcome.{answer, refused, require, _>>_}
 use Rattle.scope.specs.Table.{listFrom}
 use Rattle.scope.proofs.Tests.{by-test, and-left, and-right}
 use Rattle.scope.proofs.Lists.{listFrom-turn, listFrom-done}
 use Rattle.rules.specs.declared.Step.{Step}
-use Rattle.rules.specs.Rules.{isG, names, body, isEmpty, equal, agreed, namesTest}
-use Rattle.naming.specs.Named.{headOf}
+use Rattle.rules.specs.declared.Version.{Version}
+use Rattle.rules.specs.declared.Version.the-variants.{One, Two}
+use Rattle.rules.specs.Rules.{isG, names, body, isEmpty, equal, agreed, mayBeUnnamed, namesTest}
+use Rattle.naming.specs.Named.{headOf, missingOf}
 
 -- ---- two lists of literals
 
@@ -54,46 +57,63 @@ equal-length (l ∷ ls) (g ∷ goals) e =
 
 -- ---- row 64 of a head
 
-module _ (goals ls : List ℕ) where
-  wrong : (isEmpty ls ≡ false) → (equal ls goals ≡ true → ⊥) → headOf goals ls ≡ refused 64 (agreed ls goals)
+module _ (v : Version) (goals ls : List ℕ) where
+  wrong : ((mayBeUnnamed v && isEmpty ls) ≡ false) → (equal ls goals ≡ true → ⊥) → headOf v goals ls ≡ refused 64 (agreed ls goals)
   unfolding namesTest
   wrong s n = by-test (equal ls goals) (λ e. absurd (n e)) (λ e. rw (s, e))
 
-  some : (k : ℕ) → k < length ls → isEmpty ls ≡ false
-  some k h = go ls h
+  some : (k : ℕ) → k < length ls → (mayBeUnnamed v && isEmpty ls) ≡ false
+  some k h = rw (go ls h) (and-false (mayBeUnnamed v))
     where
       go : (ls : List ℕ) → k < length ls → isEmpty ls ≡ false
       go [] h = absurd (omega arith)
       go (l ∷ ls) h = refl
 
   -- more is named than agrees
-  pub head-wrong : agreed ls goals < length ls → headOf goals ls ≡ refused 64 (agreed ls goals)
+  pub head-wrong : agreed ls goals < length ls → headOf v goals ls ≡ refused 64 (agreed ls goals)
   head-wrong h = wrong (some (agreed ls goals) h) (λ e. omega (arith, equal-length ls goals e))
 
   -- all that is named agrees, and a goal is missing
-  pub head-missing : length ls ≤ agreed ls goals → 0 < agreed ls goals → agreed ls goals < length goals → headOf goals ls ≡ refused 64 (agreed ls goals)
-  head-missing h p q = wrong (some 0 (omega (arith, agreed-within ls goals))) (λ e. omega (arith, equal-length ls goals e))
-
-  -- nothing is named
-  pub head-none : length ls ≤ agreed ls goals → agreed ls goals ≡ 0 → headOf goals ls ≡ answer 0
-  unfolding namesTest
-  head-none h z = go ls (omega arith)
+  pub head-missing : length ls ≤ agreed ls goals → (0 < agreed ls goals) ⊎ (mayBeUnnamed v ≡ false) → agreed ls goals < length goals
+      → headOf v goals ls ≡ refused 64 (agreed ls goals)
+  head-missing h p q = wrong (go p) (λ e. omega (arith, equal-length ls goals e))
     where
-      go : (ls : List ℕ) → length ls ≤ 0 → headOf goals ls ≡ answer 0
-      go [] h = refl
+      go : (0 < agreed ls goals) ⊎ (mayBeUnnamed v ≡ false) → (mayBeUnnamed v && isEmpty ls) ≡ false
+      go (inl z) = some 0 (omega (arith, agreed-within ls goals))
+      go (inr z) = rw z
+
+  -- nothing is named, and need not be
+  pub head-none : length ls ≤ agreed ls goals → agreed ls goals ≡ 0 → mayBeUnnamed v ≡ true → headOf v goals ls ≡ answer 0
+  unfolding namesTest
+  head-none h z m = go ls (omega arith)
+    where
+      go : (ls : List ℕ) → length ls ≤ 0 → headOf v goals ls ≡ answer 0
+      go [] h = rw m
       go (l ∷ ls) h = absurd (omega arith)
 
   -- all goals are named
-  pub head-whole : length ls ≤ agreed ls goals → length goals ≤ agreed ls goals → headOf goals ls ≡ answer (agreed ls goals)
+  pub head-whole : length ls ≤ agreed ls goals → length goals ≤ agreed ls goals → headOf v goals ls ≡ answer (agreed ls goals)
   unfolding namesTest
   head-whole h q =
       let w = agreed-within ls goals in
       let e : agreed ls goals ≡ length ls = omega arith in
-      rw (equal-agreed ls goals e (omega arith)) (go (isEmpty ls) ∙ ap answer (sym e))
+      rw (equal-agreed ls goals e (omega arith)) (go (mayBeUnnamed v && isEmpty ls) ∙ ap answer (sym e))
     where
       go : (t : Bool) → (require (t || true) 64 (agreed ls goals) >> answer (length ls)) ≡ answer (length ls)
       go true = refl
       go false = refl
+
+-- ---- what `missing` says
+
+pub missing-some : (v : Version) (i : ℕ) → (i ≡ 0 → ⊥) → refused 64 i ≡ missingOf v i
+missing-some v i n = rw (ne-eqb i 0 n, and-false (mayBeUnnamed v))
+
+module _ (i : ℕ) (z : i ≡ 0) {v : Version} where
+  pub missing-one : v ≡ One → answer 0 ≡ missingOf v i
+  missing-one e = rw (e, eq-eqb i 0 z)
+
+  pub missing-two : v ≡ Two → refused 64 0 ≡ missingOf v i
+  missing-two e = rw (e, z)
 
 -- ---- the steps at the head
 
@@ -196,7 +216,7 @@ agreed-start f goals count =
 
 -- ---- row 64 by what the loop found: where the names stop to agree, and whether that step names a goal
 
-module _ (f : ℕ → Step) (goals : List ℕ) (count i : ℕ) (e : i ≡ agreed (names (listFrom f 0 count)) goals) where
+module _ (v : Version) (f : ℕ → Step) (goals : List ℕ) (count i : ℕ) (e : i ≡ agreed (names (listFrom f 0 count)) goals) where
   abbrev ls : List ℕ
   ls = names (listFrom f 0 count)
 
@@ -205,18 +225,23 @@ module _ (f : ℕ → Step) (goals : List ℕ) (count i : ℕ) (e : i ≡ agreed
       let z : 0 + i ≡ i = omega arith in
       ap (λ (k : ℕ). ltb i count && isG (f k)) (sym z) ∙ name-test f count 0 i (omega (arith, agreed-within ls goals))
 
-  pub at-more : (ltb i count && isG (f i)) ≡ true → refused 64 i ≡ headOf goals ls
-  at-more t = ap (refused 64) e ∙ sym (head-wrong goals ls (omega (arith, ltb-true i (length ls) (sym more ∙ t))))
+  pub at-more : (ltb i count && isG (f i)) ≡ true → refused 64 i ≡ headOf v goals ls
+  at-more t = ap (refused 64) e ∙ sym (head-wrong v goals ls (omega (arith, ltb-true i (length ls) (sym more ∙ t))))
 
   module _ (t : (ltb i count && isG (f i)) ≡ false) where
     whole : length ls ≤ agreed ls goals
     whole = omega (arith, ltb-false i (length ls) (sym more ∙ t))
 
-    pub at-none : i ≡ 0 → answer 0 ≡ headOf goals ls
-    at-none z = sym (head-none goals ls whole (sym e ∙ z))
+    pub at-missing : i < length goals → missingOf v i ≡ headOf v goals ls
+    at-missing h =
+        by-test (mayBeUnnamed v && eqb i 0)
+        (λ q. rw q
+        (sym (head-none v goals ls whole (sym e ∙ eqb-true i 0 (and-right (mayBeUnnamed v) (eqb i 0) q)) (and-left (mayBeUnnamed v) (eqb i 0) q))))
+        (λ q. rw q (ap (refused 64) e ∙ sym (head-missing v goals ls whole (go (mayBeUnnamed v) refl q) (omega arith))))
+      where
+        go : (t : Bool) → mayBeUnnamed v ≡ t → (t && eqb i 0) ≡ false → (0 < agreed ls goals) ⊎ (mayBeUnnamed v ≡ false)
+        go true m q = inl (omega (arith, eqb-false i 0 q))
+        go false m q = inr m
 
-    pub at-missing : (i ≡ 0 → ⊥) → i < length goals → refused 64 i ≡ headOf goals ls
-    at-missing n h = ap (refused 64) e ∙ sym (head-missing goals ls whole (omega arith) (omega arith))
-
-    pub at-whole : length goals ≤ i → answer i ≡ headOf goals ls
-    at-whole h = ap answer e ∙ sym (head-whole goals ls whole (omega arith))
+    pub at-whole : length goals ≤ i → answer i ≡ headOf v goals ls
+    at-whole h = ap answer e ∙ sym (head-whole v goals ls whole (omega arith))

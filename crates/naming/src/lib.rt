@@ -1,4 +1,5 @@
 // The goals that a derivation names: row 64 at its head, before its other steps are tried.
+use rules::Version;
 use scope::Refusal;
 ghost use mathlib.Core.Path.{_≡_};
 ghost use mathlib.Core.Bool.{_&&_};
@@ -9,7 +10,7 @@ ghost use Rattle.scope.specs.Outcome.{refused};
 ghost use Rattle.rules.specs.Steps.{stepAt};
 ghost use Rattle.rules.specs.Rules.{isG, agreed};
 ghost use Rattle.steps.specs.Opened.{placeOf};
-ghost use Rattle.naming.specs.Named.{namedOf, namesOf, headOf};
+ghost use Rattle.naming.specs.Named.{namedOf, namesOf, headOf, missingOf};
 
 // How many goals a derivation names, or its refusal.
 pub enum Named {
@@ -59,20 +60,30 @@ fn refusal(i: usize) -> Named
     Named::Refused(r)
 }
 
-// Row 64 of the head: where the derivation names goals, they are the caller's.
-pub fn head(goals: &[u16], d: &[u8], count: usize) -> Named
+// Row 64 where not all goals are named, i of them are: unless none is, and none need be.
+fn missing(version: Version, i: usize) -> Named
+    ensures { λ r. ⌜ namedOf r ≡ missingOf version i ⌝ }
+{
+    if i != 0 {
+        return refusal(i);
+    }
+    match version {
+        Version::One => Named::Goals(0),
+        Version::Two => refusal(0),
+    }
+}
+
+// Row 64 of the head: where the derivation names goals, or must, they are the caller's.
+pub fn head(version: Version, goals: &[u16], d: &[u8], count: usize) -> Named
     requires { ⌜ ((k : ℕ) → k < count → placeOf k + 4 ≤ length (now d)) ⌝ }
-    ensures { λ r. ⌜ namedOf r ≡ headOf (now (goals .entry)) (namesOf (now (d .entry)) 0 count) ⌝ }
+    ensures { λ r. ⌜ namedOf r ≡ headOf version (now (goals .entry)) (namesOf (now (d .entry)) 0 count) ⌝ }
 {
     let i = shared(goals, d, count);
     if is_name(d, i, count) {
         return refusal(i);
     }
-    if i == 0 {
-        return Named::Goals(0);
-    }
     if i < goals.len() {
-        return refusal(i);
+        return missing(version, i);
     }
     Named::Goals(i)
 }

@@ -1,8 +1,7 @@
--- Accepted steps are a derivation of the published calculus, rule for rule. Assumes nothing.
+-- Steps of version one that run to their end are a derivation of the published calculus, rule for rule. Assumes nothing.
 use mathlib.Core.Path.{_≡_, refl, sym, ap, _∙_, subst}
 use mathlib.Core.List.{List, [], _∷_, _++_, map, append-assoc, append-nil}
 use Prim.Native.Nat.{ℕ, suc}
-use lib.ListN.{length}
 use Rattle.scope.specs.Outcome.{fine}
 use Rattle.scope.proofs.Tests.{refused-no}
 use Rattle.calculus.specs.Expansion.{neg}
@@ -10,9 +9,9 @@ use Rattle.calculus.specs.Order.{mem, clauses}
 use Rattle.calculus.specs.Model.{All}
 use Rattle.calculus.proofs.Lists.{all-append}
 use Rattle.rules.specs.declared.Step.{Step}
-use Rattle.rules.specs.Rules.{Branch, root, Progress, running, complete, names, body, advance, ended, run, accepts}
+use Rattle.rules.specs.declared.Version.the-variants.{One}
+use Rattle.rules.specs.Rules.{Branch, root, Progress, running, complete, advance, ended, run}
 use Rattle.rules.proofs.Laws.{run-step}
-use Rattle.rules.proofs.Names.{accepted-runs}
 use Rattle.published.specs.Published.{Sequent, _⊢_, Derivation, by, Derivations, none, more, rulesOf, rulesIn}
 use Rattle.published.specs.Reading.{sequentOf, Within, openOf, ruleOf, Published}
 use Rattle.published.proofs.Standing.{standing-root}
@@ -58,14 +57,14 @@ module _ (ex : ℕ → List (List ℕ)) (goals : List ℕ) (nodes : ℕ) where
           subst (λ (ys : List (Sequent ℕ)). (ds : Derivations neg ex ys) → rulesIn ds ≡ map ruleOf ss → Derived (b ∷ waiting) (s ∷ ss)) (sym e) joins
 
   -- steps that complete a derivation under way derive all its open branches
-  run-derives : (ss : List Step) (i : ℕ) (p : Progress) → All (Within ex goals) (openOf p) → run ex goals nodes i ss p ≡ fine
+  run-derives : (ss : List Step) (i : ℕ) (p : Progress) → All (Within ex goals) (openOf p) → run One ex goals nodes i ss p ≡ fine
       → Derived (openOf p) ss
   unfolding run ended advance rulesOf
   run-derives [] i (running b waiting) a e = refused-no e
   run-derives [] i complete a e = (none, refl)
   run-derives (s ∷ ss) i complete a e = refused-no e
   run-derives (s ∷ ss) i (running b waiting) a e =
-      let x = run-step ex goals nodes i s ss b waiting e in
+      let x = run-step One ex goals nodes i s ss b waiting e in
       let f = step-fires ex goals nodes b waiting (a .0) s (x .0) (x .1) in
       let w : All (Within ex goals) (openOf (x .0)) =
       subst (λ (bs : List Branch). All (Within ex goals) bs) (sym (f .after)) (all-append (Within ex goals) (f .news) waiting (f .within) (a .1)) in
@@ -76,16 +75,13 @@ module _ (ex : ℕ → List (List ℕ)) (goals : List ℕ) (nodes : ℕ) where
   unfolding mem
   root-within = (tt, tt, λ l q. refl)
 
-  -- accepted steps are a derivation, after those that name goals
-  pub accepted-derives : (ss : List Step) → accepts ex goals nodes ss ≡ fine → Published ex goals (body ss)
+  -- steps of version one that complete a derivation are one
+  pub run-derivation : (ss : List Step) (i : ℕ) → run One ex goals nodes i ss (running root []) ≡ fine → Published One ex goals ss
   unfolding rulesOf clauses
-  accepted-derives all e =
-      let r : Derived (root ∷ []) ss = run-derives ss (length (names all)) (running root []) (root-within, tt) (accepted-runs ex goals nodes all e) in
+  run-derivation ss i e =
+      let r : Derived (root ∷ []) ss = run-derives ss i (running root []) (root-within, tt) e in
       start (r .0) (r .1)
     where
-      ss : List Step
-      ss = body all
-
       single : (ds : Derivations neg ex (([] ⊢ map (_∷ []) goals) ∷ [])) → rulesIn ds ≡ map ruleOf ss
           → (d : Derivation neg ex ([] ⊢ map (_∷ []) goals)) × (rulesOf d ≡ map ruleOf ss)
       single (more d none) q = (d, sym (append-nil (rulesOf d)) ∙ q)

@@ -5,4 +5,5 @@ pub mod Steps
 pub mod Derivations
 pub mod Answered
 pub mod Moves
+pub mod Versions
 pub mod Calls

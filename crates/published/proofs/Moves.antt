@@ -198,13 +198,13 @@ module _ (ex : ℕ → List (List ℕ)) (goals : List ℕ) where
         (reduced-append (l ∷ G) Δ (ex l) ∙ ap (_++ reduced (l ∷ G) (ex l)) e ∙ sym (reduced-append (l ∷ G) (clauses ex goals G) (ex l)))
         (propagates ex (l ∷ G) (Δ ++ ex l))
 
-    follows-conflict : (k : ℕ) → ClauseIs ex goals G k empty → Follows ex goals (Conflict k) G
+    pub follows-conflict : (k : ℕ) → ClauseIs ex goals G k empty → Follows ex goals (Conflict k) G
     follows-conflict k q =
         let s = says-clause k empty q in
         let x = found G (clauses ex goals G) k (q .0) (s .0) in
         conflict-rule (rw (s .1) at (x .1))
 
-    follows-unit : (k l : ℕ) → ClauseIs ex goals G k (one l) → Follows ex goals (Single k l) G
+    pub follows-unit : (k l : ℕ) → ClauseIs ex goals G k (one l) → Follows ex goals (Single k l) G
     follows-unit k l q =
         let s = says-clause k (one l) q in
         let x = found G (clauses ex goals G) k (q .0) (s .0) in
@@ -217,7 +217,7 @@ module _ (ex : ℕ → List (List ℕ)) (goals : List ℕ) where
         joined-holds : anyHolds (l ∷ G) (l ∷ []) ≡ true
         joined-holds = unfold anyHolds in rw (value-joined G l)
 
-    follows-split : (l : ℕ) → valueOf G l ≡ undecided → Follows ex goals (Split l) G
+    pub follows-split : (l : ℕ) → valueOf G l ≡ undecided → Follows ex goals (Split l) G
     follows-split l u = (
       l ∷ G ⊢ reduced G (clauses ex goals G) ++ ex l,
       neg l ∷ G ⊢ reduced G (clauses ex goals G) ++ ex (neg l),
@@ -240,7 +240,7 @@ module _ (ex : ℕ → List (List ℕ)) (goals : List ℕ) where
 
 -- ---- the search
 
-pub propagated : {ex : ℕ → List (List ℕ)} {s t : Sequent ℕ} → Propagates neg ex s t → Derivation neg ex t → Derivation neg ex s
+unfoldable pub propagated : {ex : ℕ → List (List ℕ)} {s t : Sequent ℕ} → Propagates neg ex s t → Derivation neg ex t → Derivation neg ex s
 propagated stop d = d
 propagated (red i p) d = by RED i (more (propagated p d) none)
 propagated (eliminate i p) d = by ELIM i (more (propagated p d) none)

@@ -9,7 +9,7 @@ use Rattle.scope.specs.Table.{decode}
 use Rattle.calculus.specs.Expansion.{expand}
 use Rattle.calculus.specs.Decide.{nodesOf}
 use Rattle.rules.specs.declared.Step.{Step}
-use Rattle.rules.specs.Steps.{decodeSteps}
+use Rattle.rules.specs.Steps.{versionOf, decodeSteps}
 use Rattle.rules.specs.Rules.{body}
 use Rattle.published.specs.Reading.{Published}
 
@@ -20,4 +20,4 @@ pub record PublishedBytes (t goals d : List ℕ) : Type 0 where
   pub steps : List Step
   pub table : decode t ≡ answer nodes
   pub read : decodeSteps d ≡ answer steps
-  pub derivation : Published (expand (nodesOf nodes)) goals (body steps)
+  pub derivation : Published (versionOf d) (expand (nodesOf nodes)) goals (body steps)

@@ -9,6 +9,7 @@ use Rattle.scope.specs.Outcome.{Outcome, answer, refused}
 use Rattle.calculus.specs.Expansion.{chosen, templates, expand}
 use Rattle.calculus.specs.Order.{mem, valueOf, clauses}
 use Rattle.rules.specs.declared.Step.{Step}
+use Rattle.rules.specs.declared.Version.the-variants.{One}
 use Rattle.rules.specs.Steps.{U, R, C}
 use Rattle.rules.specs.Rules.{root, Progress, running, among, unstruck, anyHolds, ruleU, ruleR, ruleE, ruleC, ruleS, apply, advance}
 use Rattle.published.specs.Published.{Sequent, _⊢_, UNIT, RED, CONFLICT}
@@ -28,7 +29,7 @@ clausesA = expand (λ n. getD tableA n noNode)
 -- the sequents of the open branches before each of the steps, and after the last
 trace : List Step → Progress → List (List (Sequent ℕ))
 trace [] p = map (sequentOf clausesA (14 ∷ [])) (openOf p) ∷ []
-trace (s ∷ ss) p = map (sequentOf clausesA (14 ∷ [])) (openOf p) ∷ next (advance clausesA (14 ∷ []) 10 0 s p) (trace ss)
+trace (s ∷ ss) p = map (sequentOf clausesA (14 ∷ [])) (openOf p) ∷ next (advance One clausesA (14 ∷ []) 10 0 s p) (trace ss)
   where
     next : Outcome Progress → (Progress → List (List (Sequent ℕ))) → List (List (Sequent ℕ))
     next (answer q) go = go q

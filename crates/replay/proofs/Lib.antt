@@ -2,4 +2,5 @@
 pub mod Told
 pub mod Ruled
 pub mod Rules
+pub mod Two
 pub mod Runs

@@ -8,17 +8,20 @@ use native.Mathlib.Nat.{zero-add}
 use native.Mathlib.Decide.{decLt}
 use lib.Dec.{eqb, ltb}
 use lib.ListN.{length, getD}
+use lib.Seq.{ext-getD}
 use borrow.Author.Tests.{lt-ltb, le-ltb, ltb-true}
 use Rattle.scope.specs.declared.Node.{Node}
+use Rattle.scope.proofs.Lists.{length-listFrom, getD-listFrom}
 use Rattle.scope.proofs.Tests.{and-left, and-right}
 use Rattle.calculus.specs.Expansion.{expand}
-use Rattle.calculus.specs.Order.{Value, holds, fails, undecided, valueOf, mem}
+use Rattle.calculus.specs.Order.{Value, holds, fails, undecided, valueOf, mem, stateOf}
 use Rattle.calculus.specs.Model.{All, Table, Fresh}
 use Rattle.calculus.proofs.Lists.{all-append, all-at}
 use Rattle.calculus.proofs.Fresh.{clauses-below}
-use Rattle.rules.specs.Rules.{among, isFails, isUndecided, Branch, anyHolds, clauseAt, stands, left}
+use Rattle.rules.specs.Rules.{among, isFails, isUndecided, Branch, anyHolds, clauseAt, stands, left, inList}
 use Rattle.area.specs.Area.{areaSize, mostNodes, mostClauses, mostSlots, clauseCount, depth, newest, baseAt, slotAt, strikeAt, lengthAt, trailAt, gOf, valueCode, Trail, Ranged, wholeIn, standsIn, freeFrom, freeIn, trueFrom}
 use Rattle.area.proofs.Strikes.{head-most}
+use Rattle.seen.specs.Seen.{literalsFrom, stateIn}
 use Rattle.branch.specs.Clauses.{flat, offset}
 use Rattle.branch.specs.Holds.{clausesIn, slotOf, History, branchOf, clausesOf, Holds, Held}
 use Rattle.branch.proofs.Offsets.{offset-most, flat-at}
@@ -118,6 +121,38 @@ module _ (t : ℕ → Node) (n : ℕ) (w : List ℕ) where
             let q : ltb k (clauseCount w) ≡ false = le-ltb k (clauseCount w) (omega (arith, i)) in
             ap (_&& not (mem k (clausesIn (s .strikes)))) p ∙ sym (e ∙ ap (_&& not (wholeIn w (baseAt w k) (lengthAt w k))) q)
 
+    -- a clause in the list
+    pub listed-told : {r : Bool} → r ≡ ltb k (clauseCount w) → Told (λ goals b. inList (expand t) goals n b k) r
+    listed-told {r} e goals s h = ap (ltb k) (sym (h .base .listed .count)) ∙ sym e
+
+    module _ (num : k < clauseCount w) where
+      module _ (goals : List ℕ) (s : History) (h : Holds t n goals w s) where
+        in-clauses : k < length (clausesOf t goals w)
+        in-clauses = omega (arith, num, h .base .listed .count)
+
+        clause-length : length (clauseAt (expand t) goals n (branchOf w s) k) ≡ lengthAt w k
+        clause-length = sym (length-is t n goals w few (h .base) k in-clauses)
+
+        -- its literal at a position
+        clause-literal : (p : ℕ) → p < lengthAt w k → getD (clauseAt (expand t) goals n (branchOf w s) k) p 0 ≡ slotAt w (baseAt w k + p)
+        clause-literal p b =
+            let low : p < length (getD (clausesOf t goals w) k []) = omega (arith, b, length-is t n goals w few (h .base) k in-clauses) in
+            sym (ap (λ (x : ℕ). slotAt w (x + p)) (base-is t n goals w few (h .base) k in-clauses)
+            ∙ h .base .listed .slots (offset (clausesOf t goals w) k + p) (slot-below (clausesOf t goals w) k p in-clauses low)
+            ∙ flat-at (clausesOf t goals w) k p in-clauses low)
+
+      -- its literals, and what it is under G
+      clause-told : Told (λ goals b. clauseAt (expand t) goals n b k) (literalsFrom w (baseAt w k) (lengthAt w k))
+      clause-told goals s h =
+          ext-getD 0 (clauseAt (expand t) goals n (branchOf w s) k) (literalsFrom w (baseAt w k) (lengthAt w k))
+          (clause-length goals s h ∙ sym (length-listFrom (slotAt w) (lengthAt w k) (baseAt w k)))
+          (λ i b.
+          let c : i < lengthAt w k = omega (arith, b, clause-length goals s h) in
+          clause-literal goals s h i c ∙ sym (getD-listFrom (slotAt w) (lengthAt w k) (baseAt w k) i 0 c))
+
+      pub state-told : Told (λ goals b. stateOf (b .G) (clauseAt (expand t) goals n b k)) (stateIn w k)
+      state-told goals s h = ap (stateOf (gOf w)) (clause-told goals s h)
+
     -- a clause that stands
     module _ (st : standsIn w k ≡ true) where
       pub number-of : k < clauseCount w
@@ -129,10 +164,10 @@ module _ (t : ℕ → Node) (n : ℕ) (w : List ℕ) where
 
       module _ (goals : List ℕ) (s : History) (h : Holds t n goals w s) where
         pub inside : k < length (clausesOf t goals w)
-        inside = omega (arith, number-of, h .base .listed .count)
+        inside = in-clauses number-of goals s h
 
         pub length-told : length (clauseAt (expand t) goals n (branchOf w s) k) ≡ lengthAt w k
-        length-told = sym (length-is t n goals w few (h .base) k inside)
+        length-told = clause-length number-of goals s h
 
         upright : wholeIn w (offset (clausesOf t goals w) k) (length (getD (clausesOf t goals w) k [])) ≡ false
         upright =
@@ -146,10 +181,7 @@ module _ (t : ℕ → Node) (n : ℕ) (w : List ℕ) where
           low = omega (arith, b, length-is t n goals w few (h .base) k inside)
 
           pub literal-told : getD (clauseAt (expand t) goals n (branchOf w s) k) p 0 ≡ slotAt w (baseAt w k + p)
-          literal-told =
-              sym (ap (λ (x : ℕ). slotAt w (x + p)) (base-is t n goals w few (h .base) k inside)
-              ∙ h .base .listed .slots (offset (clausesOf t goals w) k + p) (slot-below (clausesOf t goals w) k p inside low)
-              ∙ flat-at (clausesOf t goals w) k p inside low)
+          literal-told = clause-literal number-of goals s h p b
 
           pub among-told : among (record { clause = k; position = p }) (branchOf w s .struckLiterals) ≡ not (eqb (strikeAt w (baseAt w k + p)) 0)
           among-told =

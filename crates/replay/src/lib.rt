@@ -1,7 +1,9 @@
 // The derivation checker's rules, one step at a time, and the run of a whole derivation. It shares no code with the solver.
 use rules::Step;
+use rules::Version;
 use scope::Refusal;
 use scope::Verdict;
+use seen::Seen;
 ghost use mathlib.Core.Path.{_≡_};
 ghost use mathlib.Core.Bool.{cond};
 ghost use mathlib.Core.List.{[]};
@@ -10,7 +12,7 @@ ghost use lib.Dec.{ltb};
 ghost use lib.ListN.{length};
 ghost use Rattle.calculus.specs.Expansion.{expand};
 ghost use Rattle.index.specs.Index.{indexNode};
-ghost use Rattle.rules.specs.Rules.{ruleU, ruleR, ruleE, ruleC, ruleS, turn, apply, run, running, root};
+ghost use Rattle.rules.specs.Rules.{ruleU, ruleR, ruleE, ruleC, ruleS, unitTwo, conflictTwo, turn, apply, applyTwo, applyIn, run, running, root};
 ghost use Rattle.rules.specs.Steps.{stepAt};
 ghost use Rattle.steps.specs.Opened.{placeOf};
 ghost use Rattle.scope.specs.Table.{listFrom};
@@ -137,8 +139,66 @@ fn rule_s(x: &[u16], n: usize, work: &mut [u16], l: u16) -> Status
     Status::Running
 }
 
-// The rule of a step's letter.
-pub fn apply_step(x: &[u16], n: usize, work: &mut [u16], step: Step) -> Status
+// U of version two: the one literal of clause k that is not false, and is undecided, joins.
+fn unit_two(x: &[u16], n: usize, work: &mut [u16], k: usize) -> Status
+    requires { ⌜ Indexed (now x) n ⌝ }
+    requires { ⌜ Held (indexNode (now x)) n (now work) ⌝ }
+    ensures { λ r. ⌜ Ruled (indexNode (now (x .entry))) n (λ goals. unitTwo (expand (indexNode (now (x .entry)))) goals n k) (now (work .entry)) (now (work .exit)) r ⌝ }
+{
+    if work[0] as usize <= k {
+        return Status::Failed;
+    }
+    let state = seen::clause_state(work, n, k);
+    match state {
+        Seen::Met => Status::Failed,
+        Seen::Empty => Status::Failed,
+        Seen::One(l) => {
+            branch::push(x, n, work, l);
+            Status::Running
+        }
+        Seen::Many(_) => Status::Failed,
+    }
+}
+
+// C of version two: all literals of clause k are false.
+fn conflict_two(x: &[u16], n: usize, work: &mut [u16], k: usize) -> Status
+    requires { ⌜ Indexed (now x) n ⌝ }
+    requires { ⌜ Held (indexNode (now x)) n (now work) ⌝ }
+    ensures { λ r. ⌜ Ruled (indexNode (now (x .entry))) n (λ goals. conflictTwo (expand (indexNode (now (x .entry)))) goals n k) (now (work .entry)) (now (work .exit)) r ⌝ }
+{
+    if work[0] as usize <= k {
+        return Status::Failed;
+    }
+    let state = seen::clause_state(work, n, k);
+    match state {
+        Seen::Met => Status::Failed,
+        Seen::Empty => turn(x, n, work),
+        Seen::One(_) => Status::Failed,
+        Seen::Many(_) => Status::Failed,
+    }
+}
+
+// The rule of a step's letter, in version two.
+fn apply_two(x: &[u16], n: usize, work: &mut [u16], step: Step) -> Status
+    requires { ⌜ Indexed (now x) n ⌝ }
+    requires { ⌜ Held (indexNode (now x)) n (now work) ⌝ }
+    ensures { λ r. ⌜ Ruled (indexNode (now (x .entry))) n (λ goals. applyTwo (expand (indexNode (now (x .entry)))) goals n step) (now (work .entry)) (now (work .exit)) r ⌝ }
+{
+    let k = step.value as usize;
+    if step.rule == 85 {
+        return unit_two(x, n, work, k);
+    }
+    if step.rule == 67 {
+        return conflict_two(x, n, work, k);
+    }
+    if step.rule == 83 {
+        return rule_s(x, n, work, step.value);
+    }
+    Status::Failed
+}
+
+// The rule of a step's letter, in version one.
+fn apply_step(x: &[u16], n: usize, work: &mut [u16], step: Step) -> Status
     requires { ⌜ Indexed (now x) n ⌝ }
     requires { ⌜ Held (indexNode (now x)) n (now work) ⌝ }
     ensures { λ r. ⌜ Ruled (indexNode (now (x .entry))) n (λ goals. apply (expand (indexNode (now (x .entry)))) goals n step) (now (work .entry)) (now (work .exit)) r ⌝ }
@@ -157,6 +217,18 @@ pub fn apply_step(x: &[u16], n: usize, work: &mut [u16], step: Step) -> Status
         return rule_c(x, n, work, k);
     }
     rule_s(x, n, work, step.value)
+}
+
+// The rule of a step's letter in its version.
+fn apply_in(version: Version, x: &[u16], n: usize, work: &mut [u16], step: Step) -> Status
+    requires { ⌜ Indexed (now x) n ⌝ }
+    requires { ⌜ Held (indexNode (now x)) n (now work) ⌝ }
+    ensures { λ r. ⌜ Ruled (indexNode (now (x .entry))) n (λ goals. applyIn (expand (indexNode (now (x .entry)))) goals n version step) (now (work .entry)) (now (work .exit)) r ⌝ }
+{
+    match version {
+        Version::One => apply_step(x, n, work, step),
+        Version::Two => apply_two(x, n, work, step),
+    }
 }
 
 // A refusal.
@@ -180,6 +252,7 @@ fn completed(i: usize, count: usize) -> Verdict
 // The steps of a derivation in turn, from a step on: 46 already complete, 64 a late G, 45 a rule's condition fails, 47 branches open at
 // the end.
 pub fn check_run(
+    version: Version,
     x: &[u16],
     n: usize,
     goals: &[u16],
@@ -193,7 +266,7 @@ pub fn check_run(
     requires { ⌜ areaSize ≤ length (now work) ⌝ }
     requires { ⌜ from ≤ count ⌝ }
     requires { ⌜ ((k : ℕ) → k < count → placeOf k + 4 ≤ length (now d)) ⌝ }
-    ensures { λ r. ⌜ verdictOf r ≡ run (expand (indexNode (now (x .entry)))) (now (goals .entry)) n from (listFrom (stepAt (now (d .entry))) from (count - from)) (running root []) ⌝ }
+    ensures { λ r. ⌜ verdictOf r ≡ run version (expand (indexNode (now (x .entry)))) (now (goals .entry)) n from (listFrom (stepAt (now (d .entry))) from (count - from)) (running root []) ⌝ }
 {
     branch::begin(x, n, goals, work);
     let mut i = from;
@@ -202,7 +275,7 @@ pub fn check_run(
         if s.rule == 71 {
             return refusal(64, i);
         }
-        let r = apply_step(x, n, work, s);
+        let r = apply_in(version, x, n, work, s);
         match r {
             Status::Failed => {
                 return refusal(45, i);

@@ -20,8 +20,10 @@ use Rattle.calculus.proofs.Moves.{ClauseIs, conflict-clause, unit-clause}
 use Rattle.calculus.proofs.Search.{Grown, closes, joins, ends, parts, grown-whole, possible-closed}
 use Rattle.calculus.proofs.Sound.{or-closed}
 use Rattle.rules.specs.declared.Step.{Step}
+use Rattle.rules.specs.declared.Version.{Version}
+use Rattle.rules.specs.declared.Version.the-variants.{One, Two}
 use Rattle.rules.specs.Steps.{U, R, C, S}
-use Rattle.rules.specs.Rules.{Place, among, Branch, root, join, strikeClause, strikeLiteral, isFails, unstruck, Progress, running, turn, stands, left, ruleU, ruleR, ruleC, ruleS, apply, advance, ended, run, accepts}
+use Rattle.rules.specs.Rules.{Place, among, Branch, root, join, strikeClause, strikeLiteral, isFails, unstruck, Progress, running, turn, stands, left, ruleU, ruleR, ruleC, ruleS, apply, unitTwo, conflictTwo, applyTwo, advance, ended, run, accepts}
 use Rattle.rules.specs.Derivation.{removals, removed, stepsOf, namedSteps}
 use Rattle.rules.proofs.Laws.{by-test, Any, any-imply, place, all-among, still-in, clause-kept}
 use Rattle.rules.proofs.Names.{accepts-named}
@@ -165,64 +167,77 @@ module _ (n : ℕ) (t : ℕ → Node) (goals : List ℕ) where
   abbrev rest : Branch → ℕ → List ℕ
   rest b k = left (expand t) goals n b k
 
-  abbrev removes : List ℕ → ℕ → List Step
-  removes G k = removed (expand t) goals G k
+  -- the removals of clause k, the steps of a tree, and runs, in a version
+  abbrev removes : Version → List ℕ → ℕ → List Step
+  removes v G k = removed v (expand t) goals G k
 
-  abbrev steps : List ℕ → Tree → List Step
-  steps G tr = stepsOf (expand t) goals G tr
+  abbrev steps : Version → List ℕ → Tree → List Step
+  steps v G tr = stepsOf v (expand t) goals G tr
 
-  abbrev runs : ℕ → List Step → Progress → Outcome (Unit {0})
-  runs i ss p = run (expand t) goals n i ss p
+  abbrev runs : Version → ℕ → List Step → Progress → Outcome (Unit {0})
+  runs v i ss p = run v (expand t) goals n i ss p
 
   -- from one progress to another by a step
-  abbrev Goes : ℕ → Step → Progress → Progress → Type 0
-  Goes i s p q = advance (expand t) goals n i s p ≡ answer q
+  abbrev Goes : Version → ℕ → Step → Progress → Progress → Type 0
+  Goes v i s p q = advance v (expand t) goals n i s p ≡ answer q
 
-  run-next : (i : ℕ) (s : Step) (ss : List Step) (p q : Progress) → Goes i s p q → runs i (s ∷ ss) p ≡ runs (suc i) ss q
-  unfolding run
-  run-next i s ss p q e = rw e
+  module _ (v : Version) where
+    run-next : (i : ℕ) (s : Step) (ss : List Step) (p q : Progress) → Goes v i s p q → runs v i (s ∷ ss) p ≡ runs v (suc i) ss q
+    unfolding run
+    run-next i s ss p q e = rw e
 
-  run-at : (i j : ℕ) (ss : List Step) (p : Progress) → i ≡ j → runs i ss p ≡ runs j ss p
-  run-at i j ss p e = ap (λ (z : ℕ). runs z ss p) e
+    run-at : (i j : ℕ) (ss : List Step) (p : Progress) → i ≡ j → runs v i ss p ≡ runs v j ss p
+    run-at i j ss p e = ap (λ (z : ℕ). runs v z ss p) e
 
-  run-append : (i : ℕ) (xs ys ss : List Step) (p : Progress) → runs i (xs ++ ys ++ ss) p ≡ runs i (xs ++ (ys ++ ss)) p
-  run-append i xs ys ss p = ap (λ (zs : List Step). runs i zs p) (append-assoc xs ys ss)
+    run-append : (i : ℕ) (xs ys ss : List Step) (p : Progress) → runs v i (xs ++ ys ++ ss) p ≡ runs v i (xs ++ (ys ++ ss)) p
+    run-append i xs ys ss p = ap (λ (zs : List Step). runs v i zs p) (append-assoc xs ys ss)
 
   -- each rule, where its condition holds
   module _ (i : ℕ) (b : Branch) (waiting : List Branch) where
     by-R : (p k : ℕ) → standing b k ≡ true → p < length (clause (b .G) k) → among (place k p) (b .struckLiterals) ≡ false
-        → isFails (valueOf (b .G) (getD (clause (b .G) k) p 0)) ≡ true → Goes i (R p k) (running b waiting) (running (strikeLiteral (place k p) b) waiting)
+        → isFails (valueOf (b .G) (getD (clause (b .G) k) p 0)) ≡ true → Goes One i (R p k) (running b waiting) (running (strikeLiteral (place k p) b) waiting)
     unfolding advance apply ruleR
     by-R p k s h m f = rw (s, lt-ltb p (length (clause (b .G) k)) h, m, f)
 
     by-U : (k l : ℕ) → standing b k ≡ true → rest b k ≡ l ∷ [] → valueOf (b .G) l ≡ undecided
-        → Goes i (U k) (running b waiting) (running (strikeClause k (join l b)) waiting)
+        → Goes One i (U k) (running b waiting) (running (strikeClause k (join l b)) waiting)
     unfolding advance apply ruleU
     by-U k l s o u = rw (s, o, u)
 
-    by-C : (k : ℕ) → standing b k ≡ true → rest b k ≡ [] → Goes i (C k) (running b waiting) (turn waiting)
+    by-C : (k : ℕ) → standing b k ≡ true → rest b k ≡ [] → Goes One i (C k) (running b waiting) (turn waiting)
     unfolding advance apply ruleC
     by-C k s o = rw (s, o)
 
-    by-S : (l : ℕ) → l < 2 * n → valueOf (b .G) l ≡ undecided → Goes i (S l) (running b waiting) (running (join l b) (join (neg l) b ∷ waiting))
-    unfolding advance apply ruleS
-    by-S l h u = rw (lt-ltb l (2 * n) h, u)
+    -- in both versions
+    by-S : (v : Version) (l : ℕ) → l < 2 * n → valueOf (b .G) l ≡ undecided → Goes v i (S l) (running b waiting) (running (join l b) (join (neg l) b ∷ waiting))
+    unfolding advance apply applyTwo ruleS
+    by-S One l h u = rw (lt-ltb l (2 * n) h, u)
+    by-S Two l h u = rw (lt-ltb l (2 * n) h, u)
+
+    -- in version two, by the clause's state under G alone
+    by-U-two : (k l : ℕ) → ClauseIs (expand t) goals (b .G) k (one l) → Goes Two i (U k) (running b waiting) (running (join l b) waiting)
+    unfolding advance applyTwo unitTwo
+    by-U-two k l q = rw (lt-ltb k (length (clauses (expand t) goals (b .G))) (q .0), q .1)
+
+    by-C-two : (k : ℕ) → ClauseIs (expand t) goals (b .G) k empty → Goes Two i (C k) (running b waiting) (turn waiting)
+    unfolding advance applyTwo conflictTwo
+    by-C-two k q = rw (lt-ltb k (length (clauses (expand t) goals (b .G))) (q .0), q .1)
 
   -- the removals of a clause that stands, none of its literals struck before, strike its false literals
   module _ (waiting : List Branch) (G cs : List ℕ) (k : ℕ) (s : standing (branch G cs []) k ≡ true) where
     run-removals : (c : List ℕ) (p i : ℕ) (xs : List Place) (ss : List Step) → drop p (clause G k) ≡ c → Unstruck k p xs
-        → runs i (removals G k p c ++ ss) (running (branch G cs xs) waiting)
-        ≡ runs (i + length (removals G k p c)) ss (running (branch G cs (struck G k p c xs)) waiting)
+        → runs One i (removals G k p c ++ ss) (running (branch G cs xs) waiting)
+        ≡ runs One (i + length (removals G k p c)) ss (running (branch G cs (struck G k p c xs)) waiting)
     unfolding removals struck
-    run-removals [] p i xs ss d f = run-at i (i + 0) ss (running (branch G cs xs) waiting) (omega arith)
+    run-removals [] p i xs ss d f = run-at One i (i + 0) ss (running (branch G cs xs) waiting) (omega arith)
     run-removals (l ∷ c) p i xs ss d f =
         let here = drop-here (clause G k) p l c d in
         by-test (isFails (valueOf G l))
         (λ e. rw e
-        (run-next i (R p k) (removals G k (suc p) c ++ ss) (running (branch G cs xs) waiting) (running (branch G cs (place k p ∷ xs)) waiting)
+        (run-next One i (R p k) (removals G k (suc p) c ++ ss) (running (branch G cs xs) waiting) (running (branch G cs (place k p ∷ xs)) waiting)
         (by-R i (branch G cs xs) waiting p k s (here .0) (f p (omega arith)) (rw (here .1) e))
         ∙ run-removals c (suc p) (suc i) (place k p ∷ xs) ss (here .2) (unstruck-struck k p xs f)
-        ∙ run-at (suc i + length (removals G k (suc p) c)) (i + suc (length (removals G k (suc p) c))) ss
+        ∙ run-at One (suc i + length (removals G k (suc p) c)) (i + suc (length (removals G k (suc p) c))) ss
         (running (branch G cs (struck G k (suc p) c (place k p ∷ xs))) waiting) (omega arith)))
         (λ e. rw e (run-removals c (suc p) i xs ss (here .2) (unstruck-later k p xs f)))
 
@@ -273,27 +288,27 @@ module _ (n : ℕ) (t : ℕ → Node) (goals : List ℕ) where
       rest-keeps = subst (Keeps s) (sym (unstruck-kept G cs k 0 (clause G k) xs unmet-unstruck)) clause-keeps
 
       run-removed : (waiting : List Branch) (i : ℕ) (m : Step) (ss : List Step) (p : Progress)
-          → Goes (i + length (removes G k)) m (running (branch G cs after) waiting) p
-          → runs i (removes G k ++ m ∷ ss) (running (branch G cs xs) waiting) ≡ runs (suc (i + length (removes G k))) ss p
+          → Goes One (i + length (removes One G k)) m (running (branch G cs after) waiting) p
+          → runs One i (removes One G k ++ m ∷ ss) (running (branch G cs xs) waiting) ≡ runs One (suc (i + length (removes One G k))) ss p
       run-removed waiting i m ss p e =
           run-removals waiting G cs k unmet-stands (clause G k) 0 i xs (m ∷ ss) refl unmet-unstruck
-          ∙ run-next (i + length (removes G k)) m ss (running (branch G cs after) waiting) p e
+          ∙ run-next One (i + length (removes One G k)) m ss (running (branch G cs after) waiting) p e
 
     -- a clause whose literals are all false closes the branch
     run-conflict : ClauseIs (expand t) goals G k empty → (waiting : List Branch) (i : ℕ) (ss : List Step)
-        → runs i (removes G k ++ C k ∷ ss) (running (branch G cs xs) waiting) ≡ runs (suc (i + length (removes G k))) ss (turn waiting)
+        → runs One i (removes One G k ++ C k ∷ ss) (running (branch G cs xs) waiting) ≡ runs One (suc (i + length (removes One G k))) ss (turn waiting)
     run-conflict q waiting i ss =
         run-removed empty q empty-unmet waiting i (C k) ss (turn waiting)
-        (by-C (i + length (removes G k)) (branch G cs after) waiting k (unmet-stands empty q empty-unmet) (rest-keeps empty q empty-unmet))
+        (by-C (i + length (removes One G k)) (branch G cs after) waiting k (unmet-stands empty q empty-unmet) (rest-keeps empty q empty-unmet))
 
     -- a clause's one undecided literal joins G
     module _ (l : ℕ) (q : ClauseIs (expand t) goals G k (one l)) where
       run-unit : valueOf G l ≡ undecided → (waiting : List Branch) (i : ℕ) (ss : List Step)
-          → runs i (removes G k ++ U k ∷ ss) (running (branch G cs xs) waiting)
-          ≡ runs (suc (i + length (removes G k))) ss (running (branch (l ∷ G) (k ∷ cs) after) waiting)
+          → runs One i (removes One G k ++ U k ∷ ss) (running (branch G cs xs) waiting)
+          ≡ runs One (suc (i + length (removes One G k))) ss (running (branch (l ∷ G) (k ∷ cs) after) waiting)
       run-unit v waiting i ss =
           run-removed (one l) q (one-unmet l) waiting i (U k) ss (running (branch (l ∷ G) (k ∷ cs) after) waiting)
-          (by-U (i + length (removes G k)) (branch G cs after) waiting k l
+          (by-U (i + length (removes One G k)) (branch G cs after) waiting k l
           (unmet-stands (one l) q (one-unmet l)) (rest-keeps (one l) q (one-unmet l)) v)
 
       -- and makes the clause true
@@ -309,42 +324,91 @@ module _ (n : ℕ) (t : ℕ → Node) (goals : List ℕ) where
           let b = clean-later G cs xs l a in
           ((met-unit, b .0), all-struck (λ x. MetAt (l ∷ G) (x .clause)) G k 0 (clause G k) xs (λ p. met-unit) (b .1))
 
-  -- the steps of a closed tree close the branch that they start on
-  pub run-grown : {G : List ℕ} {tr : Tree} → Grown n t goals G tr → answerOf tr ≡ impossible
-      → (cs : List ℕ) (xs : List Place) → Clean G cs xs → (waiting : List Branch) (i : ℕ) (ss : List Step)
-      → runs i (steps G tr ++ ss) (running (branch G cs xs) waiting) ≡ runs (i + length (steps G tr)) ss (turn waiting)
-  unfolding stepsOf answerOf
-  run-grown {G} (closes {k = k} g m) e cs xs a waiting i ss =
-      run-append i (removes G k) (C k ∷ []) ss (running (branch G cs xs) waiting)
-      ∙ run-conflict G cs xs a k (conflict-clause (expand t) goals G k m) waiting i ss
-      ∙ run-at _ _ ss (turn waiting) (omega (arith, length-append (removes G k) (C k ∷ [])))
-  run-grown {G} (joins {k = k} {l = l} {below = tr} g m f r) e cs xs a waiting i ss =
-      let q = unit-clause (expand t) goals G k l m in
-      run-append i (removes G k) (U k ∷ steps (l ∷ G) tr) ss (running (branch G cs xs) waiting)
-      ∙ run-unit G cs xs a k l q (f .1) waiting i (steps (l ∷ G) tr ++ ss)
-      ∙ run-grown r e (k ∷ cs) (after G cs xs a k) (clean-unit G cs xs a k l q) waiting (suc (i + length (removes G k))) ss
-      ∙ run-at _ _ ss (turn waiting) (omega (arith, length-append (removes G k) (U k ∷ steps (l ∷ G) tr)))
-  run-grown (ends g m) e cs xs a waiting i ss = absurd (possible-closed e)
-  run-grown {G} (parts {l = l} {left = x} {right = y} g m f p q) e cs xs a waiting i ss =
-      let c = or-closed (answerOf x) (answerOf y) e in
-      let b : Branch = branch G cs xs in
-      run-next i (S l) (steps (l ∷ G) x ++ steps (neg l ∷ G) y ++ ss) (running b waiting) (running (join l b) (join (neg l) b ∷ waiting))
-      (by-S i b waiting l (f .0) (f .1))
-      ∙ run-append (suc i) (steps (l ∷ G) x) (steps (neg l ∷ G) y) ss (running (join l b) (join (neg l) b ∷ waiting))
-      ∙ run-grown p (c .0) cs xs (clean-later G cs xs l a) (join (neg l) b ∷ waiting) (suc i) (steps (neg l ∷ G) y ++ ss)
-      ∙ run-grown q (c .1) cs xs (clean-later G cs xs (neg l) a) waiting (suc i + length (steps (l ∷ G) x)) ss
-      ∙ run-at _ _ ss (turn waiting) (omega (arith, length-append (steps (l ∷ G) x) (steps (neg l ∷ G) y)))
+  -- what a version asks of the strikes before a move, and what a move on a clause comes to: in version two nothing, and by its state alone
+  abbrev Ready : Version → List ℕ → List ℕ → List Place → Type 0
+  Ready One G cs xs = Clean G cs xs
+  Ready Two G cs xs = Unit {0}
 
-  module _ (T : Table n t) (B : Below n goals) where
-    -- the derivation in the solver's order of goals called impossible is accepted
+  ready-later : (v : Version) (G cs : List ℕ) (xs : List Place) (l : ℕ) → Ready v G cs xs → Ready v (l ∷ G) cs xs
+  ready-later One G cs xs l a = clean-later G cs xs l a
+  ready-later Two G cs xs l a = tt
+
+  ready-conflict : (v : Version) (G cs : List ℕ) (xs : List Place) → Ready v G cs xs → (k : ℕ) → ClauseIs (expand t) goals G k empty
+      → (waiting : List Branch) (i : ℕ) (ss : List Step)
+      → runs v i (removes v G k ++ C k ∷ ss) (running (branch G cs xs) waiting) ≡ runs v (suc (i + length (removes v G k))) ss (turn waiting)
+  ready-conflict One G cs xs a k q waiting i ss = run-conflict G cs xs a k q waiting i ss
+  ready-conflict Two G cs xs a k q waiting i ss =
+      run-next Two i (C k) ss (running (branch G cs xs) waiting) (turn waiting) (by-C-two i (branch G cs xs) waiting k q)
+      ∙ run-at Two (suc i) (suc (i + 0)) ss (turn waiting) (omega arith)
+
+  -- the strikes after a unit
+  record Joining (v : Version) (G cs : List ℕ) (xs : List Place) (k l : ℕ) : Type 0 where
+    clauses : List ℕ
+    places : List Place
+    ready : Ready v (l ∷ G) clauses places
+    goes : (waiting : List Branch) (i : ℕ) (ss : List Step)
+        → runs v i (removes v G k ++ U k ∷ ss) (running (branch G cs xs) waiting)
+        ≡ runs v (suc (i + length (removes v G k))) ss (running (branch (l ∷ G) clauses places) waiting)
+
+  ready-unit : (v : Version) (G cs : List ℕ) (xs : List Place) → Ready v G cs xs → (k l : ℕ) → ClauseIs (expand t) goals G k (one l)
+      → valueOf G l ≡ undecided → Joining v G cs xs k l
+  ready-unit One G cs xs a k l q u = record {
+    clauses = k ∷ cs;
+    places = after G cs xs a k;
+    ready = clean-unit G cs xs a k l q;
+    goes = run-unit G cs xs a k l q u;
+  }
+  ready-unit Two G cs xs a k l q u = record {
+    clauses = cs;
+    places = xs;
+    ready = tt;
+    goes = λ waiting i ss.
+        run-next Two i (U k) ss (running (branch G cs xs) waiting) (running (branch (l ∷ G) cs xs) waiting) (by-U-two i (branch G cs xs) waiting k l q)
+        ∙ run-at Two (suc i) (suc (i + 0)) ss (running (branch (l ∷ G) cs xs) waiting) (omega arith);
+  }
+
+  module _ (v : Version) where
+    -- the steps of a closed tree close the branch that they start on
+    pub run-grown : {G : List ℕ} {tr : Tree} → Grown n t goals G tr → answerOf tr ≡ impossible
+        → (cs : List ℕ) (xs : List Place) → Ready v G cs xs → (waiting : List Branch) (i : ℕ) (ss : List Step)
+        → runs v i (steps v G tr ++ ss) (running (branch G cs xs) waiting) ≡ runs v (i + length (steps v G tr)) ss (turn waiting)
+    unfolding stepsOf answerOf
+    run-grown {G} (closes {k = k} g m) e cs xs a waiting i ss =
+        run-append v i (removes v G k) (C k ∷ []) ss (running (branch G cs xs) waiting)
+        ∙ ready-conflict v G cs xs a k (conflict-clause (expand t) goals G k m) waiting i ss
+        ∙ run-at v _ _ ss (turn waiting) (omega (arith, length-append (removes v G k) (C k ∷ [])))
+    run-grown {G} (joins {k = k} {l = l} {below = tr} g m f r) e cs xs a waiting i ss =
+        let u = ready-unit v G cs xs a k l (unit-clause (expand t) goals G k l m) (f .1) in
+        run-append v i (removes v G k) (U k ∷ steps v (l ∷ G) tr) ss (running (branch G cs xs) waiting)
+        ∙ u .goes waiting i (steps v (l ∷ G) tr ++ ss)
+        ∙ run-grown r e (u .clauses) (u .places) (u .ready) waiting (suc (i + length (removes v G k))) ss
+        ∙ run-at v _ _ ss (turn waiting) (omega (arith, length-append (removes v G k) (U k ∷ steps v (l ∷ G) tr)))
+    run-grown (ends g m) e cs xs a waiting i ss = absurd (possible-closed e)
+    run-grown {G} (parts {l = l} {left = x} {right = y} g m f p q) e cs xs a waiting i ss =
+        let c = or-closed (answerOf x) (answerOf y) e in
+        let b : Branch = branch G cs xs in
+        run-next v i (S l) (steps v (l ∷ G) x ++ steps v (neg l ∷ G) y ++ ss) (running b waiting) (running (join l b) (join (neg l) b ∷ waiting))
+        (by-S i b waiting v l (f .0) (f .1))
+        ∙ run-append v (suc i) (steps v (l ∷ G) x) (steps v (neg l ∷ G) y) ss (running (join l b) (join (neg l) b ∷ waiting))
+        ∙ run-grown p (c .0) cs xs (ready-later v G cs xs l a) (join (neg l) b ∷ waiting) (suc i) (steps v (neg l ∷ G) y ++ ss)
+        ∙ run-grown q (c .1) cs xs (ready-later v G cs xs (neg l) a) waiting (suc i + length (steps v (l ∷ G) x)) ss
+        ∙ run-at v _ _ ss (turn waiting) (omega (arith, length-append (steps v (l ∷ G) x) (steps v (neg l ∷ G) y)))
+
+  -- nothing is struck at the start
+  ready-root : (v : Version) → Ready v [] [] []
+  ready-root One = (tt, tt)
+  ready-root Two = tt
+
+  module _ (T : Table n t) (B : Below n goals) (v : Version) where
+    -- the derivation in the solver's order of goals called impossible is accepted, in either version
     pub derivation-accepted : answerOf (tree (expand t) goals n []) ≡ impossible
-        → accepts (expand t) goals n (namedSteps (expand t) goals (tree (expand t) goals n [])) ≡ fine
+        → accepts v (expand t) goals n (namedSteps v (expand t) goals (tree (expand t) goals n [])) ≡ fine
     unfolding run ended
     derivation-accepted e =
-        accepts-named (expand t) goals n (tree (expand t) goals n [])
-        ∙ ap (λ (zs : List Step). runs (length goals) zs (running root [])) (sym (append-nil (steps [] (tree (expand t) goals n []))))
-        ∙ run-grown (grown-whole n t goals T B) e [] [] (tt, tt) [] (length goals) []
+        accepts-named v (expand t) goals n (tree (expand t) goals n [])
+        ∙ ap (λ (zs : List Step). runs v (length goals) zs (running root [])) (sym (append-nil (steps v [] (tree (expand t) goals n []))))
+        ∙ run-grown v (grown-whole n t goals T B) e [] [] (ready-root v) [] (length goals) []
 
     -- so goals that some truths agree with are not called impossible
     pub never-both : (True : ℕ → Type 0) → Agrees (expand t) goals n True → answerOf (tree (expand t) goals n []) ≡ impossible → ⊥
-    never-both True A e = none-accepted (expand t) goals n True A (namedSteps (expand t) goals (tree (expand t) goals n [])) (derivation-accepted e)
+    never-both True A e = none-accepted (expand t) goals n True A v (namedSteps v (expand t) goals (tree (expand t) goals n [])) (derivation-accepted e)

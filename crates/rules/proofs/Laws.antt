@@ -12,10 +12,11 @@ use borrow.Author.Tests.{eqb-true}
 use Rattle.scope.specs.Outcome.{Outcome, answer, refused, fine, _>>_, _>>=_}
 use Rattle.scope.proofs.Tests.{and-left, and-right, refused-no}
 pub use Rattle.scope.proofs.Tests.{by-test}
-use Rattle.calculus.specs.Order.{clauses}
+use Rattle.calculus.specs.Order.{State, met, empty, one, many, clauses}
 use Rattle.calculus.specs.Model.{All}
 use Rattle.rules.specs.declared.Step.{Step}
-use Rattle.rules.specs.Rules.{Place, samePlace, among, Branch, Progress, running, only, given, isG, ruleU, ruleR, ruleE, ruleC, ruleS, apply, advance, run}
+use Rattle.rules.specs.declared.Version.{Version}
+use Rattle.rules.specs.Rules.{Place, samePlace, among, Branch, Progress, running, only, theOne, given, isG, ruleU, ruleR, ruleE, ruleC, ruleS, apply, unitTwo, conflictTwo, applyTwo, applyIn, advance, run}
 
 -- some element of a list has a property
 abbrev pub Any : {A : Type 0} → (A → Type 0) → List A → Type 0
@@ -77,6 +78,12 @@ module _ (P : Progress → Type 0) where
   after-only (l ∷ []) next f = f l refl
   after-only (l ∷ m ∷ ls) next f = tt
 
+  pub after-one : (s : State) (next : ℕ → Outcome Progress) → ((l : ℕ) → s ≡ one l → After (next l)) → After (theOne s >>= next)
+  after-one met next f = tt
+  after-one empty next f = tt
+  after-one (one l) next f = f l refl
+  after-one (many l) next f = tt
+
   after-cond : (t : Bool) (x y : Outcome Progress) → After x → After y → After (cond t x y)
   after-cond true x y f g = f
   after-cond false x y f g = g
@@ -94,25 +101,32 @@ module _ (P : Progress → Type 0) where
         (after-cond (eqb (s .rule) 67) _ _ c
         d)))
 
+    -- the same of the three of version two
+    pub after-two : After (unitTwo expand goals nodes (s .value) b waiting) → After (conflictTwo expand goals nodes (s .value) b waiting)
+        → After (ruleS expand goals nodes (s .value) b waiting) → After (applyTwo expand goals nodes s b waiting)
+    unfolding applyTwo
+    after-two u c d = after-cond (eqb (s .rule) 85) _ _ u (after-cond (eqb (s .rule) 67) _ _ c (after-cond (eqb (s .rule) 83) _ _ d tt))
+
     -- and the refusal at step i says nothing else
-    pub after-advance : (i : ℕ) → After (apply expand goals nodes s b waiting) → After (advance expand goals nodes i s (running b waiting))
+    pub after-advance : (v : Version) (i : ℕ) → After (applyIn expand goals nodes v s b waiting)
+        → After (advance v expand goals nodes i s (running b waiting))
     unfolding advance
-    after-advance i a = go (apply expand goals nodes s b waiting) refl a
+    after-advance v i a = go (applyIn expand goals nodes v s b waiting) refl a
       where
-        go : (o : Outcome Progress) → apply expand goals nodes s b waiting ≡ o → After o
-            → After (advance expand goals nodes i s (running b waiting))
+        go : (o : Outcome Progress) → applyIn expand goals nodes v s b waiting ≡ o → After o
+            → After (advance v expand goals nodes i s (running b waiting))
         go (answer p) e g = rw e (after-cond (isG s) (refused 64 i) (answer p) tt g)
         go (refused number at) e g = rw e (after-cond (isG s) (refused 64 i) (refused 45 i) tt tt)
 
 -- a step of a run to its end is no late G, and its rule answers what the steps after it start from
-pub run-step : (expand : ℕ → List (List ℕ)) (goals : List ℕ) (nodes i : ℕ) (s : Step) (ss : List Step) (b : Branch) (waiting : List Branch)
-    → run expand goals nodes i (s ∷ ss) (running b waiting) ≡ fine
-    → (p : Progress) × (apply expand goals nodes s b waiting ≡ answer p) × (run expand goals nodes (suc i) ss p ≡ fine)
+pub run-step : (v : Version) (expand : ℕ → List (List ℕ)) (goals : List ℕ) (nodes i : ℕ) (s : Step) (ss : List Step) (b : Branch) (waiting : List Branch)
+    → run v expand goals nodes i (s ∷ ss) (running b waiting) ≡ fine
+    → (p : Progress) × (applyIn expand goals nodes v s b waiting ≡ answer p) × (run v expand goals nodes (suc i) ss p ≡ fine)
 unfolding run advance
-run-step expand goals nodes i s ss b waiting e =
-    by-test (isG s) (λ t. refused-no (rw t at e)) (λ t. go t (apply expand goals nodes s b waiting) refl)
+run-step v expand goals nodes i s ss b waiting e =
+    by-test (isG s) (λ t. refused-no (rw t at e)) (λ t. go t (applyIn expand goals nodes v s b waiting) refl)
   where
-    go : isG s ≡ false → (o : Outcome Progress) → apply expand goals nodes s b waiting ≡ o
-        → (p : Progress) × (apply expand goals nodes s b waiting ≡ answer p) × (run expand goals nodes (suc i) ss p ≡ fine)
+    go : isG s ≡ false → (o : Outcome Progress) → applyIn expand goals nodes v s b waiting ≡ o
+        → (p : Progress) × (applyIn expand goals nodes v s b waiting ≡ answer p) × (run v expand goals nodes (suc i) ss p ≡ fine)
     go t (answer p) q = (p, q, rw (t, q) at e)
     go t (refused number at) q = refused-no (rw (t, q) at e)

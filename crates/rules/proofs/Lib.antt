@@ -4,5 +4,6 @@ pub mod Names
 pub mod Sound
 pub mod Accepts
 pub mod Steps
+pub mod Earlier
 pub mod Unnamed
 pub mod OneGoal

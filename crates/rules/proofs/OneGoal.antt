@@ -11,6 +11,7 @@ use Rattle.scope.specs.Table.{decode}
 use Rattle.calculus.specs.Decide.{rowsTest, asked, decide}
 use Rattle.rules.specs.Derive.{check}
 use Rattle.rules.specs.OneGoal.{askedOne, decideOne, checkOne}
+use Rattle.rules.specs.Earlier.{Earlier}
 use Rattle.rules.specs.Unnamed.{Nameless}
 use Rattle.rules.proofs.Unnamed.{check-unnamed}
 
@@ -36,5 +37,5 @@ module _ (t : List ℕ) (goal : ℕ) where
   unfolding decide
   decide-one s w = rw (asked-one t goal 1024 (length s) (length w))
 
-  pub check-one : (w d : List ℕ) → Nameless d → check t (goal ∷ []) w d ≡ checkOne t goal w d
-  check-one w d none = check-unnamed (goal ∷ []) d none t w ∙ rw (asked-one t goal 0 0 (length w))
+  pub check-one : (w d : List ℕ) → Earlier d → Nameless d → check t (goal ∷ []) w d ≡ checkOne t goal w d
+  check-one w d before none = check-unnamed (goal ∷ []) d before none t w ∙ rw (asked-one t goal 0 0 (length w))

@@ -1,4 +1,5 @@
--- 01, 'Derivations', third part, and 'A derivation names its goals': the one derivation in the solver's order. Assumes nothing.
+-- 01, 'Derivations', third part, and 'A derivation names its goals' and 'Version two of the steps': the one derivation in the solver's
+-- order. Assumes nothing.
 use mathlib.Core.List.{List, [], _∷_, _++_, map}
 use Prim.Native.Nat.{ℕ, suc}
 use lib.ListN.{getD}
@@ -6,6 +7,8 @@ use mathlib.Core.Bool.{cond}
 use Rattle.calculus.specs.Expansion.{neg}
 use Rattle.calculus.specs.Order.{valueOf, clauses, Tree, conflict, unit, split, model, cut}
 use Rattle.rules.specs.declared.Step.{Step}
+use Rattle.rules.specs.declared.Version.{Version}
+use Rattle.rules.specs.declared.Version.the-variants.{One, Two}
 use Rattle.rules.specs.Steps.{U, R, C, S, G as name}
 use Rattle.rules.specs.Rules.{isFails}
 
@@ -14,10 +17,15 @@ unfoldable pub removals : List ℕ → ℕ → ℕ → List ℕ → List Step
 removals G k p [] = []
 removals G k p (l ∷ c) = cond (isFails (valueOf G l)) (R p k ∷ removals G k (suc p) c) (removals G k (suc p) c)
 
-module _ (expand : ℕ → List (List ℕ)) (goals : List ℕ) where
-  -- '.. just before its U or C'
+-- steps that only version one has
+abbrev pub inOne : Version → List Step → List Step
+inOne One ss = ss
+inOne Two ss = []
+
+module _ (version : Version) (expand : ℕ → List (List ℕ)) (goals : List ℕ) where
+  -- '.. just before its U or C'; 'in version two the derivation in the solver's order has no R'
   abbrev pub removed : List ℕ → ℕ → List Step
-  removed G k = removals G k 0 (getD (clauses expand goals G) k [])
+  removed G k = inOne version (removals G k 0 (getD (clauses expand goals G) k []))
 
   -- 'a U, C or S for each UNIT, CONFLICT and SPLIT of its search, in turn, with the clause's number or the left literal as
   -- value ..., and never an E', for the search from G

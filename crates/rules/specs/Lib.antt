@@ -3,5 +3,6 @@ pub mod Steps
 pub mod Rules
 pub mod Derivation
 pub mod Derive
+pub mod Earlier
 pub mod Unnamed
 pub mod OneGoal

@@ -1,5 +1,5 @@
--- 01, 'Derivations', second part, and 'A derivation names its goals': the checker's state, its rules and the goals that a derivation
--- names. The clauses of a literal come from any `expand`. Assumes nothing.
+-- 01, 'Derivations', second part, 'A derivation names its goals' and 'Version two of the steps': the checker's state, its rules and
+-- the goals that a derivation names. The clauses of a literal come from any `expand`. Assumes nothing.
 use mathlib.Core.List.{List, [], _∷_}
 use mathlib.Core.Bool.{Bool, true, false, cond, not, _&&_, _||_}
 use Prim.Native.Nat.{ℕ, suc, _*_}
@@ -7,8 +7,10 @@ use lib.Dec.{eqb, ltb}
 use lib.ListN.{length, getD}
 use Rattle.scope.specs.Outcome.{Outcome, answer, refused, require, fine, _>>_, _>>=_}
 use Rattle.calculus.specs.Expansion.{neg}
-use Rattle.calculus.specs.Order.{Value, holds, fails, undecided, valueOf, mem, clauses}
+use Rattle.calculus.specs.Order.{Value, holds, fails, undecided, valueOf, mem, State, met, empty, one, many, stateOf, isEmpty as allFalse, clauses}
 use Rattle.rules.specs.declared.Step.{Step}
+use Rattle.rules.specs.declared.Version.{Version}
+use Rattle.rules.specs.declared.Version.the-variants.{One, Two}
 
 -- a literal of the clause list: a clause's number and a position in it
 pub record Place : Type 0 where
@@ -85,6 +87,13 @@ only [] = refused 45 0
 only (l ∷ []) = answer l
 only (l ∷ m ∷ c) = refused 45 0
 
+-- the one undecided literal of a clause whose other literals are false
+abbrev pub theOne : State → Outcome ℕ
+theOne met = refused 45 0
+theOne empty = refused 45 0
+theOne (one l) = answer l
+theOne (many l) = refused 45 0
+
 -- a rule's condition, which has no number of its own here
 abbrev pub given : Bool → Outcome (Unit {0})
 given t = require t 45 0
@@ -120,10 +129,15 @@ agreed [] goals = 0
 agreed (l ∷ ls) [] = 0
 agreed (l ∷ ls) (g ∷ goals) = cond (eqb l g) (suc (agreed ls goals)) 0
 
+-- a derivation of version one may name no goal; in version two 'G steps are compulsory'
+abbrev pub mayBeUnnamed : Version → Bool
+mayBeUnnamed One = true
+mayBeUnnamed Two = false
+
 -- 'If its first step is a G, these must be exactly the caller's goals': 64, 'at the step where that shows (the step count if the file
 -- ends first)', which is the first G that is wrong or one too many, or the step where one is missing
-unfoldable pub namesTest : List ℕ → List ℕ → Outcome (Unit {0})
-namesTest goals ls = require (isEmpty ls || equal ls goals) 64 (agreed ls goals)
+unfoldable pub namesTest : Version → List ℕ → List ℕ → Outcome (Unit {0})
+namesTest v goals ls = require ((mayBeUnnamed v && isEmpty ls) || equal ls goals) 64 (agreed ls goals)
 
 -- ---- the rules
 
@@ -177,7 +191,7 @@ module _ (expand : ℕ → List (List ℕ)) (goals : List ℕ) (nodes : ℕ) whe
       >> (given (isUndecided (valueOf (b .G) l))
       >> answer (running (join l b) (join (neg l) b ∷ waiting)))
 
-  -- the rule of a step's letter
+  -- the rule of a step's letter, in version one
   unfoldable pub apply : Step → Branch → List Branch → Outcome Progress
   apply s b waiting =
       cond (eqb (s .rule) 85) (ruleU (s .value) b waiting)
@@ -186,11 +200,44 @@ module _ (expand : ℕ → List (List ℕ)) (goals : List ℕ) (nodes : ℕ) whe
       (cond (eqb (s .rule) 67) (ruleC (s .value) b waiting)
       (ruleS (s .value) b waiting))))
 
+  -- clause k is in the list of a branch
+  abbrev pub inList : Branch → ℕ → Bool
+  inList b k = ltb k (length (clauses expand goals (b .G)))
+
+  -- version two: 'U needs every literal but one false under G and that one undecided ... and neither looks at strikes'. As nothing looks
+  -- at them, nothing is struck
+  unfoldable pub unitTwo : ℕ → Branch → List Branch → Outcome Progress
+  unitTwo k b waiting =
+      given (inList b k)
+      >> (theOne (stateOf (b .G) (clauseAt b k))
+      >>= λ l. answer (running (join l b) waiting))
+
+  -- 'C needs all false'
+  unfoldable pub conflictTwo : ℕ → Branch → List Branch → Outcome Progress
+  conflictTwo k b waiting =
+      given (inList b k)
+      >> (given (allFalse (stateOf (b .G) (clauseAt b k)))
+      >> answer (turn waiting))
+
+  -- the rule of a step's letter, in version two, which has no other: row 65 is before this
+  unfoldable pub applyTwo : Step → Branch → List Branch → Outcome Progress
+  applyTwo s b waiting =
+      cond (eqb (s .rule) 85) (unitTwo (s .value) b waiting)
+      (cond (eqb (s .rule) 67) (conflictTwo (s .value) b waiting)
+      (cond (eqb (s .rule) 83) (ruleS (s .value) b waiting)
+      (refused 45 0)))
+
+  -- 'Letter 68 keeps the earlier rules'
+  abbrev pub applyIn : Version → Step → Branch → List Branch → Outcome Progress
+  applyIn One s b waiting = apply s b waiting
+  applyIn Two s b waiting = applyTwo s b waiting
+
+module _ (version : Version) (expand : ℕ → List (List ℕ)) (goals : List ℕ) (nodes : ℕ) where
   -- 'each step in turn: 46 already complete, tested first; 45 its rule's condition fails', at step i; 64 of a late G 'after 46 and
   -- before 45'
   unfoldable pub advance : ℕ → Step → Progress → Outcome Progress
   advance i s complete = refused 46 i
-  advance i s (running b waiting) = cond (isG s) (refused 64 i) (at i (apply s b waiting))
+  advance i s (running b waiting) = cond (isG s) (refused 64 i) (at i (applyIn expand goals nodes version s b waiting))
     where
       at : ℕ → Outcome Progress → Outcome Progress
       at i (answer p) = answer p
@@ -208,4 +255,4 @@ module _ (expand : ℕ → List (List ℕ)) (goals : List ℕ) (nodes : ℕ) whe
 
   -- a whole derivation: the goals that it names, then the other steps from the solver's start
   unfoldable pub accepts : List Step → Outcome (Unit {0})
-  accepts ss = namesTest goals (names ss) >> run (length (names ss)) (body ss) (running root [])
+  accepts ss = namesTest version goals (names ss) >> run (length (names ss)) (body ss) (running root [])

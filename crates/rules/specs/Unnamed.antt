@@ -1,4 +1,5 @@
--- Check as it stood before 'A derivation names its goals': no rule G, and no row 64. Assumes nothing.
+-- Check as it stood before 'A derivation names its goals' and 'Version two of the steps': no rule G, no letter 86, no rows 64 and 65.
+-- Assumes nothing.
 use mathlib.Core.List.{List, [], _∷_}
 use mathlib.Core.Path.{_≡_}
 use mathlib.Core.Bool.{Bool, cond, _&&_, _||_}
@@ -12,6 +13,7 @@ use Rattle.scope.specs.Table.{listFrom}
 use Rattle.calculus.specs.Expansion.{expand}
 use Rattle.calculus.specs.Decide.{nodesOf, asked}
 use Rattle.rules.specs.declared.Step.{Step}
+use Rattle.rules.specs.declared.Version.the-variants.{One}
 use Rattle.rules.specs.Steps.{derivations, stepAt, sizeOk}
 use Rattle.rules.specs.Rules.{root, Progress, running, complete, apply, ended}
 
@@ -43,7 +45,7 @@ module _ (expand : ℕ → List (List ℕ)) (goals : List ℕ) (nodes : ℕ) whe
 
   -- the steps from step i on
   unfoldable pub runUnnamed : ℕ → List Step → Progress → Outcome (Unit {0})
-  runUnnamed i [] p = ended expand goals nodes i p
+  runUnnamed i [] p = ended One expand goals nodes i p
   runUnnamed i (s ∷ ss) p = advanceUnnamed i s p >>= runUnnamed (suc i) ss
 
 abbrev pub checkedUnnamed : List Node → List ℕ → List ℕ → Outcome (Unit {0})

@@ -21,11 +21,12 @@ use Rattle.calculus.proofs.Lists.{every, every-all, all-at, all-imply}
 use Rattle.calculus.specs.Decide.{nodesOf, searchOf, settingsOn, asked, decide}
 use Rattle.calculus.proofs.Asked.{asked-fine}
 use Rattle.rules.specs.declared.Step.{Step}
-use Rattle.rules.specs.Steps.{U, stepOk, encodeSteps, decodeSteps}
-use Rattle.rules.specs.Rules.{among, unstruck, anyHolds, ruleU, ruleR, ruleE, ruleC, ruleS, names, body, equal, agreed, namesTest, apply, advance, ended, run, accepts}
+use Rattle.rules.specs.declared.Version.{Version}
+use Rattle.rules.specs.Steps.{U, stepOk, ruleIn, encodeSteps, decodeSteps}
+use Rattle.rules.specs.Rules.{among, unstruck, anyHolds, ruleU, ruleR, ruleE, ruleC, ruleS, names, body, equal, agreed, namesTest, apply, unitTwo, conflictTwo, applyTwo, advance, ended, run, accepts}
 use Rattle.rules.specs.Derivation.{removals, stepsOf}
 use Rattle.rules.specs.Derive.{derivationOf, Derived as Given, derived as given, derive, checked as taken, check}
-use Rattle.steps.proofs.Encode.{length-encode-steps, encode-steps-read}
+use Rattle.steps.proofs.Encode.{length-encode-steps, encode-version, encode-steps-read}
 use Rattle.text.specs.Text.{ascii, digitsOf}
 use Rattle.text.specs.Listing.{heading, nodeLine, nodeLines}
 use Rattle.samples.specs.Samples.{nodesA, tableA, Sample, alone, possible, derived, checked, mayRead, tooLong, pointReads, pointOver, prints, Holds, rows}
@@ -42,8 +43,8 @@ reads = refl
 abbrev searchA : ℕ → Answer
 searchA goal = answerOf (searchOf nodesA (goal ∷ []))
 
-abbrev rulesA : ℕ → List Step → Outcome (Unit {0})
-rulesA goal ss = accepts (expand (nodesOf nodesA)) (goal ∷ []) 10 ss
+abbrev rulesA : Version → ℕ → List Step → Outcome (Unit {0})
+rulesA v goal ss = accepts v (expand (nodesOf nodesA)) (goal ∷ []) 10 ss
 
 -- the settings of points 0 and 1
 abbrev points : Answer → List ℕ
@@ -55,16 +56,16 @@ points impossible = []
 points unfinished = []
 
 -- formed steps that fill one block
-abbrev oneBlock : List Step → Bool
-oneBlock ss = (ltb 0 (length ss) && leb (length ss) 126) && every stepOk ss
+abbrev oneBlock : Version → List Step → Bool
+oneBlock v ss = (ltb 0 (length ss) && leb (length ss) 126) && (every stepOk ss && every (λ s. ruleIn v (s .rule)) ss)
 
 -- what is computed for a row
 abbrev Fact : Sample → Type 0
 Fact (alone x sum) = Holds (alone x sum)
 Fact (possible goal p q) = (ltb goal 20 ≡ true) × (points (searchA goal) ≡ p ∷ q ∷ [])
-Fact (derived goal ss) =
-    (ltb goal 20 ≡ true) × (oneBlock ss ≡ true) × (searchA goal ≡ impossible) × (derivationOf nodesA (goal ∷ []) ≡ ss) × (rulesA goal ss ≡ fine)
-Fact (checked goal ss number place) = (ltb goal 20 ≡ true) × (oneBlock ss ≡ true) × (rulesA goal ss ≡ refused number place)
+Fact (derived v goal ss) =
+    (ltb goal 20 ≡ true) × (oneBlock v ss ≡ true) × (searchA goal ≡ impossible) × (derivationOf v nodesA (goal ∷ []) ≡ ss) × (rulesA v goal ss ≡ fine)
+Fact (checked v goal ss number place) = (ltb goal 20 ≡ true) × (oneBlock v ss ≡ true) × (rulesA v goal ss ≡ refused number place)
 Fact (mayRead bytes) = bytes ≡ 16384
 Fact (tooLong bytes number) = (lengthOk bytes ≡ false) × (number ≡ 10)
 Fact (pointReads p) = Holds (pointReads p)
@@ -72,11 +73,11 @@ Fact (pointOver p number) = Holds (pointOver p number)
 Fact (prints rs text) = Holds (prints rs text)
 
 -- derive's rows of 31 and its answer, of steps
-abbrev rows31 : List ℕ → List Step → Outcome Given
-rows31 d ss =
-    require (leb (length (encodeSteps ss)) (length d)) 31 0
-    >> (require (leb (length (encodeSteps ss)) 33554432) 31 0
-    >> answer (record { steps = length ss; bytes = encodeSteps ss ++ drop (length (encodeSteps ss)) d }))
+abbrev rows31 : Version → List ℕ → List Step → Outcome Given
+rows31 v d ss =
+    require (leb (length (encodeSteps v ss)) (length d)) 31 0
+    >> (require (leb (length (encodeSteps v ss)) 33554432) 31 0
+    >> answer (record { steps = length ss; bytes = encodeSteps v ss ++ drop (length (encodeSteps v ss)) d }))
 
 -- a goal of table A, and buffers that are long enough
 module _ (goal : ℕ) (inside : ltb goal 20 ≡ true) where
@@ -101,30 +102,33 @@ module _ (goal : ℕ) (inside : ltb goal 20 ≡ true) where
   finds p q impossible e f s w long area = absurd (let z : _≡_ {A = ℕ} 0 1 = cc in omega arith)
   finds p q unfinished e f s w long area = absurd (let z : _≡_ {A = ℕ} 0 1 = cc in omega arith)
 
-  module _ (ss : List Step) (one : oneBlock ss ≡ true) where
-    sized : (0 < length ss) × (length ss ≤ 126) × (every stepOk ss ≡ true)
+  module _ (v : Version) (ss : List Step) (one : oneBlock v ss ≡ true) where
+    sized : (0 < length ss) × (length ss ≤ 126) × (every stepOk ss ≡ true) × (every (λ s. ruleIn v (s .rule)) ss ≡ true)
     sized =
-        let some = both (ltb 0 (length ss) && leb (length ss) 126) (every stepOk ss) one in
+        let some = both (ltb 0 (length ss) && leb (length ss) 126) (every stepOk ss && every (λ s. ruleIn v (s .rule)) ss) one in
         let size = both (ltb 0 (length ss)) (leb (length ss) 126) (some .0) in
-        (ltb-true 0 (length ss) (size .0), leb-true (length ss) 126 (size .1), some .1)
+        let form = both (every stepOk ss) (every (λ s. ruleIn v (s .rule)) ss) (some .1) in
+        (ltb-true 0 (length ss) (size .0), leb-true (length ss) 126 (size .1), form .0, form .1)
 
-    block : length (encodeSteps ss) ≡ 512
-    block = omega (arith, length-encode-steps ss, sized)
+    block : length (encodeSteps v ss) ≡ 512
+    block = omega (arith, length-encode-steps v ss, sized)
 
-    checks : (w : List ℕ) → 32768 ≤ length w → check tableA (goal ∷ []) w (encodeSteps ss) ≡ rulesA goal ss
+    checks : (w : List ℕ) → 32768 ≤ length w → check tableA (goal ∷ []) w (encodeSteps v ss) ≡ rulesA v goal ss
     unfolding check taken nodesA
     checks w area =
         let each : All (λ s. stepOk s ≡ true) ss = every-all stepOk ss (sized .2) in
-        let back : decodeSteps (encodeSteps ss) ≡ answer ss =
-        encode-steps-read ss (U 0) (sized .0) (omega (arith, sized)) (λ k h. all-at (λ s. stepOk s ≡ true) ss k (U 0) each h) in
-        rw (asks 0 0 (length w) (omega arith) area, back)
+        let allowed : All (λ s. ruleIn v (s .rule) ≡ true) ss = every-all (λ s. ruleIn v (s .rule)) ss (sized .3) in
+        let back : decodeSteps (encodeSteps v ss) ≡ answer ss =
+        encode-steps-read v ss (U 0) (sized .0) (omega (arith, sized)) (λ k h. all-at (λ s. stepOk s ≡ true) ss k (U 0) each h)
+        (λ k h. all-at (λ s. ruleIn v (s .rule) ≡ true) ss k (U 0) allowed h) in
+        rw (asks 0 0 (length w) (omega arith) area, back, encode-version v ss (U 0) (sized .0) (omega (arith, sized)))
 
-    derives : searchA goal ≡ impossible → derivationOf nodesA (goal ∷ []) ≡ ss → rulesA goal ss ≡ fine → Holds (derived goal ss)
+    derives : searchA goal ≡ impossible → derivationOf v nodesA (goal ∷ []) ≡ ss → rulesA v goal ss ≡ fine → Holds (derived v goal ss)
     unfolding derive given
     derives closed is ends = record {
       verdict = λ s w long area. decides s w long area ∙ ap (λ (a : Answer). answer (record { verdict = a; settings = settingsOn nodesA s a })) closed;
       derivation = λ w d area room.
-          rw (asks 0 0 (length w) (omega arith) area, closed) (ap (rows31 d) is ∙ rw (block, le-leb 512 (length d) room));
+          rw (asks 0 0 (length w) (omega arith) area, closed) (ap (rows31 v d) is ∙ rw (block, le-leb 512 (length d) room));
       accepted = λ w area. checks w area ∙ ends;
     }
 
@@ -137,8 +141,8 @@ refuses t e = rw e
 holds : (r : Sample) → Fact r → Holds r
 holds (alone x sum) f = f
 holds (possible goal p q) f = finds goal (f .0) p q (searchA goal) refl (f .1)
-holds (derived goal ss) f = derives goal (f .0) ss (f .1) (f .2) (f .3) (f .4)
-holds (checked goal ss number place) f = λ w area. checks goal (f .0) ss (f .1) w area ∙ f .2
+holds (derived v goal ss) f = derives goal (f .0) v ss (f .1) (f .2) (f .3) (f .4)
+holds (checked v goal ss number place) f = λ w area. checks goal (f .0) v ss (f .1) w area ∙ f .2
 holds (mayRead bytes) f = (encode nodesFull, nodesFull, length-full ∙ sym f, encode-reads nodesFull valid-full)
 holds (tooLong bytes number) f = λ t size. refuses t (ap lengthOk size ∙ f .0) ∙ ap (λ (n : ℕ). refused n 0) (sym (f .1))
 holds (pointReads p) f = f
@@ -151,7 +155,7 @@ abbrev _also_ : {A B : Type 0} → A → B → A × B
 x also y = (x, y)
 
 facts : All Fact rows
-unfolding nodesA fileOf blocksOf nodeBytes mathlib.Core.List.flatMap blockOf seal checkOf weighted weight checkOk headOk zeros paddingOk blockTest recordAt recordsIn nodeOf formOk rangeOk orderOk readRecord anyBelow repeats recordTest lengthOk blockRows tableTest listFrom decode first atomHeld mem stepOk stepsOf removals tree move clauses moveOf firstOf some stateOf valueOf expand templates chosen answerOf among unstruck anyHolds ruleU ruleR ruleE ruleC ruleS names body equal agreed namesTest apply advance ended run accepts ascii digitsOf heading nodeLine nodeLines
+unfolding nodesA fileOf blocksOf nodeBytes mathlib.Core.List.flatMap blockOf seal checkOf weighted weight checkOk headOk zeros paddingOk blockTest recordAt recordsIn nodeOf formOk rangeOk orderOk readRecord anyBelow repeats recordTest lengthOk blockRows tableTest listFrom decode first atomHeld mem stepOk stepsOf removals tree move clauses moveOf firstOf some stateOf valueOf expand templates chosen answerOf among unstruck anyHolds ruleU ruleR ruleE ruleC ruleS names body equal agreed namesTest apply unitTwo conflictTwo applyTwo ruleIn advance ended run accepts ascii digitsOf heading nodeLine nodeLines
 facts =
     (refl, refl) also (refl, refl)
     also (refl, refl) also (refl, refl) also (refl, refl) also (refl, refl) also (refl, refl) also (refl, refl)
@@ -159,6 +163,8 @@ facts =
     also (refl, refl, refl, refl, refl)
     also (refl, refl, refl) also (refl, refl, refl) also (refl, refl, refl) also (refl, refl, refl)
     also (refl, refl, refl) also (refl, refl, refl) also (refl, refl, refl) also (refl, refl, refl) also (refl, refl, refl)
+    also (refl, refl, refl, refl, refl) also (refl, refl, refl, refl, refl) also (refl, refl, refl, refl, refl)
+    also (refl, refl, refl) also (refl, refl, refl) also (refl, refl, refl)
     also refl also (refl, refl) also refl also refl
     also refl
     also tt

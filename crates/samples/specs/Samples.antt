@@ -11,6 +11,8 @@ use Rattle.scope.specs.Table.{decode, encode}
 use Rattle.calculus.specs.Order.{possible as found, impossible}
 use Rattle.calculus.specs.Decide.{Decided, decide}
 use Rattle.rules.specs.declared.Step.{Step}
+use Rattle.rules.specs.declared.Version.{Version}
+use Rattle.rules.specs.declared.Version.the-variants.{One, Two}
 use Rattle.rules.specs.Steps.{U, R, C, S, G, encodeSteps}
 use Rattle.rules.specs.Derive.{derive, check}
 use Rattle.text.specs.Text.{ascii}
@@ -63,10 +65,10 @@ pub data Sample : Type 0 where
   alone : Node → ℕ → Sample
   -- 'Goals, points 0 and 1': a goal of table A that is possible, and the settings of the two points
   possible : ℕ → ℕ → ℕ → Sample
-  -- a goal of table A that is impossible, and its derivation
-  derived : ℕ → List Step → Sample
+  -- a goal of table A that is impossible, and its derivation in a version
+  derived : Version → ℕ → List Step → Sample
   -- 'Check': a goal of table A, a derivation's steps, and the refusal's number and place
-  checked : ℕ → List Step → ℕ → ℕ → Sample
+  checked : Version → ℕ → List Step → ℕ → ℕ → Sample
   -- 'Edges': so many bytes may read; so many are refused; a point reads; a point is refused
   mayRead : ℕ → Sample
   tooLong : ℕ → ℕ → Sample
@@ -81,19 +83,19 @@ Finds p q (refused number place) = ⊥
 Finds p q (answer d) = (G : List ℕ) × (d .verdict ≡ found G) × (getD (d .settings) 0 0 ≡ p) × (getD (d .settings) 1 0 ≡ q)
 
 -- the work area and the other buffers are any that are long enough
-pub record Derived (goal : ℕ) (ss : List Step) : Type 0 where
+pub record Derived (v : Version) (goal : ℕ) (ss : List Step) : Type 0 where
   pub verdict : (s w : List ℕ) → 1024 ≤ length s → 32768 ≤ length w
       → decide tableA (goal ∷ []) s w ≡ answer (record { verdict = impossible; settings = s })
   pub derivation : (w d : List ℕ) → 32768 ≤ length w → 512 ≤ length d
-      → derive tableA (goal ∷ []) w d ≡ answer (record { steps = length ss; bytes = encodeSteps ss ++ drop 512 d })
-  pub accepted : (w : List ℕ) → 32768 ≤ length w → check tableA (goal ∷ []) w (encodeSteps ss) ≡ fine
+      → derive v tableA (goal ∷ []) w d ≡ answer (record { steps = length ss; bytes = encodeSteps v ss ++ drop 512 d })
+  pub accepted : (w : List ℕ) → 32768 ≤ length w → check tableA (goal ∷ []) w (encodeSteps v ss) ≡ fine
 
 -- what a row claims
 abbrev pub Holds : Sample → Type 0
 Holds (alone x sum) = (length (encode (x ∷ [])) ≡ 512) × (wordAt (encode (x ∷ [])) 510 ≡ sum)
 Holds (possible goal p q) = (s w : List ℕ) → 1024 ≤ length s → 32768 ≤ length w → Finds p q (decide tableA (goal ∷ []) s w)
-Holds (derived goal ss) = Derived goal ss
-Holds (checked goal ss number place) = (w : List ℕ) → 32768 ≤ length w → check tableA (goal ∷ []) w (encodeSteps ss) ≡ refused number place
+Holds (derived v goal ss) = Derived v goal ss
+Holds (checked v goal ss number place) = (w : List ℕ) → 32768 ≤ length w → check tableA (goal ∷ []) w (encodeSteps v ss) ≡ refused number place
 Holds (mayRead bytes) = (t : List ℕ) × (rs : List Node) × (length t ≡ bytes) × (decode t ≡ answer rs)
 Holds (tooLong bytes number) = (t : List ℕ) → length t ≡ bytes → decode t ≡ refused number 0
 Holds (pointReads p) = decode (encode (ATOM p ∷ [])) ≡ answer (ATOM p ∷ [])
@@ -113,21 +115,29 @@ rows =
     ∷ possible 5 no either
     ∷ possible 12 either either
     -- '13: U0 C1. 14: U0 U1 U2 U3 R5.0 C5.', and each starts with the name of its goal
-    ∷ derived 13 (G 13 ∷ U 0 ∷ C 1 ∷ [])
-    ∷ derived 14 (G 14 ∷ U 0 ∷ U 1 ∷ U 2 ∷ U 3 ∷ R 0 5 ∷ C 5 ∷ [])
+    ∷ derived One 13 (G 13 ∷ U 0 ∷ C 1 ∷ [])
+    ∷ derived One 14 (G 14 ∷ U 0 ∷ U 1 ∷ U 2 ∷ U 3 ∷ R 0 5 ∷ C 5 ∷ [])
     -- '18: U0 U1 U2 S1 R4.0 U4 R6.0 R6.1 C6 R3.0 U3 R5.0 R5.1 C5.'
-    ∷ derived 18 (G 18 ∷ U 0 ∷ U 1 ∷ U 2 ∷ S 1 ∷ R 0 4 ∷ U 4 ∷ R 0 6 ∷ R 1 6 ∷ C 6 ∷ R 0 3 ∷ U 3 ∷ R 0 5 ∷ R 1 5 ∷ C 5 ∷ [])
+    ∷ derived One 18 (G 18 ∷ U 0 ∷ U 1 ∷ U 2 ∷ S 1 ∷ R 0 4 ∷ U 4 ∷ R 0 6 ∷ R 1 6 ∷ C 6 ∷ R 0 3 ∷ U 3 ∷ R 0 5 ∷ R 1 5 ∷ C 5 ∷ [])
     -- 'Check, goal 13: C1 is 45 at 0; U0 is 47 at 1; U0 C1 C1 is 46 at 2. Goal 6: U0 S0 C1 is 45 at 2.'
-    ∷ checked 13 (C 1 ∷ []) 45 0
-    ∷ checked 13 (U 0 ∷ []) 47 1
-    ∷ checked 13 (U 0 ∷ C 1 ∷ C 1 ∷ []) 46 2
-    ∷ checked 6 (U 0 ∷ S 0 ∷ C 1 ∷ []) 45 2
+    ∷ checked One 13 (C 1 ∷ []) 45 0
+    ∷ checked One 13 (U 0 ∷ []) 47 1
+    ∷ checked One 13 (U 0 ∷ C 1 ∷ C 1 ∷ []) 46 2
+    ∷ checked One 6 (U 0 ∷ S 0 ∷ C 1 ∷ []) 45 2
     -- 64: 'a G step wrong, missing or late, at the step where that shows (the step count if the file ends first), after 46 and before 45'
-    ∷ checked 13 (G 12 ∷ C 1 ∷ []) 64 0
-    ∷ checked 13 (G 13 ∷ G 13 ∷ U 0 ∷ C 1 ∷ []) 64 1
-    ∷ checked 13 (U 0 ∷ G 13 ∷ C 1 ∷ []) 64 1
-    ∷ checked 13 (G 13 ∷ U 0 ∷ C 1 ∷ G 13 ∷ []) 46 3
-    ∷ checked 13 (G 13 ∷ C 1 ∷ G 13 ∷ []) 45 1
+    ∷ checked One 13 (G 12 ∷ C 1 ∷ []) 64 0
+    ∷ checked One 13 (G 13 ∷ G 13 ∷ U 0 ∷ C 1 ∷ []) 64 1
+    ∷ checked One 13 (U 0 ∷ G 13 ∷ C 1 ∷ []) 64 1
+    ∷ checked One 13 (G 13 ∷ U 0 ∷ C 1 ∷ G 13 ∷ []) 46 3
+    ∷ checked One 13 (G 13 ∷ C 1 ∷ G 13 ∷ []) 45 1
+    -- version two: 'the derivation in the solver's order has no R'; 'U needs every literal but one false under G and that one undecided,
+    -- C needs all false'; 'G steps are compulsory'
+    ∷ derived Two 13 (G 13 ∷ U 0 ∷ C 1 ∷ [])
+    ∷ derived Two 14 (G 14 ∷ U 0 ∷ U 1 ∷ U 2 ∷ U 3 ∷ C 5 ∷ [])
+    ∷ derived Two 18 (G 18 ∷ U 0 ∷ U 1 ∷ U 2 ∷ S 1 ∷ U 4 ∷ C 6 ∷ U 3 ∷ C 5 ∷ [])
+    ∷ checked Two 13 (U 0 ∷ C 1 ∷ []) 64 0
+    ∷ checked Two 13 (G 13 ∷ U 0 ∷ U 0 ∷ []) 45 2
+    ∷ checked Two 13 (G 13 ∷ U 0 ∷ C 0 ∷ []) 45 2
     -- 'Edges: 16,384 bytes may read, 16,896 is 10; point 1,023 reads, 1,024 is 15.'
     ∷ mayRead 16384
     ∷ tooLong 16896 10

@@ -1,4 +1,4 @@
--- What is looked at to hand out a step: the length and one block (`one-block`). Assumes nothing.
+-- What is looked at to hand out a step: the length, the first byte, which says the version, and one block (`one-block`). Assumes nothing.
 use mathlib.Core.Path.{_≡_, _∙_, ap, sym, refl}
 use mathlib.Core.List.{List}
 use mathlib.Core.Bool.{true}
@@ -10,7 +10,7 @@ use lib.Seq.{getD-take, getD-drop}
 use borrow.Author.Tests.{lt-ltb, ltb-true, ltb-false}
 use Rattle.scope.specs.Outcome.{Outcome, answer, refused, fine}
 use Rattle.scope.specs.Block.{blockAt, recordAt, recordsIn}
-use Rattle.rules.specs.Steps.{derivations, stepOf, stepAt, sizeOk}
+use Rattle.rules.specs.Steps.{derivations, versionOf, stepOf, stepAt, sizeOk}
 use Rattle.rules.proofs.Laws.{by-test}
 use Rattle.steps.specs.Opened.{blockRow}
 use Rattle.steps.proofs.Form.{whole-blocks, steps-most}
@@ -35,10 +35,14 @@ module _ (d e : List ℕ) where
           byte-in d (at / 126) (4 + 4 * (at % 126)) i h (omega arith) ∙ ap (λ (b : List ℕ). getD b (4 + 4 * (at % 126) + i) 0) q
           ∙ sym (byte-in e (at / 126) (4 + 4 * (at % 126)) i h (omega arith))
 
--- bytes of the same length whose block of the index is the same
-module _ (d e : List ℕ) (at : ℕ) (size : length d ≡ length e) (block : blockAt d (blockOf d at) ≡ blockAt e (blockOf d at)) where
+-- bytes of the same length and version whose block of the index is the same
+module _ (d e : List ℕ) (at : ℕ) (size : length d ≡ length e) (first : getD d 0 0 ≡ getD e 0 0) (block : blockAt d (blockOf d at) ≡ blockAt e (blockOf d at)) where
+  same-version : versionOf d ≡ versionOf e
+  unfolding versionOf
+  same-version = rw first
+
   same-row : blockRow d (blockOf d at) ≡ blockRow e (blockOf e at)
-  same-row = rw (block, size)
+  same-row = rw (same-version, block, size)
 
   -- where the block passes: the count decides alike, and the step is the same
   module _ (some : 0 < length d / 512) (passes : blockRow d (blockOf d at) ≡ fine) where
@@ -59,7 +63,7 @@ module _ (d e : List ℕ) (at : ℕ) (size : length d ≡ length e) (block : blo
         by-test (ltb at (recordsIn derivations d))
         (λ q.
         let own : min (at / 126) (length d / 512 - 1) ≡ at / 126 = below (ltb-true at (recordsIn derivations d) q) in
-        rw (sym same-test, q, same-step d e at (rw own at block)))
+        rw (sym same-test, q, same-version, same-step d e at (rw own at block)))
         (λ q. rw (sym same-test, q))
       where
         below : at < recordsIn derivations d → min (at / 126) (length d / 512 - 1) ≡ at / 126

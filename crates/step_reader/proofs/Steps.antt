@@ -12,11 +12,12 @@ use lib.Seq.{drop-cons}
 use borrow.Author.Tests.{lt-ltb, le-ltb, ltb-true, ltb-false}
 use Rattle.scope.specs.Outcome.{Outcome, answer, refused, fine}
 use Rattle.scope.specs.Block.{recordsIn}
+use Rattle.scope.proofs.First.{fine-each}
 use Rattle.rules.specs.declared.Step.{Step}
-use Rattle.rules.specs.Steps.{derivations, stepAt, stepOk, sizeOk, formTest, decodeSteps}
+use Rattle.rules.specs.Steps.{derivations, stepAt, sizeOk, formTest, decodeSteps}
 use Rattle.rules.proofs.Laws.{by-test}
-use Rattle.steps.specs.Opened.{placeOf, blockRow}
-use Rattle.steps.proofs.Form.{whole-blocks, steps-most, block-fine, size-right, size-met, blocks-met, few-steps, step-formed, read-fine, read-length, read-step}
+use Rattle.steps.specs.Opened.{placeOf, blockRow, stepRow}
+use Rattle.steps.proofs.Form.{whole-blocks, steps-most, block-fine, size-right, size-met, blocks-met, forms-met, few-steps, read-fine, read-length, read-step}
 use Rattle.step_reader.specs.Handed.{one, none, countedStep, blockOf, stepHanded, nextOf, afterOf, readFrom}
 
 -- a step's test and its rows, as the code meets them
@@ -26,13 +27,13 @@ module _ (d : List ℕ) (at : ℕ) where
   past-count h = simp (le-ltb at (recordsIn derivations d) h)
 
   module _ (h : at < recordsIn derivations d) where
-    pub ill-formed : stepOk (stepAt d at) ≡ false → countedStep d at ≡ refused 44 at
+    pub ill-formed : {number : ℕ} → stepRow d at ≡ refused number at → countedStep d at ≡ refused number at
     unfolding countedStep
-    ill-formed e = simp (lt-ltb at (recordsIn derivations d) h, e)
+    ill-formed e = rw (lt-ltb at (recordsIn derivations d) h, e)
 
-    pub well-formed : stepOk (stepAt d at) ≡ true → countedStep d at ≡ answer (one (stepAt d at))
+    pub well-formed : stepRow d at ≡ fine → countedStep d at ≡ answer (one (stepAt d at))
     unfolding countedStep
-    well-formed e = simp (lt-ltb at (recordsIn derivations d) h, e)
+    well-formed e = rw (lt-ltb at (recordsIn derivations d) h, e)
 
   pub size-refused : sizeOk (length d) ≡ false → stepHanded d at ≡ refused 40 0
   unfolding stepHanded
@@ -76,7 +77,8 @@ module _ (d : List ℕ) (ss : List Step) (e : decodeSteps d ≡ answer ss) where
   pub hands-out : (k : ℕ) (z : Step) → k < length ss → nextOf d k (formTest d) ≡ answer (one (getD ss k z))
   hands-out k z h =
       let below : k < recordsIn derivations d = omega (arith, read-length d ss e) in
-      opens k ∙ well-formed d k below (step-formed d (read-fine d ss e) k below) ∙ ap (λ s. answer (one s)) (sym (read-step d ss e k z h))
+      let row = fine-each (stepRow d) (recordsIn derivations d) 0 (forms-met d (read-fine d ss e)) k (omega arith) (omega arith) in
+      opens k ∙ well-formed d k below row ∙ ap (λ s. answer (one s)) (sym (read-step d ss e k z h))
 
   pub none-left : (k : ℕ) → length ss ≤ k → nextOf d k (formTest d) ≡ answer none
   none-left k h = opens k ∙ past-count d k (omega (arith, read-length d ss e))

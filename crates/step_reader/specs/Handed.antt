@@ -1,5 +1,5 @@
 -- 01, 'Derivations': 'A reader over the derivation's bytes hands out one step at a time. Opening it meets rows 40 to 44; after the
--- last step it says that none is left.' Assumes nothing.
+-- last step it says that none is left.' And row 65, 'with 44 and after it'. Assumes nothing.
 use mathlib.Core.List.{List, [], _∷_}
 use mathlib.Core.Bool.{cond}
 use Prim.Native.Nat.{ℕ, zero, suc, _+_, _-_, _/_, min}
@@ -24,7 +24,7 @@ handedOf (Found s) = answer (one s)
 handedOf Done = answer none
 handedOf (Refused f) = refused (f .number) (f .place)
 
--- below the count that the blocks state: 44 of the step, then the step. At or past the count none is left
+-- below the count that the blocks state: 44 and 65 of the step, then the step. At or past the count none is left
 unfoldable pub countedStep : List ℕ → ℕ → Outcome Next
 countedStep d at = cond (ltb at (recordsIn derivations d)) (stepRow d at >> answer (one (stepAt d at))) (answer none)
 
@@ -32,8 +32,8 @@ countedStep d at = cond (ltb at (recordsIn derivations d)) (stepRow d at >> answ
 abbrev pub blockOf : List ℕ → ℕ → ℕ
 blockOf d at = min (at / 126) (length d / 512 - 1)
 
--- The step at an index of any bytes, and what is looked at: the length (40), one block (41 to 43), and in it the count and the step (44).
--- No byte of another block matters (`one-block`): the count of the last one decides only where that is the block
+-- The step at an index of any bytes, and what is looked at: the length (40), the first byte, one block (41 to 43), and in it the count and
+-- the step (44, 65). No other byte of another block matters (`one-block`): the count of the last one decides only where that is the block
 unfoldable pub stepHanded : List ℕ → ℕ → Outcome Next
 stepHanded d at = require (sizeOk (length d)) 40 0 >> (blockRow d (blockOf d at) >> countedStep d at)
 

@@ -37,7 +37,7 @@ fn block_of(blocks: usize, at: usize) -> usize
     blocks - 1
 }
 
-// A step below the count that the blocks state, and its row 44.
+// A step below the count that the blocks state, and its rows 44 and 65.
 fn counted_step(d: &[u8], at: usize) -> Handed
     requires { ⌜ 0 < length (now d) / 512 ⌝ }
     requires { ⌜ (at < recordsIn derivations (now d) → placeOf at + 4 ≤ length (now d)) ⌝ }
@@ -47,16 +47,14 @@ fn counted_step(d: &[u8], at: usize) -> Handed
         return Handed::Done;
     }
     let s = steps::step_at(d, at);
-    if !steps::step_ok(s) {
-        return Handed::Refused(Refusal {
-            number: 44,
-            place: at,
-        });
+    let number = steps::form_number(steps::version_of(d), s);
+    if number != 0 {
+        return Handed::Refused(Refusal { number, place: at });
     }
     Handed::Step(s)
 }
 
-// The step at an index: row 40, rows 41 to 43 of its block, row 44.
+// The step at an index: row 40, rows 41 to 43 of its block, rows 44 and 65.
 pub fn step_of(d: &[u8], at: usize) -> Handed
     ensures { λ r. ⌜ handedOf r ≡ stepHanded (now (d .entry)) at ⌝ }
 {
@@ -93,7 +91,7 @@ pub fn after(at: usize) -> usize
     at
 }
 
-// A reader at the first step. It holds the first refusal of 40 to 44, if there is one.
+// A reader at the first step. It holds the first refusal of 40 to 44 and 65, if there is one.
 pub fn opened<'a>(src: &'a [u8]) -> Reader<'a>
     ensures { λ r. ⌜ (r .src ≡ src .entry) × (r .at ≡ 0) × (verdictOf (r .form) ≡ formTest (now (src .entry))) ⌝ }
 {

@@ -1,4 +1,4 @@
--- What a derivation whose form passes (40 to 44) fulfils: whole blocks, each passed, and every step within the bytes and formed.
+-- What a derivation whose form passes (40 to 44 and 65) fulfils: whole blocks, each passed, and every step within the bytes.
 -- Assumes nothing.
 use mathlib.Core.Path.{_≡_, _∙_, ap, sym, refl}
 use mathlib.Core.List.{List}
@@ -9,21 +9,31 @@ use native.Mathlib.Omega.{arith}
 use lib.Dec.{eqb, lit<}
 use lib.ListN.{length, getD}
 use Rattle.scope.specs.Outcome.{answer, fine, first}
-use Rattle.scope.specs.Block.{blockAt, recordsIn}
+use Rattle.scope.specs.Block.{blockAt, recordAt, recordsIn}
 use Rattle.scope.specs.Table.{listFrom}
 use Rattle.scope.proofs.First.{fine-each}
 use Rattle.scope.proofs.Lists.{length-listFrom, getD-listFrom}
-use Rattle.scope.proofs.Tests.{required, then-first, then-next}
+use Rattle.scope.proofs.Tests.{then-first, then-next}
 use Rattle.codec.specs.Valid.{Fits}
 use Rattle.codec.proofs.Rows.{row}
 use Rattle.codec.proofs.Blocks.{passed}
 use Rattle.codec.proofs.Files.{whole-length}
 use Rattle.rules.specs.declared.Step.{Step}
-use Rattle.rules.specs.Steps.{derivations, stepAt, stepOk, sizeOk, formTest, decodeSteps}
+use Rattle.rules.specs.declared.Version.{Version}
+use Rattle.rules.specs.Steps.{lettered, formatOf, derivations, versionOf, stepAt, sizeOk, formTest, decodeSteps}
 use Rattle.steps.specs.Opened.{placeOf, blockRow, stepRow}
 
-pub fits : Fits derivations
-fits = record { some = lit< tt; room = refl }
+pub fits : (letter : ℕ) → Fits (lettered letter)
+fits letter = record { some = lit< tt; room = refl }
+
+-- the steps of both versions stand at the same places
+pub records-same : (v : Version) (d : List ℕ) → recordsIn (formatOf v) d ≡ recordsIn derivations d
+unfolding recordsIn
+records-same v d = refl
+
+pub record-same : (v : Version) (d : List ℕ) (k : ℕ) → recordAt (formatOf v) d k ≡ recordAt derivations d k
+unfolding recordAt
+record-same v d k = refl
 
 -- a length that passes row 40 is that of 1 to 65,536 whole blocks
 pub whole-blocks : (n : ℕ) → sizeOk n ≡ true → (0 < n / 512) × (n ≡ 512 * (n / 512)) × (n / 512 ≤ 65536)
@@ -35,7 +45,7 @@ module _ (d : List ℕ) (some : 0 < length d / 512) (last : blockRow d (length d
   pub steps-most : recordsIn derivations d ≤ 126 * (length d / 512)
   unfolding recordsIn
   steps-most =
-      omega (arith, passed derivations (blockAt d (length d / 512 - 1)) _ (eqb (suc (length d / 512 - 1)) (length d / 512)) last .most)
+      omega (arith, passed (formatOf (versionOf d)) (blockAt d (length d / 512 - 1)) _ (eqb (suc (length d / 512 - 1)) (length d / 512)) last .most)
 
 -- all blocks pass
 module _ (d : List ℕ) (some : 0 < length d / 512) (blocks : first (blockRow d) 0 (length d / 512) ≡ fine) where
@@ -72,11 +82,6 @@ module _ (d : List ℕ) (test : formTest d ≡ fine) where
   -- each lies within the bytes
   pub step-within : (k : ℕ) → k < recordsIn derivations d → placeOf k + 4 ≤ length d
   step-within k h = omega (arith, steps-fit d (size-met .0) blocks-met)
-
-  -- .. and is formed
-  pub step-formed : (k : ℕ) → k < recordsIn derivations d → stepOk (stepAt d k) ≡ true
-  step-formed k h =
-      required (stepOk (stepAt d k)) 44 k (fine-each (stepRow d) (recordsIn derivations d) 0 forms-met k (omega arith) (omega arith))
 
   -- they are what the derivation reads as
   pub steps-read : decodeSteps d ≡ answer (listFrom (stepAt d) 0 (recordsIn derivations d))

@@ -1,21 +1,25 @@
 -- The rows of a derivation's form as the code meets them: of a step, of a block, of the whole, then the answer of the count.
 -- Assumes nothing.
-use mathlib.Core.Path.{_≡_, ap}
-use mathlib.Core.List.{List}
+use mathlib.Core.Path.{_≡_, refl, sym, ap, _∙_}
+use mathlib.Core.List.{List, [], _∷_}
 use mathlib.Core.Logic.{_⊎_, inl, inr}
-use mathlib.Core.Bool.{true, false}
+use mathlib.Core.Bool.{true, false, cond, not}
 use Prim.Native.Nat.{ℕ, _/_}
 use lib.Dec.{eqb, leb, lit<, lit≤}
-use lib.ListN.{length}
-use borrow.Author.Tests.{ne-eqb}
+use lib.ListN.{length, getD}
+use native.Mathlib.Omega.{arith}
+use borrow.Author.Tests.{eq-eqb, ne-eqb}
 use Rattle.scope.specs.declared.Format.{Format}
 use Rattle.scope.specs.Outcome.{answer, refused, fine, first}
 use Rattle.scope.specs.Block.{recordsIn}
 use Rattle.scope.proofs.Lists.{length-listFrom}
+use Rattle.scope.proofs.Tests.{by-test}
 use Rattle.block.specs.Format.{Fitting}
 use Rattle.rules.specs.declared.Step.{Step}
-use Rattle.rules.specs.Steps.{derivations, stepAt, stepOk, sizeOk, formTest, decodeSteps}
-use Rattle.steps.specs.Opened.{blockRow, stepRow, stepCount}
+use Rattle.rules.specs.declared.Version.{Version}
+use Rattle.rules.specs.declared.Version.the-variants.{One, Two}
+use Rattle.rules.specs.Steps.{formatOf, derivations, versionOf, stepAt, stepOk, ruleIn, formRow, sizeOk, formTest, decodeSteps}
+use Rattle.steps.specs.Opened.{formNumber, blockRow, stepRow, stepCount}
 
 -- the letters of the rules without a position, as the code's branches name them
 abbrev Plain : ℕ → Type 0
@@ -47,16 +51,65 @@ module _ (s : Step) where
         ne-eqb (s .rule) 85 (λ e. p (inr (inr (inr (inr e))))),
       )
 
-pub fitting : (F : Format) → F ≡ derivations → Fitting F
-fitting F e = rw e (record { room = lit≤ tt; numbered = lit< tt })
+pub fitting : (F : Format) (v : Version) → F ≡ formatOf v → Fitting F
+fitting F v e = rw e (record { room = lit≤ tt; numbered = lit< tt })
 
--- row 44 of step k: met, or the refusal
-module _ (d : List ℕ) (k : ℕ) where
-  pub step-refused : stepOk (stepAt d k) ≡ false → stepRow d k ≡ refused 44 k
-  step-refused e = rw e
+-- ---- versions
 
-  pub step-fine : stepOk (stepAt d k) ≡ true → stepRow d k ≡ fine
-  step-fine e = rw e
+pub version-none : (d : List ℕ) → length d ≡ 0 → One ≡ versionOf d
+unfolding versionOf
+version-none [] e = refl
+version-none (x ∷ d) e = absurd (omega arith)
+
+module _ (d : List ℕ) where
+  pub version-two : getD d 0 0 ≡ 86 → Two ≡ versionOf d
+  unfolding versionOf
+  version-two e = sym (rw (eq-eqb (getD d 0 0) 86 e))
+
+  pub version-one : (getD d 0 0 ≡ 86 → ⊥) → One ≡ versionOf d
+  unfolding versionOf
+  version-one e = sym (rw (ne-eqb (getD d 0 0) 86 e))
+
+-- version two has no R and no E
+module _ (r : ℕ) {v : Version} where
+  pub in-one : v ≡ One → true ≡ ruleIn v r
+  unfolding ruleIn
+  in-one e = rw e
+
+  pub in-removal : v ≡ Two → r ≡ 82 → not (eqb r 82) ≡ ruleIn v r
+  unfolding ruleIn
+  in-removal e q = rw (e, eq-eqb r 82 q)
+
+  pub in-other : v ≡ Two → (r ≡ 82 → ⊥) → not (eqb r 69) ≡ ruleIn v r
+  unfolding ruleIn
+  in-other e q = rw (e, ne-eqb r 82 q)
+
+-- ---- the row that refuses a step's form
+
+module _ (v : Version) (s : Step) where
+  pub number-44 : stepOk s ≡ false → 44 ≡ formNumber v s
+  unfolding formNumber
+  number-44 e = rw e
+
+  pub number-65 : stepOk s ≡ true → ruleIn v (s .rule) ≡ false → 65 ≡ formNumber v s
+  unfolding formNumber
+  number-65 e f = rw (e, f)
+
+  pub number-0 : stepOk s ≡ true → ruleIn v (s .rule) ≡ true → 0 ≡ formNumber v s
+  unfolding formNumber
+  number-0 e f = rw (e, f)
+
+  -- met, or the refusal
+  row-of : (k : ℕ) → formRow v s k ≡ cond (eqb (formNumber v s) 0) fine (refused (formNumber v s) k)
+  unfolding formNumber
+  row-of k =
+      by-test (stepOk s) (λ e. by-test (ruleIn v (s .rule)) (λ f. rw (e, f)) (λ f. rw (e, f))) (λ e. rw e)
+
+  pub step-refused : (k : ℕ) {n : ℕ} → n ≡ formNumber v s → (n ≡ 0 → ⊥) → formRow v s k ≡ refused n k
+  step-refused k {n} e z = row-of k ∙ rw (← e) (rw (ne-eqb n 0 z))
+
+  pub step-fine : (k : ℕ) {n : ℕ} → n ≡ formNumber v s → n ≡ 0 → formRow v s k ≡ fine
+  step-fine k {n} e z = row-of k ∙ rw (← e) (rw (eq-eqb n 0 z))
 
 -- the whole form: row 40; a block's refusal; what the steps say
 module _ (d : List ℕ) where

@@ -1,12 +1,13 @@
-// Reading a derivation: the first refusal of 40 to 44, the step count, the step at an index.
+// Reading a derivation: its version, the first refusal of 40 to 44 and 65, the step count, the step at an index.
 ghost use mathlib.Core.Path.{_≡_};
 ghost use Prim.Native.Nat.{_+_, _*_, _/_, _<_, _≤_, _^_};
 ghost use lib.ListN.{length};
 ghost use Rattle.scope.specs.Outcome.{verdictOf, first};
 ghost use Rattle.scope.specs.Block.{recordsIn};
-ghost use Rattle.rules.specs.Steps.{derivations, stepOf, stepAt, stepOk, sizeOk, formTest};
-ghost use Rattle.steps.specs.Opened.{placeOf, blockRow, stepRow, stepCount, openedOf};
+ghost use Rattle.rules.specs.Steps.{derivations, letterOf, versionOf, formatOf, stepOf, stepAt, stepOk, ruleIn, sizeOk, formTest};
+ghost use Rattle.steps.specs.Opened.{placeOf, formNumber, blockRow, stepRow, stepCount, openedOf};
 use rules::Step;
+use rules::Version;
 use scope::Format;
 use scope::Refusal;
 use scope::Verdict;
@@ -17,12 +18,36 @@ pub enum Opened {
     Refused(Refusal),
 }
 
-// Blocks of derivations: letter 68, 126 steps of 4 bytes, refusals from 41 on.
-fn derivations() -> Format
-    ensures { λ r. ⌜ r ≡ derivations ⌝ }
+// The letter of a version's blocks.
+pub fn letter_of(version: Version) -> u8
+    ensures { λ r. ⌜ r ≡ letterOf version ⌝ }
+{
+    match version {
+        Version::One => 68,
+        Version::Two => 86,
+    }
+}
+
+// The version of a derivation's bytes, by the letter of block 0.
+pub fn version_of(d: &[u8]) -> Version
+    ensures { λ r. ⌜ r ≡ versionOf (now (d .entry)) ⌝ }
+{
+    if d.len() == 0 {
+        return Version::One;
+    }
+    if d[0] == 86 {
+        Version::Two
+    } else {
+        Version::One
+    }
+}
+
+// Blocks of a version: its letter, 126 steps of 4 bytes, refusals from 41 on.
+fn format_of(version: Version) -> Format
+    ensures { λ r. ⌜ r ≡ formatOf version ⌝ }
 {
     Format {
-        letter: 68,
+        letter: letter_of(version),
         width: 4,
         capacity: 126,
         number: 41,
@@ -52,6 +77,29 @@ pub fn step_ok(s: Step) -> bool
         85 | 69 | 67 | 83 | 71 => s.position == 0,
         _ => false,
     }
+}
+
+// Whether a version has the step's rule: version two has no R and no E.
+fn step_in(version: Version, rule: u8) -> bool
+    ensures { λ r. ⌜ r ≡ ruleIn version rule ⌝ }
+{
+    match version {
+        Version::One => true,
+        Version::Two => rule != 82 && rule != 69,
+    }
+}
+
+// The number of the row that refuses a step's form, 44 before 65, or 0.
+pub fn form_number(version: Version, s: Step) -> u16
+    ensures { λ r. ⌜ r ≡ formNumber version s ⌝ }
+{
+    if !step_ok(s) {
+        return 44;
+    }
+    if !step_in(version, s.rule) {
+        return 65;
+    }
+    0
 }
 
 // The step of four bytes.
@@ -102,7 +150,8 @@ pub fn block_verdict(d: &[u8], j: usize) -> Verdict
     let at = 512 * j;
     let end = at + 512;
     let last = j + 1 == d.len() / 512;
-    block::test(&d[at..end], j, last, derivations())
+    let format = format_of(version_of(d));
+    block::test(&d[at..end], j, last, format)
 }
 
 // Rows 41 to 43 of all blocks.
@@ -121,19 +170,17 @@ fn blocks_verdict(d: &[u8]) -> Verdict
     Verdict::Fine
 }
 
-// Row 44 of all steps.
+// Rows 44 and 65 of all steps.
 fn forms_verdict(d: &[u8], steps: usize) -> Verdict
     requires { ⌜ steps ≤ 126 * (length (now d) / 512) ⌝ }
     ensures { λ r. ⌜ verdictOf r ≡ first (stepRow (now (d .entry))) 0 steps ⌝ }
 {
+    let version = version_of(d);
     let mut k = 0;
     while k < steps {
-        let s = step_at(d, k);
-        if !step_ok(s) {
-            return Verdict::Refused(Refusal {
-                number: 44,
-                place: k,
-            });
+        let number = form_number(version, step_at(d, k));
+        if number != 0 {
+            return Verdict::Refused(Refusal { number, place: k });
         }
         k += 1;
     }

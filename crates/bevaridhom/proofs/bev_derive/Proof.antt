@@ -1,8 +1,11 @@
 -- `bevaridhom::bev_derive` meets its contract: the answer of `deriving::derive`, case by case, and its bytes. Assumes nothing.
-use Rattle.bevaridhom.proofs.Hosts.{told-derive}
+use Rattle.bevaridhom.proofs.Hosts.{derives-asked, told-derive}
 use borrow.Author.Needs.{needs}
 use Rattle.bevaridhom.proofs.bev_derive.Statement.{statement}
 use Rattle.bevaridhom.proofs.bev_derive.Tie as tie
+
+version-asked-requires : tie.Need-version-asked-requires
+version-asked-requires c κs = search needs
 
 derive-requires : tie.Need-derive-requires
 derive-requires c κs = search needs
@@ -20,7 +23,7 @@ same-length-2 : tie.Need-same-length-2
 same-length-2 c = search needs
 
 returns : tie.Need-returns
-returns c = told-derive _ _ _ _ _ _ _ (c .before .before .before .before .before .before .before .derive .ensures) (c .before .c .given .1)
+returns c = told-derive _ _ _ _ _ _ _ _ (derives-asked (c .before .before .before .before .before .before .before .before .before .before .version-asked .ensures) (c .before .before .before .before .before .before .before .derive .ensures)) (c .before .c .given .1)
 
 same-length-3 : tie.Need-same-length-3
 same-length-3 c = search needs
@@ -29,12 +32,13 @@ same-length-4 : tie.Need-same-length-4
 same-length-4 c = search needs
 
 returns-2 : tie.Need-returns-2
-returns-2 c = told-derive _ _ _ _ _ _ _ (c .before .before .before .before .before .before .before .derive .ensures) (c .before .c2 .given .1)
+returns-2 c = told-derive _ _ _ _ _ _ _ _ (derives-asked (c .before .before .before .before .before .before .before .before .before .before .version-asked .ensures) (c .before .before .before .before .before .before .before .derive .ensures)) (c .before .c2 .given .1)
 
 pub bev-derive-spec : {M : Type 1} → statement M
 bev-derive-spec =
     tie.close
     (tie.spec
+    version-asked-requires
     derive-requires
     enum-known-c
     enum-known-c-2

@@ -21,7 +21,7 @@ use Rattle.counting.proofs.+count.{statement}
 use Rattle.counting.proofs.+count.Tie.{close}
 
 abbrev μ-count : Measures 5 count-kinds.ps ℕ
-μ-count κs a = a .1 .1 .0 - length (gOf (a .1 .1 .1 .1 .0 .now))
+μ-count κs a = a .1 .1 .1 .0 - length (gOf (a .1 .1 .1 .1 .1 .0 .now))
 
 abbrev count-at : ℕ → In 5 count-kinds.ps
 count-at t = and 5 count-kinds.ps (is 5 count-kinds.ps μ-count t) count.Pre
@@ -190,12 +190,12 @@ count-same-length-7 t c =
     let at-units = at-assume′ .before .before .before .before .before .before .before .before .before .before .before .before in
     omega (
       arith,
-      at-count .count3 .kept .1 .1 .1 .1 .0,
+      at-count .count3 .kept .1 .1 .1 .1 .1 .0,
       at-assume .assume2 .kept .1 .1 .1 .0,
       at-undo-to .undo-to .kept .1 .1 .1 .0,
-      at-count′ .count2 .kept .1 .1 .1 .1 .0,
+      at-count′ .count2 .kept .1 .1 .1 .1 .1 .0,
       at-assume′ .assume .kept .1 .1 .1 .0,
-      at-units .units .kept .1 .1 .1 .1 .0,
+      at-units .units .kept .1 .1 .1 .1 .1 .0,
     )
 
 count-same-length-8 : (t : ℕ) → count-lts.Need-same-length-8 (count-claims t) (count-at t) count.Post
@@ -208,12 +208,12 @@ count-same-length-8 t c =
     let at-units = at-assume′ .before .before .before .before .before .before .before .before .before .before .before .before in
     omega (
       arith,
-      at-count .count3 .kept .1 .1 .1 .1 .1 .0,
+      at-count .count3 .kept .1 .1 .1 .1 .1 .1 .0,
       at-assume .assume2 .kept .1 .1 .1 .1 .0,
       at-undo-to .undo-to .kept .1 .1 .1 .1 .0,
-      at-count′ .count2 .kept .1 .1 .1 .1 .1 .0,
+      at-count′ .count2 .kept .1 .1 .1 .1 .1 .1 .0,
       at-assume′ .assume .kept .1 .1 .1 .1 .0,
-      at-units .units .kept .1 .1 .1 .1 .1 .0,
+      at-units .units .kept .1 .1 .1 .1 .1 .1 .0,
     )
 
 count-returns-4 : (t : ℕ) → count-lts.Need-returns-4 (count-claims t) (count-at t) count.Post

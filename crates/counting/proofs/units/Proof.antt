@@ -13,10 +13,10 @@ use Rattle.counting.proofs.units.Statement.{statement}
 use Rattle.counting.proofs.units.Tie as tie
 
 abbrev Inv-loop : tie.InvT-loop
-Inv-loop templates x n goals work₀ masks₀ cap s count₀ work masks count = Counting (indexNode x) n goals work₀ masks₀ work masks cap s count
+Inv-loop version templates x n goals work₀ masks₀ cap s count₀ work masks count = Counting version (indexNode x) n goals work₀ masks₀ work masks cap s count
 
 abbrev μ-loop : tie.MeasureT-loop
-μ-loop templates x n goals work₀ masks₀ cap s count₀ work masks count = n - length (gOf work)
+μ-loop version templates x n goals work₀ masks₀ cap s count₀ work masks count = n - length (gOf work)
 
 loop-holds : tie.Need-loop-holds Inv-loop μ-loop
 loop-holds c =
@@ -33,17 +33,17 @@ next-move-requires c κs =
 enum-told : tie.Need-enum-told Inv-loop μ-loop
 enum-told c = search needs
 
-clause-size-requires : tie.Need-clause-size-requires Inv-loop μ-loop
-clause-size-requires c κs =
+size-in-requires : tie.Need-size-in-requires Inv-loop μ-loop
+size-in-requires c κs =
     let at-next-move = c .before .before .before .before .before in
     let s = at-next-move .before .before .before .before .before .before .before .before in
     let v = at-next-move .next-move in
     let p = s .pre .1 in
     let k = rw (c .before .enum-told .given .1) at (v .ensures .1 .1 .1) in
-    (s .pre .0, (p .0, (p .1 .0, ((v .ensures .1 .0 .ready, v .ensures .1 .0 .numbered), placed-there k))))
+    (s .pre .0, (p .0, (p .1 .0, ((v .ensures .1 .0 .ready, v .ensures .1 .0 .numbered), (placed-there k, omega arith)))))
 
 add-capped : tie.Need-add-capped Inv-loop μ-loop
-add-capped c = omega (arith, c .clause-size .ensures .low)
+add-capped c = omega (arith, c .size-in .ensures .low)
 
 capped-requires : tie.Need-capped-requires Inv-loop μ-loop
 capped-requires c κs = c .before .before .before .before .before .before .before .before .before .loop .inv .low
@@ -66,20 +66,20 @@ returns c =
     let r = counting-looked (at-loop .loop .inv) (v .ensures .1 .0) (v .ensures .1 .1 .0) (v .kept .1 .1 .1 .0) in
     let e = looked (r .run .holds) (v .ensures .0) (v .ensures .1 .1 .0) (at-enum-told .enum-told .given .1) in
     let k = rw (at-enum-told .enum-told .given .1) at (v .ensures .1 .1 .1) in
-    counting-conflict r e (sized-on k (c .before .clause-size .ensures)) (c .capped .ensures)
+    counting-conflict r e (sized-on k (c .before .size-in .ensures)) (c .capped .ensures)
 
 enum-known-m : tie.Need-enum-known-m Inv-loop μ-loop
 enum-known-m c = search needs
 
-clause-size-requires-2 : tie.Need-clause-size-requires-2 Inv-loop μ-loop
-clause-size-requires-2 c κs =
+size-in-requires-2 : tie.Need-size-in-requires-2 Inv-loop μ-loop
+size-in-requires-2 c κs =
     let at-m = c .before .before in
     let at-next-move = at-m .before .before .before .before in
     let s = at-next-move .before .before .before .before .before .before .before .before in
     let v = at-next-move .next-move in
     let p = s .pre .1 in
     let k = rw (at-m .m .given .1) at (v .ensures .1 .1 .1) in
-    (s .pre .0, (p .0, (p .1 .0, ((v .ensures .1 .0 .ready, v .ensures .1 .0 .numbered), placed-there k))))
+    (s .pre .0, (p .0, (p .1 .0, ((v .ensures .1 .0 .ready, v .ensures .1 .0 .numbered), (placed-there k, omega arith)))))
 
 capped-requires-2 : tie.Need-capped-requires-2 Inv-loop μ-loop
 capped-requires-2 c κs = c .before .before .before .before .before .before .before .before .before .before .loop .inv .low
@@ -113,8 +113,8 @@ loop-again : tie.Need-loop-again Inv-loop μ-loop
 loop-again c =
     let at-assume = c .before .before .before .before in
     let at-capped = at-assume .before .before .before in
-    let at-clause-size = at-capped .before in
-    let at-m = at-clause-size .before .before .before in
+    let at-size-in = at-capped .before in
+    let at-m = at-size-in .before .before .before in
     let at-next-move = at-m .before .before .before .before in
     let at-loop = at-next-move .before .before .before in
     let s = at-loop .before .before .before .before .before in
@@ -124,7 +124,7 @@ loop-again c =
     let k = rw (at-m .m .given .1) at (v .ensures .1 .1 .1) in
     let p = s .pre .1 in
     let a = at-assume .assume in
-    counting-unit r (p .0 .table) (p .1 .0 .below) e (sized-on k (at-clause-size .clause-size2 .ensures)) (at-capped .capped2 .ensures) (a .ensures .0) (a .ensures .1)
+    counting-unit r (p .0 .table) (p .1 .0 .below) e (sized-on k (at-size-in .size-in2 .ensures)) (at-capped .capped2 .ensures) (a .ensures .0) (a .ensures .1)
     (a .kept .1 .1 .1 .0) (a .kept .1 .1 .1 .1 .0)
 
 enum-told-2 : tie.Need-enum-told-2 Inv-loop μ-loop
@@ -184,14 +184,14 @@ units-spec =
     loop-holds
     next-move-requires
     enum-told
-    clause-size-requires
+    size-in-requires
     add-capped
     capped-requires
     same-length
     same-length-2
     returns
     enum-known-m
-    clause-size-requires-2
+    size-in-requires-2
     capped-requires-2
     assume-requires
     loop-less

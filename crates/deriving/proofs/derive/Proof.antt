@@ -33,7 +33,7 @@ produce-requires c κs =
 returns : tie.Need-returns
 returns c =
     let k = c .before .before .before .before in
-    refuses _ _ _ _ (bytes (k .before .before .before .before .before)) _ (ask-refused _ _ _ _ _ _ (k .ask .ensures) (c .before .a .given .1))
+    refuses _ _ _ _ _ (bytes (k .before .before .before .before .before)) _ (ask-refused _ _ _ _ _ _ (k .ask .ensures) (c .before .a .given .1))
 
 same-length : tie.Need-same-length
 same-length c = search needs
@@ -44,7 +44,7 @@ same-length-2 c = search needs
 returns-2 : tie.Need-returns-2
 returns-2 c =
     let k = c .before .before .before .before .before .before .before .before .before .before .before .before in
-    ends _ _ _ _ (bytes (k .before .before .before .before .before)) (k .ask .ensures .prepared _ (c .before .before .before .before .before .before .before .before .before .a2 .given .1)) _ (c .before .before .before .before .produce .ensures)
+    ends _ _ _ _ _ (bytes (k .before .before .before .before .before)) (k .ask .ensures .prepared _ (c .before .before .before .before .before .before .before .before .before .a2 .given .1)) _ (c .before .before .before .before .produce .ensures)
 
 pub derive-spec : {M : Type 1} → statement M
 derive-spec =

@@ -44,7 +44,7 @@ add-steps c =
     let at-room = at-count .before .before .before .before .before in
     let at-start = at-room .before .before .before .before in
     let s = at-start .before .before .before .before .before .before .before in
-    let low = count-low _ _ _ (s .args .d .now) (at-start .start .ensures .1) (at-room .room .ensures) (at-count .count .ensures) (at-tally .tally .given .1) in
+    let low = count-low (s .args .version) _ _ _ (s .args .d .now) (at-start .start .ensures .1) (at-room .room .ensures) (at-count .count .ensures) (at-tally .tally .given .1) in
     omega (arith, low, at-room .room .ensures, s .pre .1 .0 .most)
 
 same-length : tie.Need-same-length
@@ -56,7 +56,7 @@ returns c =
     let at-count = at-tally .before .before .before .before .before in
     let at-room = at-count .before .before .before .before .before in
     let at-start = at-room .before .before .before .before in
-    produced-over _ _ _ _ (at-start .start .ensures .1) (at-room .room .ensures) (at-count .count .ensures) (at-tally .tally .given .1) (omega arith)
+    produced-over _ _ _ _ _ (at-start .start .ensures .1) (at-room .room .ensures) (at-count .count .ensures) (at-tally .tally .given .1) (omega arith)
 
 slice-aggregate-start-2 : tie.Need-slice-aggregate-start-2
 slice-aggregate-start-2 c = search needs
@@ -67,7 +67,7 @@ start-requires-2 c κs =
     let at-start = at-count .before .before .before .before .before .before .before .before .before in
     let s = at-start .before .before .before .before .before .before .before in
     let p = s .pre in
-    (p .0, (p .1 .0, (omega (arith, p .1 .1, at-count .count .kept .1 .1 .1 .1 .0, at-start .start .kept .1 .1 .1 .0), omega (arith, at-count .count .kept .1 .1 .1 .1 .1 .0, at-start .start .kept .1 .1 .1 .1 .0))))
+    (p .0, (p .1 .0, (omega (arith, p .1 .1, at-count .count .kept .1 .1 .1 .1 .1 .0, at-start .start .kept .1 .1 .1 .0), omega (arith, at-count .count .kept .1 .1 .1 .1 .1 .1 .0, at-start .start .kept .1 .1 .1 .1 .0))))
 
 slice-aggregate-write : tie.Need-slice-aggregate-write
 slice-aggregate-write c = search needs
@@ -83,7 +83,7 @@ write-requires c κs =
     let at-start′ = at-room .before .before .before .before in
     let s = at-start′ .before .before .before .before .before .before .before in
     let p = s .pre in
-    let f = fits _ _ _ _ (at-start′ .start .ensures .1) (at-room .room .ensures) (at-count .count .ensures) (at-tally .tally .given .1) (omega (arith, at-if .if1 .left)) (at-start .start2 .last .1 .1 .1 .0) (at-start .start2 .ensures .1) in
+    let f = fits _ _ _ _ _ (at-start′ .start .ensures .1) (at-room .room .ensures) (at-count .count .ensures) (at-tally .tally .given .1) (omega (arith, at-if .if1 .left)) (at-start .start2 .last .1 .1 .1 .0) (at-start .start2 .ensures .1) in
     (at-templates .templates .ensures, (p .0, (p .1 .0, (at-start .start2 .ensures .0, f))))
 
 same-length-2 : tie.Need-same-length-2
@@ -94,7 +94,7 @@ returns-2 c =
     let at-count = c .before .before .before .before .before in
     let at-room = at-count .before .before .before .before .before in
     let at-start = at-room .before .before .before .before in
-    produced-open _ _ _ _ (at-start .start .ensures .1) (at-room .room .ensures) (at-count .count .ensures) (c .enum-told .given .1)
+    produced-open _ _ _ _ _ (at-start .start .ensures .1) (at-room .room .ensures) (at-count .count .ensures) (c .enum-told .given .1)
 
 same-length-3 : tie.Need-same-length-3
 same-length-3 c =
@@ -104,9 +104,9 @@ same-length-3 c =
     let at-start′ = at-count .before .before .before .before .before .before .before .before .before in
     omega (
       arith,
-      at-write .write .kept .1 .1 .1 .1 .0,
+      at-write .write .kept .1 .1 .1 .1 .1 .0,
       at-start .start2 .kept .1 .1 .1 .0,
-      at-count .count .kept .1 .1 .1 .1 .0,
+      at-count .count .kept .1 .1 .1 .1 .1 .0,
       at-start′ .start .kept .1 .1 .1 .0,
     )
 
@@ -122,7 +122,7 @@ returns-3 c =
     let at-count = at-tally .before .before .before .before .before in
     let at-room = at-count .before .before .before .before .before in
     let at-start′ = at-room .before .before .before .before in
-    produced-steps _ _ _ _ (at-start′ .start .ensures .1) (at-room .room .ensures) (at-count .count .ensures) (at-tally .tally .given .1) (omega (arith, at-if .if1 .left)) (at-start .start2 .last .1 .1 .1 .0) (at-start .start2 .ensures .1) (at-write .write .ensures)
+    produced-steps _ _ _ _ _ (at-start′ .start .ensures .1) (at-room .room .ensures) (at-count .count .ensures) (at-tally .tally .given .1) (omega (arith, at-if .if1 .left)) (at-start .start2 .last .1 .1 .1 .0) (at-start .start2 .ensures .1) (at-write .write .ensures)
 
 pub produce-spec : {M : Type 1} → statement M
 produce-spec =

@@ -21,7 +21,7 @@ use Rattle.emitting.proofs.+emit.{statement}
 use Rattle.emitting.proofs.+emit.Tie.{close}
 
 abbrev μ-emit : Measures 7 emit-kinds.ps ℕ
-μ-emit κs a = a .1 .1 .0 - length (gOf (a .1 .1 .1 .1 .0 .now))
+μ-emit κs a = a .1 .1 .1 .0 - length (gOf (a .1 .1 .1 .1 .1 .0 .now))
 
 abbrev emit-at : ℕ → In 7 emit-kinds.ps
 emit-at t = and 7 emit-kinds.ps (is 7 emit-kinds.ps μ-emit t) emit.Pre
@@ -170,12 +170,12 @@ emit-same-length-4 t c =
     let at-settle = at-assume′ .before .before .before .before .before .before .before .before .before .before .before .before .before .before .before in
     omega (
       arith,
-      at-emit .emit2 .kept .1 .1 .1 .1 .0,
+      at-emit .emit2 .kept .1 .1 .1 .1 .1 .0,
       at-assume .assume2 .kept .1 .1 .1 .0,
       at-undo-to .undo-to .kept .1 .1 .1 .0,
-      at-emit′ .emit .kept .1 .1 .1 .1 .0,
+      at-emit′ .emit .kept .1 .1 .1 .1 .1 .0,
       at-assume′ .assume .kept .1 .1 .1 .0,
-      at-settle .settle .kept .1 .1 .1 .1 .0,
+      at-settle .settle .kept .1 .1 .1 .1 .1 .0,
     )
 
 emit-same-length-5 : (t : ℕ) → emit-lts.Need-same-length-5 (emit-claims t) (emit-at t) emit.Post
@@ -188,12 +188,12 @@ emit-same-length-5 t c =
     let at-settle = at-assume′ .before .before .before .before .before .before .before .before .before .before .before .before .before .before .before in
     omega (
       arith,
-      at-emit .emit2 .kept .1 .1 .1 .1 .1 .0,
+      at-emit .emit2 .kept .1 .1 .1 .1 .1 .1 .0,
       at-assume .assume2 .kept .1 .1 .1 .1 .0,
       at-undo-to .undo-to .kept .1 .1 .1 .1 .0,
-      at-emit′ .emit .kept .1 .1 .1 .1 .1 .0,
+      at-emit′ .emit .kept .1 .1 .1 .1 .1 .1 .0,
       at-assume′ .assume .kept .1 .1 .1 .1 .0,
-      at-settle .settle .kept .1 .1 .1 .1 .1 .0,
+      at-settle .settle .kept .1 .1 .1 .1 .1 .1 .0,
     )
 
 emit-same-length-6 : (t : ℕ) → emit-lts.Need-same-length-6 (emit-claims t) (emit-at t) emit.Post
@@ -203,7 +203,7 @@ emit-same-length-6 t c =
     let at-emit′ = far-0 .before .before .before .before .before .before in
     let far-0 = at-emit′ .before .before .before .before .before .before .before .before .before .before .before .before .before .before .before .before .before .before .before .before in
     let at-settle = far-0 .before .before .before .before in
-    omega (arith, at-emit .emit2 .kept .1 .1 .1 .1 .1 .1 .0, at-emit′ .emit .kept .1 .1 .1 .1 .1 .1 .0, at-settle .settle .kept .1 .1 .1 .1 .1 .1 .0)
+    omega (arith, at-emit .emit2 .kept .1 .1 .1 .1 .1 .1 .1 .0, at-emit′ .emit .kept .1 .1 .1 .1 .1 .1 .1 .0, at-settle .settle .kept .1 .1 .1 .1 .1 .1 .1 .0)
 
 emit-returns-2 : (t : ℕ) → emit-lts.Need-returns-2 (emit-claims t) (emit-at t) emit.Post
 emit-returns-2 t c =

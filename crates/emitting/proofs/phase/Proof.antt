@@ -13,10 +13,10 @@ use Rattle.emitting.proofs.phase.Statement.{statement}
 use Rattle.emitting.proofs.phase.Tie as tie
 
 abbrev Inv-loop : tie.InvT-loop
-Inv-loop templates x n goals work₀ masks₀ out₀ v₀ work masks out v = Run (indexNode x) n goals work₀ masks₀ work masks out₀ out v₀ v
+Inv-loop version templates x n goals work₀ masks₀ out₀ v₀ work masks out v = Run version (indexNode x) n goals work₀ masks₀ work masks out₀ out v₀ v
 
 abbrev μ-loop : tie.MeasureT-loop
-μ-loop templates x n goals work₀ masks₀ out₀ v₀ work masks out v = n - length (gOf work)
+μ-loop version templates x n goals work₀ masks₀ out₀ v₀ work masks out v = n - length (gOf work)
 
 loop-holds : tie.Need-loop-holds Inv-loop μ-loop
 loop-holds c =

@@ -23,6 +23,9 @@ part-write-block-start c = search needs
 part-write-block-end : tie.Need-part-write-block-end
 part-write-block-end c = search needs
 
+shared-slice-read-write-block : tie.Need-shared-slice-read-write-block
+shared-slice-read-write-block c = search needs
+
 cast-write-block : tie.Need-cast-write-block
 cast-write-block c = search needs
 
@@ -46,9 +49,9 @@ same-length c = search needs
 
 returns : tie.Need-returns
 returns c =
-    let s = c .before .before .before .before .before .before .before in
+    let s = c .before .before .before .before .before .before .before .before in
     let a = s .args in
-    block-back (a .out .now) (a .block .now) (a .count) (a .index) (s .pre .3) (c .before .before .write-block .ensures)
+    block-back _ (a .out .now) (a .block .now) (a .count) (a .index) (s .pre .3) (c .before .before .write-block .ensures)
 
 pub flush-spec : {M : Type 1} → statement M
 flush-spec =
@@ -60,6 +63,7 @@ flush-spec =
     sub-write-block
     part-write-block-start
     part-write-block-end
+    shared-slice-read-write-block
     cast-write-block
     cast-write-block-2
     sub-write-block-2

@@ -15,12 +15,12 @@ use Rattle.replay.proofs.check_run.Statement.{statement}
 use Rattle.replay.proofs.check_run.Tie as tie
 
 abbrev Inv-loop : tie.InvT-loop
-Inv-loop x n goals work₀ d from count i₀ work i =
-    (length work ≡ length work₀) × Going (indexNode x) n goals (stepAt d) count
-    (run (expand (indexNode x)) goals n from (listFrom (stepAt d) from (count - from)) (running root [])) work i
+Inv-loop version x n goals work₀ d from count i₀ work i =
+    (length work ≡ length work₀) × Going version (indexNode x) n goals (stepAt d) count
+    (run version (expand (indexNode x)) goals n from (listFrom (stepAt d) from (count - from)) (running root [])) work i
 
 abbrev μ-loop : tie.MeasureT-loop
-μ-loop x n goals work₀ d from count i₀ work i = count - i
+μ-loop version x n goals work₀ d from count i₀ work i = count - i
 
 begin-requires : tie.Need-begin-requires Inv-loop μ-loop
 begin-requires c κs = (c .before .before .before .before .before .pre .0, (c .before .before .before .before .before .pre .1 .0, c .before .before .before .before .before .pre .1 .1 .0))
@@ -29,7 +29,7 @@ loop-holds : tie.Need-loop-holds Inv-loop μ-loop
 loop-holds c =
     let s = c .before .before .before .before .before .before .before .before in
     let b = c .before .before .begin in
-    (refl, going-starts (indexNode (s .args .x .now)) (s .args .n) (s .args .goals .now) (stepAt (s .args .d .now)) (s .args .count) (s .args .from) (s .pre .1 .1 .1 .0) (b .last .1 .1 .1 .0) (b .ensures .0) (b .ensures .1))
+    (refl, going-starts (s .args .version) (indexNode (s .args .x .now)) (s .args .n) (s .args .goals .now) (stepAt (s .args .d .now)) (s .args .count) (s .args .from) (s .pre .1 .1 .1 .0) (b .last .1 .1 .1 .0) (b .ensures .0) (b .ensures .1))
 
 step-at-requires : tie.Need-step-at-requires Inv-loop μ-loop
 step-at-requires c κs = c .before .before .before .before .before .before .before .before .before .before .pre .1 .1 .1 .1 (c .before .loop .i) (c .loop-test .taken)
@@ -45,11 +45,11 @@ returns c =
     let s = c .before .before .before .before .before .before .before .before .before .before .before .before .before .before in
     let g = c .before .before .before .before .before .loop .inv .1 in
     c .refusal .ensures
-    ∙ going-late (indexNode (s .args .x .now)) (s .args .n) (s .args .goals .now) (stepAt (s .args .d .now)) (s .args .count) g (c .before .before .before .before .loop-test .taken)
+    ∙ going-late (s .args .version) (indexNode (s .args .x .now)) (s .args .n) (s .args .goals .now) (stepAt (s .args .d .now)) (s .args .count) g (c .before .before .before .before .loop-test .taken)
     (is-name (c .before .before .before .step-at .ensures) (c .before .if1 .taken))
 
-apply-step-requires : tie.Need-apply-step-requires Inv-loop μ-loop
-apply-step-requires c κs =
+apply-in-requires : tie.Need-apply-in-requires Inv-loop μ-loop
+apply-in-requires c κs =
     let s = c .before .before .before .before .before .before .before .before .before .before .before .before .before .before in
     let goals = s .args .goals .now in
     let g = c .before .before .before .before .before .loop .inv .1 in
@@ -62,7 +62,7 @@ refusal-requires-2 : tie.Need-refusal-requires-2 Inv-loop μ-loop
 refusal-requires-2 c κs = search needs
 
 same-length-2 : tie.Need-same-length-2 Inv-loop μ-loop
-same-length-2 c = c .before .before .before .before .before .apply-step .kept .1 .1 .0 ∙ c .before .before .before .before .before .before .before .before .before .before .before .loop .inv .0 ∙ c .before .before .before .before .before .before .before .before .before .before .before .before .before .before .begin .kept .1 .1 .1 .0
+same-length-2 c = c .before .before .before .before .before .apply-in .kept .1 .1 .1 .0 ∙ c .before .before .before .before .before .before .before .before .before .before .before .loop .inv .0 ∙ c .before .before .before .before .before .before .before .before .before .before .before .before .before .before .begin .kept .1 .1 .1 .0
 
 returns-2 : tie.Need-returns-2 Inv-loop μ-loop
 returns-2 c =
@@ -72,8 +72,8 @@ returns-2 c =
     let goals = s .args .goals .now in
     let f = stepAt (s .args .d .now) in
     let g = c .before .before .before .before .before .before .before .before .before .before .before .loop .inv .1 in
-    let r = step-told (c .before .before .before .before .before .apply-step .last .1 .1 .0) (g .history) (c .before .before .before .before .before .apply-step .ensures) (c .before .before .before .before .before .before .before .before .before .step-at .ensures) (c .before .enum-told .given .1) (g .holds) in
-    c .refusal2 .ensures ∙ going-fails t n goals f (s .args .count) g (c .before .before .before .before .before .before .before .before .before .before .loop-test .taken) (no-name (c .before .before .before .before .before .before .before .before .before .step-at .ensures) (c .before .before .before .before .before .before .before .if1 .left)) r
+    let r = step-told (s .args .version) (c .before .before .before .before .before .apply-in .last .1 .1 .1 .0) (g .history) (c .before .before .before .before .before .apply-in .ensures) (c .before .before .before .before .before .before .before .before .before .step-at .ensures) (c .before .enum-told .given .1) (g .holds) in
+    c .refusal2 .ensures ∙ going-fails (s .args .version) t n goals f (s .args .count) g (c .before .before .before .before .before .before .before .before .before .before .loop-test .taken) (no-name (c .before .before .before .before .before .before .before .before .before .step-at .ensures) (c .before .before .before .before .before .before .before .if1 .left)) r
 
 enum-told-2 : tie.Need-enum-told-2 Inv-loop μ-loop
 enum-told-2 c = search needs
@@ -85,7 +85,7 @@ completed-requires : tie.Need-completed-requires Inv-loop μ-loop
 completed-requires c κs = search needs
 
 same-length-3 : tie.Need-same-length-3 Inv-loop μ-loop
-same-length-3 c = c .before .before .before .before .before .apply-step .kept .1 .1 .0 ∙ c .before .before .before .before .before .before .before .before .before .before .before .loop .inv .0 ∙ c .before .before .before .before .before .before .before .before .before .before .before .before .before .before .begin .kept .1 .1 .1 .0
+same-length-3 c = c .before .before .before .before .before .apply-in .kept .1 .1 .1 .0 ∙ c .before .before .before .before .before .before .before .before .before .before .before .loop .inv .0 ∙ c .before .before .before .before .before .before .before .before .before .before .before .before .before .before .begin .kept .1 .1 .1 .0
 
 returns-3 : tie.Need-returns-3 Inv-loop μ-loop
 returns-3 c =
@@ -95,8 +95,8 @@ returns-3 c =
     let goals = s .args .goals .now in
     let f = stepAt (s .args .d .now) in
     let g = c .before .before .before .before .before .before .before .before .before .before .before .loop .inv .1 in
-    let r = step-told (c .before .before .before .before .before .apply-step .last .1 .1 .0) (g .history) (c .before .before .before .before .before .apply-step .ensures) (c .before .before .before .before .before .before .before .before .before .step-at .ensures) (c .before .enum-told2 .given .1) (g .holds) in
-    c .completed .ensures ∙ going-completes t n goals f (s .args .count) g (c .before .before .before .before .before .before .before .before .before .before .loop-test .taken) (no-name (c .before .before .before .before .before .before .before .before .before .step-at .ensures) (c .before .before .before .before .before .before .before .if1 .left)) r
+    let r = step-told (s .args .version) (c .before .before .before .before .before .apply-in .last .1 .1 .1 .0) (g .history) (c .before .before .before .before .before .apply-in .ensures) (c .before .before .before .before .before .before .before .before .before .step-at .ensures) (c .before .enum-told2 .given .1) (g .holds) in
+    c .completed .ensures ∙ going-completes (s .args .version) t n goals f (s .args .count) g (c .before .before .before .before .before .before .before .before .before .before .loop-test .taken) (no-name (c .before .before .before .before .before .before .before .before .before .step-at .ensures) (c .before .before .before .before .before .before .before .if1 .left)) r
 
 enum-told-3 : tie.Need-enum-told-3 Inv-loop μ-loop
 enum-told-3 c = search needs
@@ -115,8 +115,8 @@ loop-again c =
     let goals = s .args .goals .now in
     let f = stepAt (s .args .d .now) in
     let g = c .before .before .before .before .before .before .before .before .before .before .loop .inv .1 in
-    let r = step-told (c .before .before .before .before .apply-step .last .1 .1 .0) (g .history) (c .before .before .before .before .apply-step .ensures) (c .before .before .before .before .before .before .before .before .step-at .ensures) (c .enum-told3 .given .1) (g .holds) in
-    (c .before .before .before .before .apply-step .kept .1 .1 .0 ∙ c .before .before .before .before .before .before .before .before .before .before .loop .inv .0, going-goes t n goals f (s .args .count) g (c .before .before .before .before .before .before .before .before .before .loop-test .taken) (no-name (c .before .before .before .before .before .before .before .before .step-at .ensures) (c .before .before .before .before .before .before .if1 .left)) r)
+    let r = step-told (s .args .version) (c .before .before .before .before .apply-in .last .1 .1 .1 .0) (g .history) (c .before .before .before .before .apply-in .ensures) (c .before .before .before .before .before .before .before .before .step-at .ensures) (c .enum-told3 .given .1) (g .holds) in
+    (c .before .before .before .before .apply-in .kept .1 .1 .1 .0 ∙ c .before .before .before .before .before .before .before .before .before .before .loop .inv .0, going-goes (s .args .version) t n goals f (s .args .count) g (c .before .before .before .before .before .before .before .before .before .loop-test .taken) (no-name (c .before .before .before .before .before .before .before .before .step-at .ensures) (c .before .before .before .before .before .before .if1 .left)) r)
 
 refusal-requires-3 : tie.Need-refusal-requires-3 Inv-loop μ-loop
 refusal-requires-3 c κs = search needs
@@ -132,7 +132,7 @@ returns-4 c =
     let goals = s .args .goals .now in
     let f = stepAt (s .args .d .now) in
     let g = c .before .before .loop .inv .1 in
-    c .refusal3 .ensures ∙ going-ends t n goals f (s .args .count) g (c .before .loop-test .left)
+    c .refusal3 .ensures ∙ going-ends (s .args .version) t n goals f (s .args .count) g (c .before .loop-test .left)
 
 pub check-run-spec : {M : Type 1} → statement M
 check-run-spec =
@@ -146,7 +146,7 @@ check-run-spec =
     refusal-requires
     same-length
     returns
-    apply-step-requires
+    apply-in-requires
     enum-told
     refusal-requires-2
     same-length-2

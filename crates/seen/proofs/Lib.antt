@@ -1,0 +1,2 @@
+-- Laws for the functions of `seen`. Assumes nothing.
+pub mod States
