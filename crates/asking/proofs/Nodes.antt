@@ -7,7 +7,7 @@ use native.Mathlib.Omega.{arith}
 use lib.ListN.{length}
 use lib.Seq.{ext-getD}
 use Rattle.scope.specs.declared.Node.{Node}
-use Rattle.scope.specs.Outcome.{answer}
+use Rattle.scope.specs.Outcome.{Outcome, answer}
 use Rattle.scope.specs.Table.{nodeAt, listFrom, decode}
 use Rattle.scope.specs.Calls.{tableCount, noNode}
 use Rattle.scope.proofs.Lists.{length-listFrom, getD-listFrom}
@@ -17,9 +17,9 @@ use Rattle.record.specs.Place.{placeOf}
 use Rattle.table.proofs.Rows.{counted, record-within}
 use Rattle.calculus.specs.Expansion.{expand}
 use Rattle.calculus.specs.Order.{tree}
-use Rattle.calculus.specs.Model.{Table, Below}
-use Rattle.calculus.specs.Decide.{nodesOf, searchOf, Admitted}
-use Rattle.calculus.proofs.Asked.{asked-fine}
+use Rattle.calculus.specs.Model.{Table, Below, Goals}
+use Rattle.calculus.specs.Decide.{nodesOf, searchOf, listRow, Admitted}
+use Rattle.calculus.proofs.Asked.{list-met, by-fine}
 use Rattle.index.specs.Index.{indexSize, mostNodes, always, indexNode, Built}
 use Rattle.asking.specs.Asks.{Prepared}
 use Rattle.asking.proofs.Models.{low, table-of, cells-of}
@@ -64,15 +64,14 @@ module _ (t : List ℕ) {nodes : ℕ} (e : tableCount t ≡ answer nodes) where
       cells i h = rw (node-in i h) (cells-of t (nodesIn t nodes) all nodes-read i (omega (arith, size-in t nodes)))
 
       -- goals that no row refuses may be put to it
-      pub prepares : (goals : List ℕ) (needed lent area : ℕ) → Admitted nodes goals needed lent area
-          → Prepared t goals needed lent area x nodes
-      prepares goals needed lent area a = record {
+      pub prepares : (listed : Outcome (Unit {0})) (goals : List ℕ) (needed lent area : ℕ) → Admitted listed nodes goals needed lent area
+          → Prepared listed t goals needed lent area x nodes
+      prepares listed goals needed lent area a = record {
         nodes = nodesIn t nodes;
-        answered = asked-fine t goals needed lent area nodes-read (rw (size-in t nodes) a);
+        answered = by-fine listed t goals needed lent area nodes-read (rw (size-in t nodes) a);
         reads = nodes-read;
         count = size-in t nodes;
         admitted = a;
-        literals = record { most = a .most; below = a .below };
         indexed = record { size = size; few = few; table = table; links = b .links; cells = cells; codes = b .codes };
         same = node-in;
         points = λ i h. rw (node-in i h) (low t (nodesIn t nodes) all nodes-read i (omega (arith, size-in t nodes)) .point);
@@ -80,7 +79,7 @@ module _ (t : List ℕ) {nodes : ℕ} (e : tableCount t ≡ answer nodes) where
 
 -- ---- what is prepared
 
-module _ {t goals : List ℕ} {needed lent area : ℕ} {x : List ℕ} {n : ℕ} (p : Prepared t goals needed lent area x n) where
+module _ {row : Outcome (Unit {0})} {t goals : List ℕ} {needed lent area : ℕ} {x : List ℕ} {n : ℕ} (p : Prepared row t goals needed lent area x n) where
   -- a search over the index is that over the nodes
   pub searches-in : (ls : List ℕ) → Below n ls → tree (expand (indexNode x)) ls n [] ≡ searchOf (p .nodes) ls
   searches-in ls b =
@@ -96,3 +95,7 @@ module _ {t goals : List ℕ} {needed lent area : ℕ} {x : List ℕ} {n : ℕ} 
       let size = length-listFrom (indexNode x) n 0 in
       ext-getD noNode (listFrom (indexNode x) 0 n) (p .nodes) (size ∙ sym (p .count))
       (λ k h. getD-listFrom (indexNode x) n 0 k noNode (omega arith) ∙ ap (indexNode x) (zero-add k) ∙ p .same k (omega arith))
+
+-- a list of goals that row 62 passed
+pub goals-in : {t goals : List ℕ} {needed lent area : ℕ} {x : List ℕ} {n : ℕ} → Prepared (listRow goals) t goals needed lent area x n → Goals n goals
+goals-in {goals = goals} p = record { most = omega (arith, list-met goals (p .admitted .list)); below = p .admitted .below }

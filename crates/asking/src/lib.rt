@@ -1,5 +1,5 @@
-// What decide, derive and check ask before they search: rows 10 to 17, 62, 20, 21 and 23 in one place; and the index of the table's nodes,
-// which they work on.
+// What the calls that search ask before: rows 10 to 17, a row on the list (62 for goals), 20, 21 and 23 in one place; and the index of the
+// table's nodes, which they work on.
 use scope::Refusal;
 use scope::Verdict;
 use table::Counted;
@@ -10,7 +10,7 @@ ghost use lib.Dec.{leb, ltb};
 ghost use lib.ListN.{length};
 ghost use Rattle.scope.specs.Outcome.{verdictOf};
 ghost use Rattle.calculus.specs.Model.{mostGoals};
-ghost use Rattle.calculus.specs.Decide.{goalsTest, rowsTest};
+ghost use Rattle.calculus.specs.Decide.{listRow, goalsTest, lentTest, rowsTest};
 ghost use Rattle.index.specs.Index.{indexSize, mostNodes};
 ghost use Rattle.asking.specs.Asks.{Asks};
 
@@ -27,17 +27,24 @@ fn list_size(count: usize) -> bool
     0 < count && count <= 64
 }
 
-// Row 62, then row 20 of each goal in turn.
+// Row 62.
+pub fn list_row(goals: &[u16]) -> Verdict
+    ensures { λ r. ⌜ verdictOf r ≡ listRow (now (goals .entry)) ⌝ }
+{
+    if list_size(goals.len()) {
+        return Verdict::Fine;
+    }
+    Verdict::Refused(Refusal {
+        number: 62,
+        place: 0,
+    })
+}
+
+// Row 20 of each literal in turn.
 fn goal_rows(nodes: usize, goals: &[u16]) -> Verdict
     requires { ⌜ nodes ≤ mostNodes ⌝ }
     ensures { λ r. ⌜ verdictOf r ≡ goalsTest nodes (now (goals .entry)) ⌝ }
 {
-    if !list_size(goals.len()) {
-        return Verdict::Refused(Refusal {
-            number: 62,
-            place: 0,
-        });
-    }
     let mut i = 0;
     while i < goals.len() {
         if 2 * nodes <= wide(goals[i]) {
@@ -51,34 +58,53 @@ fn goal_rows(nodes: usize, goals: &[u16]) -> Verdict
     Verdict::Fine
 }
 
-// Rows 62, 20, 21 and 23.
-fn rows(nodes: usize, goals: &[u16], needed: usize, points: usize, area: usize) -> Verdict
-    requires { ⌜ nodes ≤ mostNodes ⌝ }
-    ensures { λ r. ⌜ verdictOf r ≡ rowsTest nodes (now (goals .entry)) needed points area ⌝ }
+// Rows 21 and 23.
+fn lent_rows(needed: usize, points: usize, area: usize) -> Verdict
+    ensures { λ r. ⌜ verdictOf r ≡ lentTest needed points area ⌝ }
 {
-    let v = goal_rows(nodes, goals);
-    match v {
+    if points < needed {
+        return Verdict::Refused(Refusal {
+            number: 21,
+            place: 0,
+        });
+    }
+    if area < 32768 {
+        return Verdict::Refused(Refusal {
+            number: 23,
+            place: 0,
+        });
+    }
+    Verdict::Fine
+}
+
+// The row on the list, then rows 20, 21 and 23.
+fn rows(
+    listed: Verdict,
+    nodes: usize,
+    goals: &[u16],
+    needed: usize,
+    points: usize,
+    area: usize,
+) -> Verdict
+    requires { ⌜ nodes ≤ mostNodes ⌝ }
+    ensures { λ r. ⌜ verdictOf r ≡ rowsTest (verdictOf listed) nodes (now (goals .entry)) needed points area ⌝ }
+{
+    match listed {
         Verdict::Refused(f) => Verdict::Refused(f),
         Verdict::Fine => {
-            if points < needed {
-                return Verdict::Refused(Refusal {
-                    number: 21,
-                    place: 0,
-                });
+            let v = goal_rows(nodes, goals);
+            match v {
+                Verdict::Refused(f) => Verdict::Refused(f),
+                Verdict::Fine => lent_rows(needed, points, area),
             }
-            if area < 32768 {
-                return Verdict::Refused(Refusal {
-                    number: 23,
-                    place: 0,
-                });
-            }
-            Verdict::Fine
         }
     }
 }
 
-// The node count of a table to which the goals may be put, and the index of its nodes; or the first row's refusal.
-pub fn ask(
+// The node count of a table to which the literals may be put, and the index of its nodes; or the first row's refusal. `listed` is what the
+// call's own row on the list says.
+pub fn ask_by(
+    listed: Verdict,
     t: &[u8],
     goals: &[u16],
     needed: usize,
@@ -87,13 +113,13 @@ pub fn ask(
     x: &mut [u16],
 ) -> Counted
     requires { ⌜ length (now x) ≡ indexSize ⌝ }
-    ensures { λ r. ⌜ Asks (now (t .entry)) (now (goals .entry)) needed points area (now (x .exit)) r ⌝ }
+    ensures { λ r. ⌜ Asks (verdictOf listed) (now (t .entry)) (now (goals .entry)) needed points area (now (x .exit)) r ⌝ }
 {
     let c = table::count(t);
     match c {
         Counted::Refused(f) => Counted::Refused(f),
         Counted::Nodes(nodes) => {
-            let v = rows(nodes, goals, needed, points, area);
+            let v = rows(listed, nodes, goals, needed, points, area);
             match v {
                 Verdict::Refused(f) => Counted::Refused(f),
                 Verdict::Fine => {
@@ -103,4 +129,19 @@ pub fn ask(
             }
         }
     }
+}
+
+// The same of a list of goals, whose row is 62.
+pub fn ask(
+    t: &[u8],
+    goals: &[u16],
+    needed: usize,
+    points: usize,
+    area: usize,
+    x: &mut [u16],
+) -> Counted
+    requires { ⌜ length (now x) ≡ indexSize ⌝ }
+    ensures { λ r. ⌜ Asks (listRow (now (goals .entry))) (now (t .entry)) (now (goals .entry)) needed points area (now (x .exit)) r ⌝ }
+{
+    ask_by(list_row(goals), t, goals, needed, points, area, x)
 }

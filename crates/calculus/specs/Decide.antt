@@ -3,12 +3,12 @@
 use mathlib.Core.Path.{_≡_}
 use mathlib.Core.List.{List, [], _++_}
 use mathlib.Core.Bool.{_&&_}
-use Prim.Native.Nat.{ℕ, _*_, _<_, _≤_}
+use Prim.Native.Nat.{ℕ, _*_, _≤_}
 use lib.Dec.{leb, ltb}
 use lib.ListN.{length, getD, drop}
 use Rattle.scope.specs.declared.Node.{Node}
 use Rattle.scope.specs.declared.Truth.the-variants.{Yes}
-use Rattle.scope.specs.Outcome.{Outcome, answer, refused, require, first, _>>_, _>>=_}
+use Rattle.scope.specs.Outcome.{Outcome, answer, refused, fine, require, first, _>>_, _>>=_}
 use Rattle.scope.specs.Table.{decode}
 use Rattle.scope.specs.Kleene.{NoTwo}
 use Rattle.scope.specs.Calls.{noNode, evaluate}
@@ -43,28 +43,32 @@ listRow goals = require (ltb 0 (length goals) && leb (length goals) mostGoals) 6
 abbrev pub goalRow : ℕ → List ℕ → ℕ → Outcome (Unit {0})
 goalRow nodes goals i = require (ltb (getD goals i 0) (2 * nodes)) 20 i
 
--- 62 'just before 20', of each goal in turn
+-- .. of each goal in turn
 abbrev pub goalsTest : ℕ → List ℕ → Outcome (Unit {0})
-goalsTest nodes goals = listRow goals >> first (goalRow nodes goals) 0 (length goals)
+goalsTest nodes goals = first (goalRow nodes goals) 0 (length goals)
 
--- 62, 20; 21: 'under 1,024 bytes', where a call needs so many; 23: 'under 32,768 16-bit numbers'
-unfoldable pub rowsTest : ℕ → List ℕ → ℕ → ℕ → ℕ → Outcome (Unit {0})
-rowsTest nodes goals needed points area =
-    goalsTest nodes goals
-    >> (require (leb needed points) 21 0
-    >> require (leb 32768 area) 23 0)
+-- 21: 'under 1,024 bytes', where a call needs so many; 23: 'under 32,768 16-bit numbers'
+abbrev pub lentTest : ℕ → ℕ → ℕ → Outcome (Unit {0})
+lentTest needed points area = require (leb needed points) 21 0 >> require (leb 32768 area) 23 0
+
+-- the row on the list, which each call has of its own; 20, 21, 23
+unfoldable pub rowsTest : Outcome (Unit {0}) → ℕ → List ℕ → ℕ → ℕ → ℕ → Outcome (Unit {0})
+rowsTest listed nodes goals needed points area = listed >> (goalsTest nodes goals >> lentTest needed points area)
 
 -- none of these refuses
-pub record Admitted (nodes : ℕ) (goals : List ℕ) (needed points area : ℕ) : Type 0 where
-  pub some : 0 < length goals
-  pub most : length goals ≤ mostGoals
+pub record Admitted (listed : Outcome (Unit {0})) (nodes : ℕ) (goals : List ℕ) (needed points area : ℕ) : Type 0 where
+  pub list : listed ≡ fine
   pub below : Below nodes goals
   pub settings : needed ≤ points
   pub work : 32768 ≤ area
 
--- the nodes of a table to which the goals may be put: rows 10 to 17, then these
-unfoldable pub asked : List ℕ → List ℕ → ℕ → ℕ → ℕ → Outcome (List Node)
-asked t goals needed points area = decode t >>= λ rs. rowsTest (length rs) goals needed points area >> answer rs
+-- the nodes of a table to which a list of literals may be put: rows 10 to 17, then these
+unfoldable pub askedBy : Outcome (Unit {0}) → List ℕ → List ℕ → ℕ → ℕ → ℕ → Outcome (List Node)
+askedBy listed t goals needed points area = decode t >>= λ rs. rowsTest listed (length rs) goals needed points area >> answer rs
+
+-- of a list of goals: 62 'just before 20'
+abbrev pub asked : List ℕ → List ℕ → ℕ → ℕ → ℕ → Outcome (List Node)
+asked t goals needed points area = askedBy (listRow goals) t goals needed points area
 
 -- what decide answers of the nodes of a table
 abbrev pub decided : List Node → List ℕ → List ℕ → Decided

@@ -14,8 +14,8 @@ use Rattle.scope.proofs.Tests.{refused-no, bound}
 use Rattle.codec.specs.Valid.{Bytes}
 use Rattle.calculus.specs.Order.{Answer, answerOf}
 use Rattle.calculus.specs.Model.{Below, mostGoals}
-use Rattle.calculus.specs.Decide.{Admitted, asked, Satisfies, _⇔_}
-use Rattle.calculus.proofs.Asked.{asked-read}
+use Rattle.calculus.specs.Decide.{listRow, Admitted, asked, Satisfies, _⇔_}
+use Rattle.calculus.proofs.Asked.{list-met, asked-read}
 use Rattle.rules.specs.Derive.{isImpossible}
 use Rattle.index.specs.Index.{indexNode}
 use Rattle.asking.specs.Asks.{Prepared}
@@ -92,11 +92,11 @@ module _ (t goals w : List ℕ) (all : Bytes t) where
       let a = asked-read t goals 0 0 (length w) (r .1) in
       go (r .0) a (isImpossible (answered (r .0) goals)) refl (r .2)
     where
-      go : (rs : List Node) → (decode t ≡ answer rs) × Admitted (length rs) goals 0 0 (length w) → (b : Bool) → isImpossible (answered rs goals) ≡ b
+      go : (rs : List Node) → (decode t ≡ answer rs) × Admitted (listRow goals) (length rs) goals 0 0 (length w) → (b : Bool) → isImpossible (answered rs goals) ≡ b
           → (require b 63 0 >> answer (walk (clashes (answered rs) goals) (length goals) [])) ≡ answer is → Clashing t goals is
       go rs a true z q =
           let s : walk (clashes (answered rs) goals) (length goals) [] ≡ is = cc in
-          rw s at (clashing t rs all (a .0) goals (a .1 .below) (a .1 .some) z)
+          rw s at (clashing t rs all (a .0) goals (a .1 .below) (list-met goals (a .1 .list) .0) z)
       go rs a false z q = refused-no q
 
   kept-by : (o : Outcome (List ℕ)) → clash t goals w ≡ o → clashedOf o .number ≡ 0 → Clashing t goals (take (clashedOf o .count) (clashedOf o .kept))
@@ -106,7 +106,7 @@ module _ (t goals w : List ℕ) (all : Bytes t) where
   exact-by : (rs : List Node) → asked t goals 0 0 (length w) ≡ answer rs → (clashedOf (argued (answered rs) goals) .number ≡ 63) ⇔ ((v : List ℕ) × Satisfies t goals v)
   exact-by rs q =
       let a = asked-read t goals 0 0 (length w) q in
-      go (isImpossible (answered rs goals)) refl (possible-exact t rs all (a .0) goals (a .1 .below) (a .1 .some))
+      go (isImpossible (answered rs goals)) refl (possible-exact t rs all (a .0) goals (a .1 .below) (list-met goals (a .1 .list) .0))
     where
       go : (b : Bool) → isImpossible (answered rs goals) ≡ b → (isImpossible (answered rs goals) ≡ false) ⇔ ((v : List ℕ) × Satisfies t goals v)
           → (clashedOf (require b 63 0 >> answer (walk (clashes (answered rs) goals) (length goals) [])) .number ≡ 63) ⇔ ((v : List ℕ) × Satisfies t goals v)
@@ -129,12 +129,12 @@ module _ (t goals w : List ℕ) (all : Bytes t) where
   unfolding clash
   refuses r f e q = clashes-by r (e ∙ rw q) (λ number place z. refl)
 
-  module _ {x : List ℕ} {n : ℕ} (p : Prepared t goals 0 0 (length w) x n) where
+  module _ {x : List ℕ} {n : ℕ} (p : Prepared (listRow goals) t goals 0 0 (length w) x n) where
     -- the questions over the index are those over the nodes
     same-answers : (is : List ℕ) → asks (indexNode x) n (picked goals is) ≡ answered (p .nodes) (picked goals is)
     same-answers is =
         let a = asked-read t goals 0 0 (length w) (p .answered) in
-        let d = D t (p .nodes) all (a .0) goals (a .1 .below) (a .1 .some) in
+        let d = D t (p .nodes) all (a .0) goals (a .1 .below) (list-met goals (a .1 .list) .0) in
         let fits : Below (length (p .nodes)) (picked goals is) =
         picked-fit Setting (says t) (FilledBy (p .nodes)) (λ l. l < 2 * length (p .nodes)) (answered (p .nodes)) d goals (a .1 .below) is in
         ap answerOf (searches-in p (picked goals is) (rw (p .count) at fits))

@@ -12,7 +12,7 @@ use Rattle.scope.proofs.Tests.{refused-no, bound}
 use Rattle.codec.specs.Valid.{Bytes}
 use Rattle.calculus.specs.Order.{Answer, possible, impossible, unfinished, answerOf}
 use Rattle.calculus.specs.Model.{All}
-use Rattle.calculus.specs.Decide.{Decided as Given, asked, decided, decide, settingsAfter, _⇔_}
+use Rattle.calculus.specs.Decide.{Decided as Given, listRow, asked, decided, decide, settingsAfter, _⇔_}
 use Rattle.index.specs.Index.{indexNode}
 use Rattle.asking.specs.Asks.{Prepared}
 use Rattle.asking.proofs.Models.{all-filled}
@@ -76,7 +76,7 @@ module _ (t goals s w : List ℕ) (all : Bytes t) where
       let d = refused-by q in
       decides t goals s w all (Refused f) (rw d) (rw d) (λ g z. refl)
 
-  module _ {x : List ℕ} {n : ℕ} (p : Prepared t goals 1024 (length s) (length w) x n) where
+  module _ {x : List ℕ} {n : ℕ} (p : Prepared (listRow goals) t goals 1024 (length s) (length w) x n) where
     pub roomy : Room x n s w
     roomy = record { points = p .points; settings = p .admitted .settings; work = p .admitted .work }
 

@@ -9,7 +9,7 @@ use Rattle.scope.proofs.Tests.{refused-no, bound}
 use Rattle.codec.specs.Valid.{Bytes}
 use Rattle.calculus.specs.Expansion.{expand}
 use Rattle.calculus.specs.Order.{Tree, tree}
-use Rattle.calculus.specs.Decide.{nodesOf, asked}
+use Rattle.calculus.specs.Decide.{nodesOf, listRow, asked}
 use Rattle.index.specs.Index.{indexNode}
 use Rattle.rules.specs.declared.Step.{Step}
 use Rattle.rules.specs.declared.Version.{Version}
@@ -71,7 +71,7 @@ module _ (v : Version) (t goals w d : List ℕ) (all : Bytes t) where
       let z = refused-by q in
       derives (Refused f) (rw z) (rw z) (λ number place a. refl)
 
-  module _ {x : List ℕ} {n : ℕ} (p : Prepared t goals 0 0 (length w) x n) where
+  module _ {x : List ℕ} {n : ℕ} (p : Prepared (listRow goals) t goals 0 0 (length w) x n) where
     -- the steps over the index are those over the nodes
     steps-in : namedSteps v (expand (indexNode x)) goals (tree (expand (indexNode x)) goals n []) ≡ derivationOf v (p .nodes) goals
     steps-in =

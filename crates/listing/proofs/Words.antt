@@ -11,7 +11,7 @@ use Rattle.scope.specs.Calls.{tableCount}
 use Rattle.scope.proofs.Tests.{refused-no, bound}
 use Rattle.calculus.specs.Order.{Answer, possible, impossible, unfinished, answerOf}
 use Rattle.calculus.specs.Decide.{searchOf, decide}
-use Rattle.calculus.proofs.Asked.{asked-fine}
+use Rattle.calculus.proofs.Asked.{list-fine, asked-fine}
 use Rattle.deciding.specs.declared.Decided.{Decided}
 use Rattle.deciding.specs.declared.Decided.the-variants.{Possible, Impossible, Refused}
 use Rattle.deciding.specs.Decides.{decidedOf, wordOf}
@@ -34,7 +34,7 @@ pub judged : (t : List ℕ) {goal l : ℕ} → l ≡ goal → (s w : List ℕ) (
 unfolding decide
 judged t {goal} z s w r points area e rs reads inside =
     same-word r (answerOf (searchOf rs (goal ∷ [])))
-    (e ∙ rw (z, asked-fine t (goal ∷ []) 1024 (length s) (length w) reads (record { some = omega arith; most = omega arith; below = (inside, tt); settings = points; work = area })))
+    (e ∙ rw (z, asked-fine t (goal ∷ []) 1024 (length s) (length w) reads (record { list = list-fine (goal ∷ []) (omega arith) (omega arith); below = (inside, tt); settings = points; work = area })))
 
 -- a node's line, of the words of its two literals
 pub line-of : (rs : List Node) (n : ℕ) {yes no : List ℕ} → yes ≡ answerWord rs (2 * n) → no ≡ answerWord rs (2 * n + 1)

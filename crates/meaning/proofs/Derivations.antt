@@ -22,7 +22,7 @@ use Rattle.calculus.specs.Expansion.{expand}
 use Rattle.calculus.specs.Order.{Answer, possible, impossible, unfinished, answerOf}
 use Rattle.calculus.specs.Model.{All, Table, mostGoals, Below}
 use Rattle.calculus.specs.Decide.{nodesOf, searchOf, asked, Satisfies, Unsatisfiable}
-use Rattle.calculus.proofs.Asked.{asked-read}
+use Rattle.calculus.proofs.Asked.{list-met, asked-read}
 use Rattle.calculus.proofs.Lists.{all-at, all-imply}
 use Rattle.calculus.proofs.Search.{never-cut}
 use Rattle.rules.specs.declared.Step.{Step}
@@ -152,7 +152,7 @@ module _ (t : List ℕ) (all : Bytes t) (goals : List ℕ) where
   unfolding check
   own-accepted v w rs e q h =
       let a = asked-read t goals 0 0 (length w) e in
-      rw e (own-checked t rs all (a .0) goals (a .1 .below) (a .1 .most) q v h)
+      rw e (own-checked t rs all (a .0) goals (a .1 .below) (list-met goals (a .1 .list) .1) q v h)
 
   module _ (v : Version) (w d : List ℕ) where
     -- 30: some setting makes all goals true

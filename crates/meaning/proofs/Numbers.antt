@@ -14,7 +14,7 @@ use Rattle.scope.proofs.Tests.{refused-no, by-test}
 use Rattle.calculus.specs.Expansion.{expand}
 use Rattle.calculus.specs.Order.{answerOf}
 use Rattle.calculus.specs.Model.{mostGoals}
-use Rattle.calculus.specs.Decide.{nodesOf, searchOf, goalRow, goalsTest, rowsTest, asked, decided, decide}
+use Rattle.calculus.specs.Decide.{nodesOf, searchOf, listRow, goalRow, goalsTest, rowsTest, askedBy, asked, decided, decide}
 use Rattle.rules.specs.declared.Step.{Step}
 use Rattle.rules.specs.declared.Version.{Version}
 use Rattle.rules.specs.Steps.{formatOf, derivations, versionOf, stepAt, stepOk, ruleIn, formRow, sizeOk, formTest, decodeSteps, encodeSteps}
@@ -44,7 +44,7 @@ module _ {A : Type 0} where
   then (answer b) f h k = k b
   then (refused number place) f h k = refuses number place (h .positive number place refl)
 
-row : (t : Bool) (number place : ℕ) → 0 < number → Numbered (require t number place)
+pub row : (t : Bool) (number place : ℕ) → 0 < number → Numbered (require t number place)
 row true number place h = gives tt
 row false number place h = refuses number place h
 
@@ -87,15 +87,20 @@ table-numbered t =
     (rowed (lengthOk (length t)) 10 0 (first (blockRows t) 0 (length t / 512)) (omega arith) (each (blockRows t) (blocks-numbered t) (length t / 512) 0))
     (gives (listFrom (nodeAt t) 0 (recordsIn tables t)))
 
-pub asked-numbered : (t goals : List ℕ) (needed points area : ℕ) → Numbered (asked t goals needed points area)
-unfolding asked rowsTest
-asked-numbered t goals needed points area =
+pub by-numbered : (listed : Outcome (Unit {0})) → Numbered listed → (t goals : List ℕ) (needed points area : ℕ)
+    → Numbered (askedBy listed t goals needed points area)
+unfolding askedBy rowsTest
+by-numbered listed h t goals needed points area =
     then (decode t) _ (table-numbered t)
-    (λ rs. also (rowsTest (length rs) goals needed points area) (answer rs)
-    (also (goalsTest (length rs) goals) _ (rowed (ltb 0 (length goals) && leb (length goals) mostGoals) 62 0 _ (omega arith)
-    (each (goalRow (length rs) goals) (λ i. row (ltb (getD goals i 0) (2 * length rs)) 20 i (omega arith)) (length goals) 0))
-    (rowed (leb needed points) 21 0 _ (omega arith) (row (leb 32768 area) 23 0 (omega arith))))
+    (λ rs. also (rowsTest listed (length rs) goals needed points area) (answer rs)
+    (also listed _ h
+    (also (goalsTest (length rs) goals) _
+    (each (goalRow (length rs) goals) (λ i. row (ltb (getD goals i 0) (2 * length rs)) 20 i (omega arith)) (length goals) 0)
+    (rowed (leb needed points) 21 0 _ (omega arith) (row (leb 32768 area) 23 0 (omega arith)))))
     (gives rs))
+
+pub asked-numbered : (t goals : List ℕ) (needed points area : ℕ) → Numbered (asked t goals needed points area)
+asked-numbered t goals = by-numbered (listRow goals) (row (ltb 0 (length goals) && leb (length goals) mostGoals) 62 0 (omega arith)) t goals
 
 -- ---- the calls
 

@@ -8,7 +8,7 @@ use lib.ListN.{length}
 use Rattle.scope.specs.declared.Node.{Node}
 use Rattle.scope.specs.Outcome.{Outcome, answer, refused, fine, require, first, _>>_, _>>=_}
 use Rattle.scope.specs.Table.{decode}
-use Rattle.calculus.specs.Decide.{rowsTest, asked, decide}
+use Rattle.calculus.specs.Decide.{listRow, rowsTest, askedBy, asked, decide}
 use Rattle.rules.specs.Derive.{check}
 use Rattle.rules.specs.OneGoal.{askedOne, decideOne, checkOne}
 use Rattle.rules.specs.Earlier.{Earlier}
@@ -24,10 +24,10 @@ rows-one rs true true false = refl
 rows-one rs true true true = refl
 
 asked-one : (t : List ℕ) (goal needed points area : ℕ) → asked t (goal ∷ []) needed points area ≡ askedOne t goal needed points area
-unfolding asked rowsTest first
+unfolding askedBy rowsTest first
 asked-one t goal needed points area = go (decode t)
   where
-    go : (o : Outcome (List Node)) → (o >>= λ rs. rowsTest (length rs) (goal ∷ []) needed points area >> answer rs)
+    go : (o : Outcome (List Node)) → (o >>= λ rs. rowsTest (listRow (goal ∷ [])) (length rs) (goal ∷ []) needed points area >> answer rs)
         ≡ (o >>= λ rs. require (ltb goal (2 * length rs)) 20 0 >> (require (leb needed points) 21 0 >> (require (leb 32768 area) 23 0 >> answer rs)))
     go (answer rs) = rows-one rs (ltb goal (2 * length rs)) (leb needed points) (leb 32768 area)
     go (refused number place) = refl

@@ -19,7 +19,7 @@ use Rattle.calculus.specs.Order.{Answer, mem, valueOf, stateOf, some, firstOf, 
 use Rattle.calculus.specs.Model.{All}
 use Rattle.calculus.proofs.Lists.{every, every-all, all-at, all-imply}
 use Rattle.calculus.specs.Decide.{nodesOf, searchOf, settingsOn, asked, decide}
-use Rattle.calculus.proofs.Asked.{asked-fine}
+use Rattle.calculus.proofs.Asked.{list-fine, asked-fine}
 use Rattle.rules.specs.declared.Step.{Step}
 use Rattle.rules.specs.declared.Version.{Version}
 use Rattle.rules.specs.Steps.{U, stepOk, ruleIn, encodeSteps, decodeSteps}
@@ -89,7 +89,7 @@ module _ (goal : ℕ) (inside : ltb goal 20 ≡ true) where
   asks : (needed points area : ℕ) → needed ≤ points → 32768 ≤ area → asked tableA (goal ∷ []) needed points area ≡ answer nodesA
   asks needed points area long work =
       asked-fine tableA (goal ∷ []) needed points area reads
-      (record { some = omega arith; most = omega arith; below = (ltb-true goal (2 * length nodesA) goal-ok, tt); settings = long; work = work })
+      (record { list = list-fine (goal ∷ []) (omega arith) (omega arith); below = (ltb-true goal (2 * length nodesA) goal-ok, tt); settings = long; work = work })
 
   decides : (s w : List ℕ) → 1024 ≤ length s → 32768 ≤ length w
       → decide tableA (goal ∷ []) s w ≡ answer (record { verdict = searchA goal; settings = settingsOn nodesA s (searchA goal) })

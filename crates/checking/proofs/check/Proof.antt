@@ -2,6 +2,7 @@
 use borrow.Author.Needs.{needs}
 use Rattle.codec.specs.Valid.{Bytes}
 use Rattle.asking.proofs.Answers.{ask-refused}
+use Rattle.asking.proofs.Nodes.{goals-in}
 use Rattle.checking.proofs.Answers.{refuses, ends}
 use Rattle.checking.proofs.check.Statement.{statement}
 use Rattle.checking.proofs.check.Tie as tie
@@ -28,12 +29,12 @@ slice-aggregate-replayed c = search needs
 replayed-requires : tie.Need-replayed-requires
 replayed-requires c κs =
     let p = c .before .before .before .before .before .before .ask .ensures .prepared _ (c .before .before .before .a2 .given .1) in
-    (p .indexed, (p .literals, p .admitted .work))
+    (p .indexed, (goals-in p, p .admitted .work))
 
 returns : tie.Need-returns
 returns c =
     let k = c .before .before .before .before in
-    refuses _ _ _ _ (bytes (k .before .before .before .before .before)) _ (ask-refused _ _ _ _ _ _ (k .ask .ensures) (c .before .a .given .1))
+    refuses _ _ _ _ (bytes (k .before .before .before .before .before)) _ (ask-refused _ _ _ _ _ _ _ (k .ask .ensures) (c .before .a .given .1))
 
 same-length : tie.Need-same-length
 same-length c = search needs

@@ -1,6 +1,7 @@
 -- `clashing::clash` meets its contract: a refusal is the first row's that refuses, and else the walk answers. Assumes nothing.
 use Rattle.codec.specs.Valid.{Bytes}
 use Rattle.asking.proofs.Answers.{ask-refused}
+use Rattle.asking.proofs.Nodes.{goals-in}
 use Rattle.clashing.proofs.Answers.{refuses, ends}
 use borrow.Author.Needs.{needs}
 use Rattle.clashing.proofs.clash.Statement.{statement}
@@ -32,12 +33,12 @@ argue-requires : tie.Need-argue-requires
 argue-requires c κs =
     let k = c .before .before .before .before .before .before in
     let p = k .ask .ensures .prepared _ (c .before .before .before .a2 .given .1) in
-    (p .indexed, (p .literals, p .admitted .work))
+    (p .indexed, (goals-in p, p .admitted .work))
 
 returns : tie.Need-returns
 returns c =
     let k = c .before .before .before .before .before in
-    refuses _ _ _ (bytes (k .before .before .before .before)) _ _ (c .refuse .ensures) (ask-refused _ _ _ _ _ _ (k .ask .ensures) (c .before .before .a .given .1))
+    refuses _ _ _ (bytes (k .before .before .before .before)) _ _ (c .refuse .ensures) (ask-refused _ _ _ _ _ _ _ (k .ask .ensures) (c .before .before .a .given .1))
 
 same-length : tie.Need-same-length
 same-length c = search needs

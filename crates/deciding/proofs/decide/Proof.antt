@@ -2,6 +2,7 @@
 use borrow.Author.Needs.{needs}
 use Rattle.codec.specs.Valid.{Bytes}
 use Rattle.asking.proofs.Answers.{ask-refused}
+use Rattle.asking.proofs.Nodes.{goals-in}
 use Rattle.deciding.proofs.Answers.{refuses, roomy, ends}
 use Rattle.deciding.proofs.decide.Statement.{statement}
 use Rattle.deciding.proofs.decide.Tie as tie
@@ -29,12 +30,12 @@ solve-requires : tie.Need-solve-requires
 solve-requires c κs =
     let k = c .before .before .before .before .before .before .before in
     let p = k .ask .ensures .prepared _ (c .before .before .before .before .a2 .given .1) in
-    (p .indexed, (p .literals, roomy _ _ _ _ (bytes (k .before .before .before .before .before)) p))
+    (p .indexed, (goals-in p, roomy _ _ _ _ (bytes (k .before .before .before .before .before)) p))
 
 returns : tie.Need-returns
 returns c =
     let k = c .before .before .before .before in
-    refuses _ _ _ _ (bytes (k .before .before .before .before .before)) _ (ask-refused _ _ _ _ _ _ (k .ask .ensures) (c .before .a .given .1))
+    refuses _ _ _ _ (bytes (k .before .before .before .before .before)) _ (ask-refused _ _ _ _ _ _ _ (k .ask .ensures) (c .before .a .given .1))
 
 same-length : tie.Need-same-length
 same-length c = search needs

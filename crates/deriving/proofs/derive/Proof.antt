@@ -2,6 +2,7 @@
 use borrow.Author.Needs.{needs}
 use Rattle.codec.specs.Valid.{Bytes}
 use Rattle.asking.proofs.Answers.{ask-refused}
+use Rattle.asking.proofs.Nodes.{goals-in}
 use Rattle.deriving.proofs.Answers.{refuses, ends}
 use Rattle.deriving.proofs.derive.Statement.{statement}
 use Rattle.deriving.proofs.derive.Tie as tie
@@ -28,12 +29,12 @@ slice-aggregate-produce c = search needs
 produce-requires : tie.Need-produce-requires
 produce-requires c κs =
     let p = c .before .before .before .before .before .before .before .ask .ensures .prepared _ (c .before .before .before .before .a2 .given .1) in
-    (p .indexed, (p .literals, p .admitted .work))
+    (p .indexed, (goals-in p, p .admitted .work))
 
 returns : tie.Need-returns
 returns c =
     let k = c .before .before .before .before in
-    refuses _ _ _ _ _ (bytes (k .before .before .before .before .before)) _ (ask-refused _ _ _ _ _ _ (k .ask .ensures) (c .before .a .given .1))
+    refuses _ _ _ _ _ (bytes (k .before .before .before .before .before)) _ (ask-refused _ _ _ _ _ _ _ (k .ask .ensures) (c .before .a .given .1))
 
 same-length : tie.Need-same-length
 same-length c = search needs
