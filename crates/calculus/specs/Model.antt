@@ -56,9 +56,13 @@ Below n ls = All (λ l. l < 2 * n) ls
 abbrev pub mostGoals : ℕ
 mostGoals = 64
 
--- not too many goals, literals of n nodes
+-- what one search has room for: as many goals, and 16 literals more
+abbrev pub mostLiterals : ℕ
+mostLiterals = 80
+
+-- not too many literals to search for, of n nodes
 pub record Goals (n : ℕ) (goals : List ℕ) : Type 0 where
-  pub most : length goals ≤ mostGoals
+  pub most : length goals ≤ mostLiterals
   pub below : Below n goals
 
 -- a literal of n nodes that may join G
