@@ -27,6 +27,7 @@ use Rattle.questions.proofs.Answers.{picked-fit, is-possible, not-impossible}
 use Rattle.questions.proofs.Settings.{made, making, some-node, decides}
 use Rattle.clashing.specs.Clash.{clashes, walk, argued, clash}
 use Rattle.clashing.specs.Clashes.{clashedOf, Clashing, Clashes}
+use Rattle.clashing.specs.Walks.{Passed}
 use Rattle.clashing.specs.declared.Clashed.{Clashed}
 use Rattle.clashing.proofs.Walks.{walk-same, walk-rises, walk-clashes}
 use Rattle.clashing.proofs.Keeps.{clashes-same, clashes-whole, no-clash, a-clash, kept-needed}
@@ -78,6 +79,10 @@ unfolding clash
 clash-numbered t goals w =
     then (asked t goals 0 0 (length w)) _ (asked-numbered t goals 0 0 (length w))
     (λ rs. rowed (isImpossible (answered rs goals)) 63 0 _ (omega arith) (gives (walk (clashes (answered rs) goals) (length goals) [])))
+
+-- goals that were asked passed
+pub passed : {t goals : List ℕ} {needed lent area : ℕ} {x : List ℕ} {n : ℕ} → Prepared (listRow goals) t goals needed lent area x n → Passed n goals
+passed {goals = goals} p = record { most = list-met goals (p .admitted .list) .1; below = p .admitted .below }
 
 module _ (t goals w : List ℕ) (all : Bytes t) where
   clash-asked : {rs : List Node} → asked t goals 0 0 (length w) ≡ answer rs → clash t goals w ≡ argued (answered rs) goals

@@ -18,14 +18,18 @@ use Rattle.searching.specs.Search.{foundOf, Solved}
 use Rattle.searching.specs.declared.Found.{Found}
 use Rattle.searching.specs.declared.Found.the-variants.{Model, Closed}
 use Rattle.clashing.specs.Clash.{clashes, walk, argued}
-use Rattle.clashing.specs.Walks.{Fitting, Listed, Walked}
+use Rattle.clashing.specs.Walks.{Passed, Fitting, Listed, Walked}
 use Rattle.clashing.specs.Clashes.{clashedOf}
 use Rattle.clashing.proofs.Walks.{walk-drops, walk-keeps, walk-ends}
 use Rattle.clashing.proofs.Keeps.{clashes-none, clashes-some}
 
 -- ---- the question
 
-module _ {n : ℕ} {goals kept : List ℕ} {first : ℕ} {list : List ℕ} {i : ℕ} (g : Goals n goals) (w : Walked goals kept first list i) where
+-- all goals may be put together
+pub together : {n : ℕ} {goals : List ℕ} → Passed n goals → Goals n goals
+together g = record { most = omega (arith, g .most); below = g .below }
+
+module _ {n : ℕ} {goals kept : List ℕ} {first : ℕ} {list : List ℕ} {i : ℕ} (g : Passed n goals) (w : Walked goals kept first list i) where
   kept-size : length (drop first kept) ≡ mostGoals - first
   kept-size = length-drop first kept ∙ ap (_- first) (w .held .size)
 
@@ -98,7 +102,7 @@ take-less : (i j : ℕ) (xs ys : List ℕ) → j ≤ i → take i xs ≡ take i 
 take-less i j xs ys h e = sym (take-take j i xs h) ∙ ap (take j) e ∙ take-take j i ys h
 
 module _ {test : List ℕ → Bool} {n : ℕ} {goals kept : List ℕ} {first : ℕ} {list : List ℕ} {i : ℕ}
-    (g : Goals n goals) (b : 0 < i) (m : Narrowing test goals kept first list i) where
+    (g : Passed n goals) (b : 0 < i) (m : Narrowing test goals kept first list i) where
   -- the goal before i is looked at
   pub turn-walked : Walked goals kept first list (i - 1)
   turn-walked = record {

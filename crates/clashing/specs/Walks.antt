@@ -3,8 +3,13 @@ use mathlib.Core.Path.{_≡_}
 use mathlib.Core.List.{List, _++_}
 use Prim.Native.Nat.{ℕ, _+_, _-_, _<_, _≤_}
 use lib.ListN.{length, take, drop}
-use Rattle.calculus.specs.Model.{All, mostGoals}
+use Rattle.calculus.specs.Model.{All, mostGoals, Below}
 use Rattle.questions.specs.Indices.{Rising, picked}
+
+-- goals that rows 62 and 20 let pass, so that an index of each fits an array of 64
+pub record Passed (n : ℕ) (goals : List ℕ) : Type 0 where
+  pub most : length goals ≤ mostGoals
+  pub below : Below n goals
 
 -- the indices kept, from `first` on
 pub record Held (kept : List ℕ) (first : ℕ) : Type 0 where

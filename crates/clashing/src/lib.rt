@@ -7,14 +7,13 @@ ghost use mathlib.Core.List.{[]};
 ghost use Prim.Native.Nat.{_≤_};
 ghost use lib.ListN.{length, take, drop};
 ghost use Rattle.scope.specs.Outcome.{answer, refused};
-ghost use Rattle.calculus.specs.Model.{Goals};
 ghost use Rattle.index.specs.Index.{indexNode};
 ghost use Rattle.index.specs.Indexed.{Indexed};
 ghost use Rattle.state.specs.Work.{area};
 ghost use Rattle.questions.specs.Indices.{upTo};
 ghost use Rattle.questions.specs.Asking.{asks};
 ghost use Rattle.clashing.specs.Clash.{clashes, walk, argued};
-ghost use Rattle.clashing.specs.Walks.{Held, Fitting, Listed, Walked};
+ghost use Rattle.clashing.specs.Walks.{Passed, Held, Fitting, Listed, Walked};
 ghost use Rattle.clashing.specs.Clashes.{clashedOf, Clashes};
 
 // What clash answers: number 0 and the indices of the goals kept, in rising order, with their count, and 0 past them; or a refusal.
@@ -92,7 +91,7 @@ fn remain(
     i: usize,
 ) -> bool
     requires { ⌜ Indexed (now x) n ⌝ }
-    requires { ⌜ Goals n (now goals) ⌝ }
+    requires { ⌜ Passed n (now goals) ⌝ }
     requires { ⌜ area ≤ length (now work) ⌝ }
     requires { ⌜ Walked (now goals) (now kept) first (now list) i ⌝ }
     ensures { λ r. ⌜ r ≡ clashes (asks (indexNode (now (x .entry))) n) (now (goals .entry)) (upTo i (drop first (now (kept .entry)))) ⌝ }
@@ -113,7 +112,7 @@ fn remain(
 // The walk from last to first, of goals that are impossible together.
 fn narrow(x: &[u16], n: usize, goals: &[u16], work: &mut [u16]) -> Clashed
     requires { ⌜ Indexed (now x) n ⌝ }
-    requires { ⌜ Goals n (now goals) ⌝ }
+    requires { ⌜ Passed n (now goals) ⌝ }
     requires { ⌜ area ≤ length (now work) ⌝ }
     ensures { λ r. ⌜ r ≡ clashedOf (answer (walk (clashes (asks (indexNode (now (x .entry))) n) (now (goals .entry))) (length (now (goals .entry))) [])) ⌝ }
 {
@@ -136,7 +135,7 @@ fn narrow(x: &[u16], n: usize, goals: &[u16], work: &mut [u16]) -> Clashed
 // Which goals to argue about, over an index; 63 where all are possible together.
 fn argue(x: &[u16], n: usize, goals: &[u16], work: &mut [u16]) -> Clashed
     requires { ⌜ Indexed (now x) n ⌝ }
-    requires { ⌜ Goals n (now goals) ⌝ }
+    requires { ⌜ Passed n (now goals) ⌝ }
     requires { ⌜ area ≤ length (now work) ⌝ }
     ensures { λ r. ⌜ r ≡ clashedOf (argued (asks (indexNode (now (x .entry))) n) (now (goals .entry))) ⌝ }
 {

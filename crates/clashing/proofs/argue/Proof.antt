@@ -1,12 +1,14 @@
 -- `clashing::argue` meets its contract: 63 where the search of all goals finds a model, else the walk. Assumes nothing.
 use mathlib.Core.Path.{_∙_}
-use Rattle.clashing.proofs.Turns.{argued-model, argued-closed}
+use Rattle.clashing.proofs.Turns.{together, argued-model, argued-closed}
 use borrow.Author.Needs.{needs}
 use Rattle.clashing.proofs.argue.Statement.{statement}
 use Rattle.clashing.proofs.argue.Tie as tie
 
 solve-requires : tie.Need-solve-requires
-solve-requires c κs = search needs
+solve-requires c κs =
+    let s = c .before .before .before .before in
+    (s .pre .0, (together (s .pre .1 .0), s .pre .1 .1))
 
 enum-told : tie.Need-enum-told
 enum-told c = search needs

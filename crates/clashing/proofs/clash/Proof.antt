@@ -1,8 +1,7 @@
 -- `clashing::clash` meets its contract: a refusal is the first row's that refuses, and else the walk answers. Assumes nothing.
 use Rattle.codec.specs.Valid.{Bytes}
 use Rattle.asking.proofs.Answers.{ask-refused}
-use Rattle.asking.proofs.Nodes.{goals-in}
-use Rattle.clashing.proofs.Answers.{refuses, ends}
+use Rattle.clashing.proofs.Answers.{refuses, passed, ends}
 use borrow.Author.Needs.{needs}
 use Rattle.clashing.proofs.clash.Statement.{statement}
 use Rattle.clashing.proofs.clash.Tie as tie
@@ -33,7 +32,7 @@ argue-requires : tie.Need-argue-requires
 argue-requires c κs =
     let k = c .before .before .before .before .before .before in
     let p = k .ask .ensures .prepared _ (c .before .before .before .a2 .given .1) in
-    (p .indexed, (goals-in p, p .admitted .work))
+    (p .indexed, (passed p, p .admitted .work))
 
 returns : tie.Need-returns
 returns c =
