@@ -51,7 +51,7 @@ fn set_point(x: &[u16], n: usize, work: &[u16], settings: &mut [u8], i: usize)
 }
 
 // The setting of the literals held.
-fn set_points(x: &[u16], n: usize, work: &[u16], settings: &mut [u8])
+pub fn set_points(x: &[u16], n: usize, work: &[u16], settings: &mut [u8])
     requires { ⌜ Points (now x) n (now work) (now settings) ⌝ }
     ensures { λ _. ⌜ now (settings .exit) ≡ settingOf (listFrom (indexNode (now (x .entry))) 0 n) (gOf (now (work .entry))) ++ drop 1024 (now (settings .entry)) ⌝ }
 {
