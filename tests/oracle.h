@@ -10,8 +10,8 @@ typedef struct { unsigned number; size_t place; size_t nodes; } o_read;
 typedef struct { uint8_t kind; unsigned a, b; } o_node;
 typedef struct { unsigned number; size_t place; } o_told;
 
-/* A list of goals; 65 do not pass. */
-typedef struct { size_t count; uint16_t goal[65]; } o_list;
+/* A list of goals, of which 65 do not pass, or of 64 goals and 16 wishes. */
+typedef struct { size_t count; uint16_t goal[80]; } o_list;
 
 static inline o_told o_no(unsigned number, size_t place)
 {

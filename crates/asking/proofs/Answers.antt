@@ -74,3 +74,12 @@ module _ (listed : Outcome (Unit {0})) (t goals : List ℕ) (needed points area 
       go : (o : Outcome (List Node)) → (o >>= λ rs. answer (length rs)) ≡ refused (f .number) (f .place) → o ≡ refused (f .number) (f .place)
       go (answer rs) e = refused-no (sym e)
       go (refused number place) e = cc
+
+-- where the row on the list refuses, it is the same whatever the list is
+pub asks-other : (listed : Outcome (Unit {0})) (t goals other : List ℕ) (needed points area : ℕ) {x : List ℕ} {r : Counted} {number place : ℕ}
+    → listed ≡ refused number place → Asks listed t goals needed points area x r → Asks listed t other needed points area x r
+unfolding askedBy rowsTest
+asks-other listed t goals other needed points area e a = record {
+  answered = a .answered ∙ rw e;
+  prepared = λ n q. refused-no (sym e ∙ a .prepared n q .admitted .list);
+}

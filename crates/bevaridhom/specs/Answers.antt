@@ -2,7 +2,8 @@
 use mathlib.Core.Path.{_≡_}
 use mathlib.Core.Bool.{true, cond}
 use mathlib.Core.List.{List, [], _∷_, _++_}
-use Prim.Native.Nat.{ℕ, _-_, _≤_}
+use mathlib.Core.Logic.{_⊎_}
+use Prim.Native.Nat.{ℕ, suc, _-_, _^_, _≤_}
 use lib.Dec.{eqb}
 use lib.ListN.{length, take, replicate}
 use Rattle.scope.specs.declared.Node.{Node}
@@ -24,6 +25,10 @@ use Rattle.published.specs.Bytes.{PublishedBytes}
 use Rattle.deciding.specs.Decides.{Word, can, cannot, nothing, wordOf}
 use Rattle.clashing.specs.Clash.{clash}
 use Rattle.clashing.specs.Clashes.{Clashing}
+use Rattle.wishing.specs.Wish.{count}
+use Rattle.wishing.specs.Call.{wishesAsked, Granted, grant, grantedAfter}
+use Rattle.granting.specs.declared.Grant.{Grant}
+use Rattle.wishes.specs.Wishes.{grantOf}
 use Rattle.adding.specs.declared.Mark.{Mark}
 use Rattle.cnf.specs.Text.{File, fileOf}
 use Rattle.cnf.specs.Meaning.{clausesTrue}
@@ -37,6 +42,7 @@ use Rattle.bevaridhom.specs.declared.BevDecided.{BevDecided}
 use Rattle.bevaridhom.specs.declared.BevClashed.{BevClashed}
 use Rattle.bevaridhom.specs.declared.BevDerived.{BevDerived}
 use Rattle.bevaridhom.specs.declared.BevChecked.{BevChecked}
+use Rattle.bevaridhom.specs.declared.BevWished.{BevWished}
 use Rattle.bevaridhom.specs.declared.BevOpened.{BevOpened}
 use Rattle.bevaridhom.specs.declared.BevStep.{BevStep}
 use Rattle.step_reader.specs.Handed.{Next, one, none}
@@ -135,6 +141,31 @@ pub record HostChecks (t goals w d w′ : List ℕ) (r : BevChecked) : Type 0 wh
   pub only : r .number ≡ 0 → stepAt d 0 .rule ≡ 71 → (u others v : List ℕ) → check u others v d ≡ fine → goals ≡ others
   pub ours : (v : Version) (rs : List Node) → asked t goals 0 0 (length w) ≡ answer rs → answerOf (searchOf rs goals) ≡ impossible
       → length (encodeSteps v (derivationOf v rs goals)) ≤ 33554432 → d ≡ encodeSteps v (derivationOf v rs goals) → r .number ≡ 0
+
+-- the wishes met, the bound and the questions put
+abbrev pub wishesAnswer : Outcome Grant → BevWished
+wishesAnswer (answer g) = record { number = 0; place = 0; met = g .met; bound = g .bound; questions = g .questions }
+wishesAnswer (refused n p) = record { number = n; place = p; met = 0; bound = 0; questions = 0 }
+
+-- wishes for a host: its numbers, the settings bytes, a work area that a refusal up to 23 leaves as it was, and what the answer means: for
+-- every way of filling the settings' 2s all goals are true and `met` wishes, no setting that makes all goals true makes more than `bound`
+-- wishes true, the questions put do not exceed the allowance, which is spent where `met` is below `bound`; a larger allowance never lowers
+-- `met` or raises `bound`, and 2 ^ wishes - 1 questions are enough for both to be equal. Behind these rows 67 is said exactly when no
+-- setting makes all goals true
+pub record HostWishes (t goals wishes : List ℕ) (m : ℕ) (s w s′ w′ : List ℕ) (r : BevWished) : Type 0 where
+  pub answered : r ≡ wishesAnswer (grant t goals wishes m s w >>= λ d. answer (grantOf (d .wished)))
+  pub settings : s′ ≡ grantedAfter s (grant t goals wishes m s w)
+  pub work : (number place : ℕ) → wishesAsked t goals wishes (length s) (length w) ≡ refused number place → w′ ≡ w
+  pub alone : (rs : List Node) → wishesAsked t goals wishes (length s) (length w) ≡ answer rs → (r .number ≡ 67) ⇔ Unsatisfiable t goals
+  pub met : r .number ≡ 0 → (rs : List Node) → decode t ≡ answer rs → (f : List ℕ) → Fills s′ f
+      → All (λ l. truth f rs l ≡ true) goals × (r .met ≤ count (truth f rs) wishes)
+  pub bound : r .number ≡ 0 → (rs : List Node) → decode t ≡ answer rs → (v : List ℕ) → All (λ l. truth v rs l ≡ true) goals
+      → count (truth v rs) wishes ≤ r .bound
+  pub within : r .number ≡ 0 → r .questions ≤ m
+  pub stopped : r .number ≡ 0 → (r .met ≡ r .bound) ⊎ (r .questions ≡ m)
+  pub larger : r .number ≡ 0 → (l : ℕ) → m ≤ l
+      → (h : Granted) × (grant t goals wishes l s w ≡ answer h) × ((r .met ≤ h .wished .k) × (h .wished .u ≤ r .bound))
+  pub enough : r .number ≡ 0 → 2 ^ length wishes ≤ suc m → r .met ≡ r .bound
 
 abbrev pub versionNumber : Version → ℕ
 versionNumber One = 1

@@ -4,7 +4,7 @@ ghost use Rattle.scope.specs.Calls.{tableCount, tableRecord, evaluate, add, byt
 ghost use Rattle.steps.specs.Opened.{stepCount};
 ghost use Rattle.rules.specs.Steps.{versionOf};
 ghost use Rattle.step_reader.specs.Handed.{stepHanded};
-ghost use Rattle.bevaridhom.specs.Answers.{countAnswer, recordAnswer, truthNumber, truthAnswer, addAnswer, versionAsked, versionNumber, openAnswer, stepAnswer, HostDecides, HostClashes, HostDerives, HostChecks, HostReads};
+ghost use Rattle.bevaridhom.specs.Answers.{countAnswer, recordAnswer, truthNumber, truthAnswer, addAnswer, versionAsked, versionNumber, openAnswer, stepAnswer, HostDecides, HostClashes, HostDerives, HostChecks, HostWishes, HostReads};
 use adding::Added;
 use checking::Checked;
 use deciding::Decided;
@@ -16,6 +16,7 @@ use step_reader::Handed;
 use steps::Opened;
 use table::Counted;
 use truth::Evaluated;
+use wishes::Wished;
 
 // In each answer: number 0 and the values, or the refusal's number and place and every value 0.
 #[repr(C)]
@@ -266,6 +267,47 @@ pub extern "C" fn bev_check(t: &[u8], goals: &[u16], w: &mut [u16], d: &[u8]) ->
         Checked::Refused(f) => BevChecked {
             number: f.number,
             place: f.place,
+        },
+    }
+}
+
+#[repr(C)]
+pub struct BevWished {
+    pub number: u16,
+    pub place: usize,
+    pub met: usize,
+    pub bound: usize,
+    pub questions: usize,
+}
+
+// A setting that makes the goals true, and as many wishes as an allowance of questions finds: how many for certain, how many at most, and
+// the questions put.
+#[no_mangle]
+pub extern "C" fn bev_wishes(
+    t: &[u8],
+    goals: &[u16],
+    wishes: &[u16],
+    allowance: usize,
+    s: &mut [u8],
+    w: &mut [u16],
+) -> BevWished
+    ensures { λ r. ⌜ HostWishes (now (t .entry)) (now (goals .entry)) (now (wishes .entry)) allowance (now (s .entry)) (now (w .entry)) (now (s .exit)) (now (w .exit)) r ⌝ }
+{
+    let c = wishes::grant(t, goals, wishes, allowance, s, w);
+    match c {
+        Wished::Granted(g) => BevWished {
+            number: 0,
+            place: 0,
+            met: g.met,
+            bound: g.bound,
+            questions: g.questions,
+        },
+        Wished::Refused(f) => BevWished {
+            number: f.number,
+            place: f.place,
+            met: 0,
+            bound: 0,
+            questions: 0,
         },
     }
 }

@@ -15,11 +15,12 @@ use Rattle.index.specs.Index.{indexNode}
 use Rattle.state.specs.Work.{gOf, Ready}
 use Rattle.searching.specs.declared.Found.the-variants.{Model, Closed}
 use Rattle.searching.specs.Search.{Solved}
+use Rattle.questions.specs.Asking.{asks}
 use Rattle.wishing.specs.Wish.{granted}
 use Rattle.wishing.specs.Walk.{Stage as Way, asking, stopped, heard, step, visit, visits, finish}
 use Rattle.wishing.proofs.Walks.{visit-none, visit-stopped}
 use Rattle.wishing.proofs.Wishes.{granted-walks}
-use Rattle.granting.specs.Visits.{asks, stageOf, wishedOf, Room, Listed, Gathered, Stepped, Visited, Ended, Grants}
+use Rattle.granting.specs.Visits.{stageOf, wishedOf, Room, Listed, Gathered, Stepped, Visited, Ended, Grants}
 use Rattle.granting.specs.declared.Stage.{Stage}
 use Rattle.granting.specs.declared.Grant.{Grant}
 
@@ -41,17 +42,17 @@ module _ (ask : List ℕ → Answer) (first : List ℕ) (g : ℕ) (q : List ℕ)
 module _ (x : List ℕ) (n g : ℕ) (q w : List ℕ) (st : Stage) (e : st .stopped ≡ false) where
   pub step-spent : Ready n w → st .left ≡ 0 → Stepped x n g q w w st (record { stopped = true; met = 0; bound = length q - g; put = st .put; left = 0 })
   step-spent y h = record {
-    stage = λ first. rw e (sym (step-ends (asks x n) first g q (st .put) (st .left) h));
+    stage = λ first. rw e (sym (step-ends (asks (indexNode x) n) first g q (st .put) (st .left) h));
     room = omega arith;
     ready = y;
   }
 
   module _ (w′ : List ℕ) (h : st .left ≡ 0 → ⊥) where
     -- what the answer makes of the stage
-    hears : {a : Answer} → a ≡ asks x n q → (first : List ℕ)
-        → heard a (length q - g) (st .put) (st .left - 1) ≡ step (asks x n) first g q (stageOf first w st)
+    hears : {a : Answer} → a ≡ asks (indexNode x) n q → (first : List ℕ)
+        → heard a (length q - g) (st .put) (st .left - 1) ≡ step (asks (indexNode x) n) first g q (stageOf first w st)
     hears {a} z first =
-        rw e (ap (λ (y : Answer). heard y (length q - g) (st .put) (st .left - 1)) z ∙ sym (step-asks (asks x n) first g q (st .put) (st .left) h))
+        rw e (ap (λ (y : Answer). heard y (length q - g) (st .put) (st .left - 1)) z ∙ sym (step-asks (asks (indexNode x) n) first g q (st .put) (st .left) h))
 
     pub step-found : g < length q → Solved (indexNode x) n q w′ Model
         → Stepped x n g q w w′ st (record { stopped = true; met = length q - g; bound = length q - g; put = st .put + 1; left = st .left - 1 })
@@ -129,7 +130,7 @@ module _ (n g : ℕ) (wishes list w : List ℕ) (lo s at : ℕ) (p : Listed n g 
 module _ (x : List ℕ) (n g : ℕ) (wishes list w : List ℕ) (lo s at : ℕ) (st : Stage) (p : Listed n g wishes list w lo s at) where
   pub visited-stopped : st .stopped ≡ true → Visited x n g wishes list list w w lo s at st st
   visited-stopped e = record {
-    stage = λ first. rw e (sym (visit-stopped (asks x n) first g wishes lo (length wishes - lo) s (take at list) _));
+    stage = λ first. rw e (sym (visit-stopped (asks (indexNode x) n) first g wishes lo (length wishes - lo) s (take at list) _));
     room = refl;
     kept = refl;
     ready = p .ready;
@@ -137,7 +138,7 @@ module _ (x : List ℕ) (n g : ℕ) (wishes list w : List ℕ) (lo s at : ℕ) (
 
   pub visited-few : length wishes - lo < s → Visited x n g wishes list list w w lo s at st st
   visited-few h = record {
-    stage = λ first. sym (visit-none (asks x n) first g wishes lo (length wishes - lo) s (take at list) (stageOf first w st) h);
+    stage = λ first. sym (visit-none (asks (indexNode x) n) first g wishes lo (length wishes - lo) s (take at list) (stageOf first w st) h);
     room = refl;
     kept = refl;
     ready = p .ready;
@@ -147,7 +148,7 @@ module _ (x : List ℕ) (n g : ℕ) (wishes list w : List ℕ) (lo s at : ℕ) (
   visited-leaf w′ r h q =
       let z : at - 0 ≡ at = omega arith in
       record {
-        stage = λ first. (rw z at (q .stage first)) ∙ sym (visit-leaf (asks x n) first g wishes lo (length wishes - lo) s (take at list) (stageOf first w st) h);
+        stage = λ first. (rw z at (q .stage first)) ∙ sym (visit-leaf (asks (indexNode x) n) first g wishes lo (length wishes - lo) s (take at list) (stageOf first w st) h);
         room = q .room;
         kept = refl;
         ready = q .ready;
@@ -177,7 +178,7 @@ module _ (x : List ℕ) (n g : ℕ) (wishes list w : List ℕ) (lo s at : ℕ) (
     visited-both list₂ w₂ r b = record {
       stage = λ first.
           b .stage first
-          ∙ rw (visit-parts (asks x n) first g wishes lo s (take at list) (stageOf first w st) h l, below, a .stage first, more n g wishes list w lo s at p h l);
+          ∙ rw (visit-parts (asks (indexNode x) n) first g wishes lo s (take at list) (stageOf first w st) h l, below, a .stage first, more n g wishes list w lo s at p h l);
       room = b .room ∙ a .room;
       kept = b .kept ∙ below;
       ready = b .ready;
@@ -209,7 +210,7 @@ module _ (ask : List ℕ → Answer) (first : List ℕ) (g : ℕ) (wishes : List
 -- the sizes from s on are left: with them, the walk is the whole one
 pub record Walked (x : List ℕ) (n g : ℕ) (wishes list₀ w₀ : List ℕ) (m : ℕ) (list w : List ℕ) (st : Stage) (s : ℕ) : Type 0 where
   pub stage : (first : List ℕ)
-      → visits (asks x n) first g wishes (take g list₀) s (stageOf first w st) ≡ visits (asks x n) first g wishes (take g list₀) (length wishes) (asking 0 m)
+      → visits (asks (indexNode x) n) first g wishes (take g list₀) s (stageOf first w st) ≡ visits (asks (indexNode x) n) first g wishes (take g list₀) (length wishes) (asking 0 m)
   pub room : Room st
   pub kept : take g list ≡ take g list₀
   pub lists : length list ≡ length list₀
@@ -239,9 +240,9 @@ module _ (x : List ℕ) (n g : ℕ) (wishes list₀ w₀ : List ℕ) (m : ℕ) (
         → Visited x n g wishes list list′ w w′ 0 s g st r → Walked x n g wishes list₀ w₀ m list′ w′ r (s - 1)
     walked-goes list′ w′ r h d e v = record {
       stage = λ first.
-          ap (visits (asks x n) first g wishes (take g list₀) (s - 1))
-          (v .stage first ∙ ap (λ (q : List ℕ). visit (asks x n) first g wishes 0 (length wishes - 0) s q (stageOf first w st)) (p .kept))
-          ∙ sym (visits-next (asks x n) first g wishes (take g list₀) s (stageOf first w st) h) ∙ p .stage first;
+          ap (visits (asks (indexNode x) n) first g wishes (take g list₀) (s - 1))
+          (v .stage first ∙ ap (λ (q : List ℕ). visit (asks (indexNode x) n) first g wishes 0 (length wishes - 0) s q (stageOf first w st)) (p .kept))
+          ∙ sym (visits-next (asks (indexNode x) n) first g wishes (take g list₀) s (stageOf first w st) h) ∙ p .stage first;
       room = rw (v .room) (p .room);
       kept = v .kept ∙ p .kept;
       lists = d ∙ p .lists;
@@ -253,8 +254,8 @@ module _ (x : List ℕ) (n g : ℕ) (wishes list₀ w₀ : List ℕ) (m : ℕ) (
     pub walked-ends : (r : Grant) → s ≡ 0 → Ended st r → Grants x n g wishes list₀ m w r
     walked-ends r h e = record {
       wished = λ first.
-          e first w ∙ ap (finish first) (sym (visits-none (asks x n) first g wishes (take g list₀) s (stageOf first w st) h) ∙ p .stage first)
-          ∙ rw goals-are at (granted-walks (asks x n) (take g list₀) wishes first m);
+          e first w ∙ ap (finish first) (sym (visits-none (asks (indexNode x) n) first g wishes (take g list₀) s (stageOf first w st) h) ∙ p .stage first)
+          ∙ rw goals-are at (granted-walks (asks (indexNode x) n) (take g list₀) wishes first m);
       ready = p .ready;
     }
       where

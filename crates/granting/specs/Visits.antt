@@ -1,23 +1,18 @@
 -- What the walk's functions leave: the stages of the definition, and the literals that stand. Assumes nothing.
 use mathlib.Core.Path.{_≡_}
-use mathlib.Core.List.{List, []}
+use mathlib.Core.List.{List}
 use mathlib.Core.Bool.{cond}
 use Prim.Native.Nat.{ℕ, _+_, _-_, _<_, _≤_}
 use lib.Dec.{eqb}
 use lib.ListN.{length, take}
-use Rattle.calculus.specs.Expansion.{expand}
-use Rattle.calculus.specs.Order.{tree, Answer, answerOf}
 use Rattle.calculus.specs.Model.{mostLiterals, Below}
 use Rattle.index.specs.Index.{indexNode}
 use Rattle.state.specs.Work.{gOf, Ready}
+use Rattle.questions.specs.Asking.{asks}
 use Rattle.wishing.specs.Wish.{Wished, granted}
 use Rattle.wishing.specs.Walk.{Stage as Way, asking, stopped, step, visit, finish}
 use Rattle.granting.specs.declared.Stage.{Stage}
 use Rattle.granting.specs.declared.Grant.{Grant}
-
--- what the search of a list over the index x of n nodes ends on
-abbrev pub asks : List ℕ → ℕ → List ℕ → Answer
-asks x n ls = answerOf (tree (expand (indexNode x)) ls n [])
 
 -- what stands: the goals' own list as long as no wish is met, and then what the work area holds
 abbrev pub standing : List ℕ → List ℕ → ℕ → List ℕ
@@ -49,13 +44,13 @@ pub record Listed (n g : ℕ) (wishes list w : List ℕ) (lo s at : ℕ) : Type 
   pub ready : Ready n w
 
 pub record Stepped (x : List ℕ) (n g : ℕ) (q w w′ : List ℕ) (st r : Stage) : Type 0 where
-  pub stage : (first : List ℕ) → stageOf first w′ r ≡ step (asks x n) first g q (stageOf first w st)
+  pub stage : (first : List ℕ) → stageOf first w′ r ≡ step (asks (indexNode x) n) first g q (stageOf first w st)
   pub room : r .put + r .left ≡ st .put + st .left
   pub ready : Ready n w′
 
 pub record Visited (x : List ℕ) (n g : ℕ) (wishes list list′ w w′ : List ℕ) (lo s at : ℕ) (st r : Stage) : Type 0 where
   pub stage : (first : List ℕ)
-      → stageOf first w′ r ≡ visit (asks x n) first g wishes lo (length wishes - lo) s (take at list) (stageOf first w st)
+      → stageOf first w′ r ≡ visit (asks (indexNode x) n) first g wishes lo (length wishes - lo) s (take at list) (stageOf first w st)
   pub room : r .put + r .left ≡ st .put + st .left
   pub kept : take at list′ ≡ take at list
   pub ready : Ready n w′
@@ -74,5 +69,5 @@ pub record Gathered (n g : ℕ) (wishes list w : List ℕ) : Type 0 where
 
 -- what an allowance of m questions comes to, whatever stands first
 pub record Grants (x : List ℕ) (n g : ℕ) (wishes list : List ℕ) (m : ℕ) (w′ : List ℕ) (r : Grant) : Type 0 where
-  pub wished : (first : List ℕ) → wishedOf first w′ r ≡ granted (asks x n) (take g list) wishes m first
+  pub wished : (first : List ℕ) → wishedOf first w′ r ≡ granted (asks (indexNode x) n) (take g list) wishes m first
   pub ready : Ready n w′

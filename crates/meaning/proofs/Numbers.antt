@@ -28,7 +28,7 @@ module _ {A : Type 0} where
   pub gives : (a : A) → Numbered (answer a)
   gives a = record { positive = λ number place e. refused-no (sym e) }
 
-  refuses : (number place : ℕ) → 0 < number → Numbered {A = A} (refused number place)
+  pub refuses : (number place : ℕ) → 0 < number → Numbered {A = A} (refused number place)
   refuses number place h = record { positive = λ m q e. let z : number ≡ m = cc in omega arith }
 
   -- one row, and what comes after it
@@ -36,7 +36,7 @@ module _ {A : Type 0} where
   rowed true number place next h k = k
   rowed false number place next h k = refuses number place h
 
-  also : (x : Outcome (Unit {0})) (y : Outcome A) → Numbered x → Numbered y → Numbered (x >> y)
+  pub also : (x : Outcome (Unit {0})) (y : Outcome A) → Numbered x → Numbered y → Numbered (x >> y)
   also (answer tt) y h k = k
   also (refused number place) y h k = refuses number place (h .positive number place refl)
 
@@ -87,6 +87,7 @@ table-numbered t =
     (rowed (lengthOk (length t)) 10 0 (first (blockRows t) 0 (length t / 512)) (omega arith) (each (blockRows t) (blocks-numbered t) (length t / 512) 0))
     (gives (listFrom (nodeAt t) 0 (recordsIn tables t)))
 
+-- the rows before a search, where the row on the list is so
 pub by-numbered : (listed : Outcome (Unit {0})) → Numbered listed → (t goals : List ℕ) (needed points area : ℕ)
     → Numbered (askedBy listed t goals needed points area)
 unfolding askedBy rowsTest
@@ -99,8 +100,11 @@ by-numbered listed h t goals needed points area =
     (rowed (leb needed points) 21 0 _ (omega arith) (row (leb 32768 area) 23 0 (omega arith)))))
     (gives rs))
 
+pub list-numbered : (goals : List ℕ) → Numbered (listRow goals)
+list-numbered goals = row (ltb 0 (length goals) && leb (length goals) mostGoals) 62 0 (omega arith)
+
 pub asked-numbered : (t goals : List ℕ) (needed points area : ℕ) → Numbered (asked t goals needed points area)
-asked-numbered t goals = by-numbered (listRow goals) (row (ltb 0 (length goals) && leb (length goals) mostGoals) 62 0 (omega arith)) t goals
+asked-numbered t goals = by-numbered (listRow goals) (list-numbered goals) t goals
 
 -- ---- the calls
 

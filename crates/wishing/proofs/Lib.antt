@@ -5,4 +5,5 @@ pub mod Walks
 pub mod Wishes
 pub mod Truths
 pub mod Calls
+pub mod Numbers
 pub mod Samples

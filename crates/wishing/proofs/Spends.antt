@@ -226,3 +226,11 @@ module _ (ask : List ℕ → Answer) (first : List ℕ) where
       go (possible G) r = refl
       go impossible r = r
       go unfinished r = r
+
+-- questions that are answered alike come to the same
+pub spend-same : (ask other : List ℕ → Answer) → ((q : List ℕ) → ask q ≡ other q) → (first : List ℕ) (m : ℕ) (qs : List (List ℕ))
+    → spend ask first m qs ≡ spend other first m qs
+unfolding spend
+spend-same ask other same first m [] = refl
+spend-same ask other same first zero (q ∷ qs) = refl
+spend-same ask other same first (suc m) (q ∷ qs) = rw (same q, spend-same ask other same first m qs)

@@ -35,6 +35,6 @@ grant t goals wishes m s work =
     >>= λ r. answer (record { wished = r; settings = settingOf rs (r .standing) ++ drop 1024 s })
 
 -- the settings bytes after a call: a refusal changes none
-abbrev pub settingsAfter : List ℕ → Outcome Granted → List ℕ
-settingsAfter s (answer g) = g .settings
-settingsAfter s (refused number place) = s
+abbrev pub grantedAfter : List ℕ → Outcome Granted → List ℕ
+grantedAfter s (answer g) = g .settings
+grantedAfter s (refused number place) = s
