@@ -4,7 +4,7 @@
 #include <signal.h>
 #include <string.h>
 
-enum { TAKES_OUT = 1, TAKES_DOT = 2, TAKES_CLEAN = 4, TAKES_VERSION = 8 };
+enum { TAKES_OUT = 1, TAKES_DOT = 2, TAKES_CLEAN = 4, TAKES_VERSION = 8, TAKES_QUESTIONS = 8 };
 
 struct command {
     const char *name;
@@ -45,6 +45,13 @@ static const struct command commands[] = {
       "a line for each goal kept: its index in the list, from 0, its literal, and what it says. They are impossible\n"
       "together, and without any one of them the others are possible. Goals that are possible: refused 63.\n",
       run_clash, 2, INT_MAX, 0 },
+    { "wishes", "TABLE GOAL.. : WISH..", "a setting for the goals and as many wishes as can be",
+      "Prints `met` (wishes that are true for certain), `bound` (no setting that makes the goals true makes more wishes\n"
+      "true), `questions` (how many were put) and the setting as decide does. 0 to 16 wishes stand behind a colon; the\n"
+      "best setting is found where met is bound. Each question is a search for the goals and some wishes.\n"
+      "  --questions N   at most so many questions; all, up to 65,535, where it is left out\n"
+      "  --out FILE      the setting as 1,024 bytes, for eval\n",
+      run_wishes, 2, INT_MAX, TAKES_OUT | TAKES_QUESTIONS },
     { "derive", "TABLE GOAL.. [--version-two] -o FILE", "writes the derivation of impossible goals",
       "Prints the number of steps. Goals that one setting makes true have none: refused 30.\n"
       "  --version-two   version two of the steps, which has no R\n",
@@ -122,6 +129,10 @@ static int take_option(const struct command *c, char **argument, struct words *w
         w->out = argument[1];
         return 2;
     }
+    if (strcmp(argument[0], "--questions") == 0 && c->options & TAKES_QUESTIONS && argument[1] && !w->questions) {
+        w->questions = argument[1];
+        return 2;
+    }
     if (strcmp(argument[0], "--dot") == 0 && c->options & TAKES_DOT)
         w->dot = true;
     else if (strcmp(argument[0], "--clean") == 0 && c->options & TAKES_CLEAN)
@@ -146,7 +157,7 @@ static const char *part_arguments(const struct command *c, char **argument, stru
         } else if (options && argument[0][0] == '-' && argument[0][1]) {
             int n = take_option(c, argument, w);
             if (n == 0)
-                return "is no option here, or stands twice or without its file";
+                return "is no option here, or stands twice or without its file or number";
             argument += n;
         } else {
             standard += strcmp(*argument, "-") == 0;

@@ -15,6 +15,7 @@ struct words {
     char **word;
     int count;
     const char *out; /* -o FILE, --out FILE, or NULL */
+    const char *questions; /* --questions N, or NULL */
     bool dot;
     bool clean;
     bool version_two;
@@ -51,11 +52,11 @@ bool printed(void);
 
 /* ---- refuse.c ---- */
 
-/* The arguments that a refusal may speak of: a table or record, another file, the goals or the one literal. */
+/* The arguments that a refusal may speak of: a table or record, another file, the goals (and wishes behind them) or the one literal. */
 struct names {
     const char *table, *file;
     char **goal;
-    size_t goals;
+    size_t goals, wishes; /* of the goals, so many from behind are wishes */
 };
 
 int refuse(uint16_t number, size_t place, const struct names *of);
@@ -90,6 +91,7 @@ int run_add(const struct words *w);
 int run_eval(const struct words *w);
 int run_decide(const struct words *w);
 int run_clash(const struct words *w);
+int run_wishes(const struct words *w);
 int run_derive(const struct words *w);
 int run_check(const struct words *w);
 int run_steps(const struct words *w);
@@ -104,6 +106,13 @@ struct goals {
 /* The literal that a word names, with a message where it names none. */
 bool parse_literal(const char *word, size_t *literal);
 bool parse_goals(char **word, size_t count, struct goals *goals);
+
+/* The literals that words name; those past the room are looked at, and left out. */
+bool parse_literals(char **word, size_t count, uint16_t *literal, size_t room);
+
+/* Prints a heading and the setting that was found, which goes to a file where one is named; the status told, or what went wrong. */
+int tell_setting(const struct bytes *table, const uint8_t settings[BEV_POINTS], const char *heading, int told, const struct words *w,
+                 const struct names *of);
 
 /* Whether one setting makes a literal of a readable table true, and the settings. */
 bool is_possible(const struct bytes *table, size_t literal, uint8_t settings[BEV_POINTS]);

@@ -14,17 +14,22 @@ bool parse_literal(const char *word, size_t *literal)
 }
 
 /* A number over 16 bits becomes 65,535, which no table has as a literal either, so that it is refused at the same place. */
+bool parse_literals(char **word, size_t count, uint16_t *literal, size_t room)
+{
+    for (size_t i = 0; i < count; i++) {
+        size_t number;
+        if (!parse_literal(word[i], &number))
+            return false;
+        if (i < room)
+            literal[i] = number < UINT16_MAX ? (uint16_t)number : UINT16_MAX;
+    }
+    return true;
+}
+
 bool parse_goals(char **word, size_t count, struct goals *goals)
 {
     goals->count = count <= BEV_GOALS ? count : BEV_GOALS + 1;
-    for (size_t i = 0; i < count; i++) {
-        size_t literal;
-        if (!parse_literal(word[i], &literal))
-            return false;
-        if (i < goals->count)
-            goals->literal[i] = literal < UINT16_MAX ? (uint16_t)literal : UINT16_MAX;
-    }
-    return true;
+    return parse_literals(word, count, goals->literal, goals->count);
 }
 
 /* Never refused by 21 or 23. */
@@ -59,8 +64,8 @@ static void print_points(const struct nodes *nodes, const uint8_t settings[BEV_P
             printf("%s %zu\n", words[settings[p]], p);
 }
 
-/* Prints what was found, the settings to a file where one is named. */
-static int tell_possible(const struct bytes *table, const uint8_t settings[BEV_POINTS], const struct words *w, const struct names *of)
+int tell_setting(const struct bytes *table, const uint8_t settings[BEV_POINTS], const char *heading, int told, const struct words *w,
+                 const struct names *of)
 {
     struct output o;
     int status;
@@ -69,11 +74,11 @@ static int tell_possible(const struct bytes *table, const uint8_t settings[BEV_P
         return status;
     bool ready = !w->out || prepare(w->out, (const struct bytes *[]){ table, NULL }, settings, BEV_POINTS, &o);
     if (ready) {
-        puts("possible");
+        puts(heading);
         print_points(nodes, settings);
     }
     free(nodes);
-    return !ready ? FAILED : w->out ? commit(&o, POSSIBLE) : POSSIBLE;
+    return !ready ? FAILED : w->out ? commit(&o, told) : told;
 }
 
 int run_decide(const struct words *w)
@@ -85,7 +90,7 @@ int run_decide(const struct words *w)
     int status = FAILED;
     if (parse_goals(of.goal, of.goals, &goals) && load_table(of.table, &table)) {
         bev_decided d = decide(&table, goals.literal, goals.count, settings);
-        status = d.number ? refuse(d.number, d.place, &of) : d.possible ? tell_possible(&table, settings, w, &of) : IMPOSSIBLE;
+        status = d.number ? refuse(d.number, d.place, &of) : d.possible ? tell_setting(&table, settings, "possible", POSSIBLE, w, &of) : IMPOSSIBLE;
     }
     if (status == IMPOSSIBLE)
         puts("impossible");

@@ -4,8 +4,8 @@
 
 #include <stdint.h>
 
-/* Which argument of a command a refusal speaks of: the table, the goal at the place, all goals, another file. */
-enum about { ABOUT_TABLE, ABOUT_GOAL, ABOUT_GOALS, ABOUT_FILE };
+/* Which argument of a command a refusal speaks of: the table, the goal at the place, all goals, all wishes, another file. */
+enum about { ABOUT_TABLE, ABOUT_GOAL, ABOUT_GOALS, ABOUT_WISHES, ABOUT_FILE };
 
 struct refusal {
     uint16_t number;
@@ -15,7 +15,7 @@ struct refusal {
     const char *calls;
 };
 
-#define READS_TABLE "count, record, evaluate, add, decide, clash, derive, check"
+#define READS_TABLE "count, record, evaluate, add, decide, clash, wishes, derive, check"
 #define READS_STEPS "check, open, step"
 
 static const struct refusal refusals[] = {
@@ -28,10 +28,10 @@ static const struct refusal refusals[] = {
     { 15, ABOUT_TABLE, "the point is over 1,023, or an operand is not an earlier node", "node", READS_TABLE },
     { 16, ABOUT_TABLE, "both operands are the same node, or they stand in the wrong order", "node", READS_TABLE },
     { 17, ABOUT_TABLE, "the record repeats an earlier one", "node", READS_TABLE },
-    { 20, ABOUT_GOAL, "the literal is not below twice the node count", "goal", "record, evaluate, decide, clash, derive, check" },
-    { 21, ABOUT_FILE, "the settings are under 1,024 bytes", "0", "evaluate, decide" },
+    { 20, ABOUT_GOAL, "the literal is not below twice the node count", "goal", "record, evaluate, decide, clash, wishes, derive, check" },
+    { 21, ABOUT_FILE, "the settings are under 1,024 bytes", "0", "evaluate, decide, wishes" },
     { 22, ABOUT_FILE, "the setting is above 2", "point", "evaluate" },
-    { 23, ABOUT_TABLE, "the work area is under 32,768 numbers", "0", "decide, clash, derive, check" },
+    { 23, ABOUT_TABLE, "the work area is under 32,768 numbers", "0", "decide, clash, wishes, derive, check" },
     { 30, ABOUT_GOALS, "some setting makes every goal true", "0", "derive" },
     { 31, ABOUT_GOALS, "the derivation needs more bytes than were lent, or more than 65,536 blocks", "0", "derive" },
     { 40, ABOUT_FILE, "the derivation's length is zero, no multiple of 512, or over 33,554,432", "0", READS_STEPS },
@@ -46,10 +46,12 @@ static const struct refusal refusals[] = {
     { 52, ABOUT_TABLE, "the record needs a new block, and the buffer has no room for it", "node count", "add, dimacs" },
     { 60, ABOUT_FILE, "the heading is malformed, or has over 1,024 variables", "0", "dimacs" },
     { 61, ABOUT_FILE, "the body is malformed, a variable is over V, or the clauses are not C", "0", "dimacs" },
-    { 62, ABOUT_GOALS, "the list of goals is empty or has over 64", "0", "decide, clash, derive, check" },
+    { 62, ABOUT_GOALS, "the list of goals is empty or has over 64", "0", "decide, clash, wishes, derive, check" },
     { 63, ABOUT_GOALS, "the goals are possible together", "0", "clash" },
     { 64, ABOUT_FILE, "a step that names a goal is wrong, missing or late", "step", "check" },
     { 65, ABOUT_FILE, "version two has no step R or E", "step", READS_STEPS },
+    { 66, ABOUT_WISHES, "the list of wishes has over 16", "0", "wishes" },
+    { 67, ABOUT_GOALS, "no setting makes every goal true", "0", "wishes" },
 };
 
 #endif

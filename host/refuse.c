@@ -18,7 +18,9 @@ static const char *subject(const struct refusal *r, size_t place, const struct n
     if (r->about == ABOUT_GOAL)
         name = place < of->goals ? of->goal[place] : NULL;
     if (r->about == ABOUT_GOALS)
-        name = of->goals == 1 ? of->goal[0] : "the goals";
+        name = of->goals - of->wishes == 1 ? of->goal[0] : "the goals";
+    if (r->about == ABOUT_WISHES)
+        name = "the wishes";
     return !name ? "the input" : strcmp(name, "-") == 0 ? "standard input" : name;
 }
 

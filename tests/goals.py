@@ -1,5 +1,6 @@
-"""bev decide, clash, derive, check and steps on made tables, with single goals and lists: the answers against truth tables by brute force, the
+"""bev decide, clash, wishes, derive, check and steps on made tables, with single goals and lists: the answers against truth tables by brute force, the
 solver's order and the derivation rules in plain Python, and every refusal that a file or a list of goals can meet."""
+import itertools
 import os
 import random
 import re
@@ -89,13 +90,53 @@ def clashing(bev, folder, rounds):
     bev.answers(ANSWERED, "1 0: point 0\n2 1: not point 0\n", "clash", name, 6, 0, 1, 2)
     bev.answers(ANSWERED, "1 13: not (always yes)\n", "clash", "-", 0, 13, stdin=table(A))
 
+def granted(records, goals, wishes, allowance):
+    """Met, bound, questions put and the list whose setting stands, the questions put to truth tables; None where the goals are impossible."""
+    if not possible_together(records, goals):
+        return None
+    subsets = [s for size in range(len(wishes), 0, -1) for s in itertools.combinations(range(len(wishes)), size)]
+    for put_, subset in enumerate(subsets):
+        if put_ == allowance:
+            return 0, len(subset), put_, goals
+        together = goals + [wishes[i] for i in subset]
+        if possible_together(records, together):
+            return len(subset), len(subset), put_ + 1, together
+    return 0, 0, len(subsets), goals
+
+def wishing(bev, folder, rounds):
+    name, out, rng, seen = os.path.join(folder, "t"), os.path.join(folder, "s"), random.Random(11), set()
+    for records in [A, [(TRUE, 0, 0)], [(ATOM, 1023, 0)]] + [some_table(rng, 2 + i % 4, 10 + i) for i in range(rounds)]:
+        put(name, table(records))
+        for _ in range(8):
+            goals, wishes = some_goals(rng, records)[:2], [rng.randrange(2 * len(records)) for _ in range(rng.randrange(5))]
+            for allowance in (None, 0, 1, rng.randrange(16)):
+                words = ("wishes", name, *goals, ":", *wishes, "--out", out) + (() if allowance is None else ("--questions", allowance))
+                right = granted(records, goals, wishes, allowance)
+                put(out, b"old")
+                if right is None:
+                    bev.refuses(67, 0, *words, about=goals[0] if len(goals) == 1 else "the goals")
+                else:
+                    met, bound, questions, stands = right
+                    text = decision(records, stands)[1].replace("possible", f"met {met}\nbound {bound}\nquestions {questions}", 1)
+                    bev.answers(ANSWERED, text, *words)
+                    seen.add((met, bound))
+                if get(out) != (decision(records, right[3])[2] if right else b"old"):
+                    bev.wrong(words, "wrong settings", right)
+    assert {(0, 0), (0, 1), (1, 1), (2, 2)} <= seen, seen
+    put(name, table(A))
+    bev.answers(ANSWERED, "met 2\nbound 2\nquestions 7\nyes 0\nyes 1\n", "wishes", name, 6, ":", 0, 1, 2, 3)
+    bev.answers(ANSWERED, "met 0\nbound 0\nquestions 65535\nyes 0\neither 1\n", "wishes", "-", 6, ":", *[13] * 16, stdin=table(A))
+    bev.refuses(66, 0, "wishes", name, 6, ":", *[99] * 17, about="the wishes")
+    bev.refuses(62, 0, "wishes", name, ":", *[99] * 17, about="the goals")
+    bev.refuses(20, 2, "wishes", name, 6, 0, ":", 99, 1, about="99, goal 2)")
+
 def list_rows(bev, folder):
     """Rows 62 and 20, in each command: the table first, then the length of the list, then the first goal that is none."""
     t, d, bad = (os.path.join(folder, n) for n in "tdb")
     put(t, table(A))
     put(d, derivation(search(A, [18])[1]))
     put(bad, table(A)[:511])
-    commands = [lambda t, *g: ("decide", t, *g), lambda t, *g: ("clash", t, *g), lambda t, *g: ("derive", t, *g, "-o", d + "x"), lambda t, *g: ("check", t, *g, d), lambda t, *g: ("steps", d, t, *g)]
+    commands = [lambda t, *g: ("decide", t, *g), lambda t, *g: ("clash", t, *g), lambda t, *g: ("wishes", t, *g), lambda t, *g: ("derive", t, *g, "-o", d + "x"), lambda t, *g: ("check", t, *g, d), lambda t, *g: ("steps", d, t, *g)]
     for words in commands:
         for goal in (20, 4032, 65535, 65536, 2 ** 32 + 18, 2 ** 64 - 1):
             bev.refuses(20, 0, *words(t, goal), about=f"{goal})")
@@ -364,6 +405,7 @@ def longest(bev, t, d, points):
 def test(bev, folder, rounds, points):
     deciding(bev, folder, rounds)
     clashing(bev, folder, rounds)
+    wishing(bev, folder, rounds)
     list_rows(bev, folder)
     evaluating(bev, folder)
     checking(bev, folder, rounds)

@@ -28,6 +28,13 @@ static void run_clash(void)
     EXPECT(v.number == 0 && v.count == 1 && v.kept[0] == 0);
 }
 
+static void run_wishes(void)
+{
+    static const uint16_t point = 2;
+    bev_wished v = bev_wishes(deep, sizeof deep, &point, 1, goals, BEV_WISHES, 20, settings, BEV_POINTS, work, BEV_WORK);
+    EXPECT(v.number == 0 && v.met == 0 && v.bound == 14 && v.questions == 20);
+}
+
 static void run_add(void)
 {
     uint8_t r[8];
@@ -80,7 +87,7 @@ int main(void)
 {
     static const struct { const char *name; void (*call)(void); } calls[] = {
         { "count", run_count }, { "record", run_record }, { "evaluate", run_evaluate }, { "add", run_add }, { "decide", run_decide },
-        { "clash", run_clash }, { "derive", run_derive }, { "check", run_check }, { "open", run_open }, { "dimacs", run_dimacs },
+        { "clash", run_clash }, { "wishes", run_wishes }, { "derive", run_derive }, { "check", run_check }, { "open", run_open }, { "dimacs", run_dimacs },
     };
     deep_table(deep);
     for (int i = 0; i < BEV_GOALS; i++)

@@ -1,4 +1,4 @@
--- What a host is told of decide, clash, derive, check and the DIMACS reader, whatever case the answer is. Assumes nothing.
+-- What a host is told of decide, clash, wishes, derive, check and the DIMACS reader, whatever case the answer is. Assumes nothing.
 use mathlib.Core.Path.{_≡_, _∙_, ap, sym, refl}
 use mathlib.Core.Bool.{true}
 use mathlib.Core.List.{List, [], _∷_}
@@ -31,6 +31,12 @@ use Rattle.deciding.specs.Decides.{can, cannot, wordOf, decidedOf, Decides}
 use Rattle.clashing.specs.declared.Clashed.{Clashed}
 use Rattle.clashing.specs.Clash.{clash}
 use Rattle.clashing.specs.Clashes.{clashedOf, Clashes}
+use Rattle.wishing.specs.Call.{grant}
+use Rattle.wishing.proofs.Calls.{only-alone}
+use Rattle.wishing.proofs.Numbers.{grant-numbered}
+use Rattle.wishes.specs.declared.Wished.{Wished}
+use Rattle.wishes.specs.declared.Wished.the-variants.{Granted as Given, Refused as NotGranted}
+use Rattle.wishes.specs.Wishes.{wishedOf, grantOf, Wishes}
 use Rattle.rules.specs.Derive.{derive}
 use Rattle.deriving.specs.declared.Derived.{Derived}
 use Rattle.deriving.specs.declared.Derived.the-variants.{Steps, Refused as NotDerived}
@@ -48,7 +54,7 @@ use Rattle.cnf.specs.Reader.{Means, Turns}
 use Rattle.cnfread.specs.Reads.{Reads}
 use Rattle.bevaridhom.specs.declared.BevClashed.{BevClashed}
 use Rattle.bevaridhom.specs.declared.BevOpened.{BevOpened}
-use Rattle.bevaridhom.specs.Answers.{versionAsked, versionNumber, openAnswer, decideAnswer, HostDecides, clashAnswer, HostClashes, deriveAnswer, HostDerives, checkAnswer, HostChecks, markAnswer, Unmet, HostReads}
+use Rattle.bevaridhom.specs.Answers.{versionAsked, versionNumber, openAnswer, decideAnswer, HostDecides, clashAnswer, HostClashes, deriveAnswer, HostDerives, checkAnswer, HostChecks, wishesAnswer, HostWishes, markAnswer, Unmet, HostReads}
 
 -- a refusal of what is made of an answer is the answer's
 of-refused : {A B : Type 0} (x : Outcome A) (f : A → B) {number place : ℕ} → refused number place ≡ (x >>= λ a. answer (f a)) → x ≡ refused number place
@@ -116,6 +122,48 @@ asked-one n e = sym (rw (eq-eqb n 0 e))
 
 pub asked-two : (n : ℕ) → (n ≡ 0 → ⊥) → Two ≡ versionAsked n
 asked-two n e = sym (rw (ne-eqb n 0 e))
+
+-- ---- wishes
+
+module _ (t goals wishes : List ℕ) (m : ℕ) (s w s′ w′ : List ℕ) where
+  wishes-refused : (f : Refusal) → Wishes t goals wishes m s w s′ w′ (NotGranted f) → grant t goals wishes m s w ≡ refused (f .number) (f .place)
+  wishes-refused f h = of-refused (grant t goals wishes m s w) (λ d. grantOf (d .wished)) (h .answered)
+
+  -- no refusal has the number 0
+  not-zero : {A : Type 0} (f : Refusal) → Wishes t goals wishes m s w s′ w′ (NotGranted f) → f .number ≡ 0 → A
+  not-zero f h z = absurd (omega (arith, grant-numbered t goals wishes m s w .positive (f .number) (f .place) (wishes-refused f h)))
+
+  tells : (r : Wished) → Wishes t goals wishes m s w s′ w′ r → HostWishes t goals wishes m s w s′ w′ (wishesAnswer (wishedOf r))
+  tells (Given g) h = record {
+    answered = ap wishesAnswer (h .answered);
+    settings = h .settings;
+    work = h .work;
+    alone = λ rs a. (λ e. absurd (omega arith), λ none. refused-no (sym (h .alone rs a .1 none)));
+    met = λ z. h .met g refl;
+    bound = λ z. h .bound g refl;
+    within = λ z. h .within g refl;
+    stopped = λ z. h .stopped g refl;
+    larger = λ z. h .larger g refl;
+    enough = λ z. h .enough g refl;
+  }
+  tells (NotGranted f) h = record {
+    answered = ap wishesAnswer (h .answered);
+    settings = h .settings;
+    work = h .work;
+    alone = λ rs a. (
+      λ e. let o = only-alone t goals wishes s w m rs a (wishes-refused f h) in h .alone rs a .0 (rw (o .0, o .1)),
+      λ none. let z : wishedOf (NotGranted f) ≡ refused 67 0 = h .alone rs a .1 none in cc,
+    );
+    met = not-zero f h;
+    bound = not-zero f h;
+    within = not-zero f h;
+    stopped = not-zero f h;
+    larger = not-zero f h;
+    enough = not-zero f h;
+  }
+
+  pub told-wishes : (r : Wished) {r′ : Wished} → Wishes t goals wishes m s w s′ w′ r → r ≡ r′ → HostWishes t goals wishes m s w s′ w′ (wishesAnswer (wishedOf r′))
+  told-wishes r h e = tells _ (rw e at h)
 
 -- ---- derive
 

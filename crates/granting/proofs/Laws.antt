@@ -8,19 +8,18 @@ use native.Mathlib.Omega.{arith}
 use lib.ListN.{length, getD, take, set, length-set}
 use lib.Seq.{length-take-le, take-suc-set, take-take, take-set-le}
 use borrow.Author.Tests.{ne-eqb}
-use Rattle.calculus.specs.Order.{Answer, possible, impossible}
-use Rattle.calculus.specs.Model.{All, mostLiterals, Below, Goals}
+use Rattle.calculus.specs.Order.{Answer}
+use Rattle.calculus.specs.Model.{Goals}
 use Rattle.calculus.proofs.Lists.{all-append, all-at}
 use Rattle.index.specs.Index.{indexNode}
-use Rattle.state.specs.Work.{gOf, Ready}
+use Rattle.state.specs.Work.{Ready}
 use Rattle.searching.specs.declared.Found.the-variants.{Model, Closed}
 use Rattle.searching.specs.Search.{Solved}
 use Rattle.questions.specs.Asking.{asks}
-use Rattle.wishing.specs.Wish.{granted}
 use Rattle.wishing.specs.Walk.{Stage as Way, asking, stopped, heard, step, visit, visits, finish}
 use Rattle.wishing.proofs.Walks.{visit-none, visit-stopped}
 use Rattle.wishing.proofs.Wishes.{granted-walks}
-use Rattle.granting.specs.Visits.{stageOf, wishedOf, Room, Listed, Gathered, Stepped, Visited, Ended, Grants}
+use Rattle.granting.specs.Visits.{stageOf, Room, Listed, Gathered, Stepped, Visited, Ended, Grants}
 use Rattle.granting.specs.declared.Stage.{Stage}
 use Rattle.granting.specs.declared.Grant.{Grant}
 

@@ -102,16 +102,16 @@ fn visit(
 fn finish(st: Stage) -> Grant
     ensures { λ r. ⌜ Ended st r ⌝ }
 {
-    if st.stopped {
+    if !st.stopped {
         return Grant {
-            met: st.met,
-            bound: st.bound,
+            met: 0,
+            bound: 0,
             questions: st.put,
         };
     }
     Grant {
-        met: 0,
-        bound: 0,
+        met: st.met,
+        bound: st.bound,
         questions: st.put,
     }
 }

@@ -1,22 +1,16 @@
 -- Where the call ends: at the first row's refusal, or with what the questions came to. Assumes nothing.
 use mathlib.Core.Path.{_≡_, refl, sym, ap, _∙_}
-use mathlib.Core.Logic.{_⊎_}
-use mathlib.Core.Bool.{true}
-use mathlib.Core.List.{List, [], _++_}
-use Prim.Native.Nat.{ℕ, _*_, _<_, _≤_}
+use mathlib.Core.List.{List, _++_}
+use Prim.Native.Nat.{ℕ, _*_, _<_}
 use native.Mathlib.Omega.{arith}
-use lib.ListN.{length, getD, take, drop}
-use Rattle.scope.specs.declared.Node.{Node}
+use lib.ListN.{length, getD, take}
 use Rattle.scope.specs.declared.Refusal.{Refusal}
 use Rattle.scope.specs.Outcome.{Outcome, answer, refused, _>>=_}
-use Rattle.scope.specs.Table.{listFrom, decode}
-use Rattle.scope.specs.Truth.{truth}
-use Rattle.scope.specs.Kleene.{Fills}
 use Rattle.scope.proofs.Tests.{refused-no, then-first, bound}
 use Rattle.codec.specs.Valid.{Bytes}
-use Rattle.calculus.specs.Order.{Answer, possible, impossible, unfinished, answerOf, settingOf}
-use Rattle.calculus.specs.Model.{All, mostLiterals, Below}
-use Rattle.calculus.specs.Decide.{listRow, Unsatisfiable, _⇔_}
+use Rattle.calculus.specs.Order.{Answer, possible, impossible, unfinished, answerOf}
+use Rattle.calculus.specs.Model.{mostLiterals, Below}
+use Rattle.calculus.specs.Decide.{listRow, _⇔_}
 use Rattle.calculus.proofs.Asked.{list-met}
 use Rattle.calculus.proofs.Lists.{all-append, all-left, all-right, all-getD, all-each, all-map}
 use Rattle.index.specs.Index.{indexNode}
@@ -30,7 +24,7 @@ use Rattle.questions.proofs.Settings.{some-node}
 use Rattle.wishing.specs.Wish.{queries, Wished as Result, question, wished}
 use Rattle.wishing.specs.Call.{listsRow, wishesAsked, Granted, grant, grantedAfter}
 use Rattle.wishing.proofs.Spends.{spend-same}
-use Rattle.wishing.proofs.Calls.{none-granted, answers, within, stopped, not-sooner, larger, enough, wishes-met, wishes-most}
+use Rattle.wishing.proofs.Calls.{made, none-granted, answers, within, stopped, not-sooner, larger, enough, wishes-met, wishes-most}
 use Rattle.wishes.specs.Wishes.{wishedOf, grantOf, settingsBy, Posed, Answered, Wishes}
 use Rattle.wishes.specs.declared.Wished.{Wished}
 use Rattle.wishes.specs.declared.Wished.the-variants.{Refused}
@@ -123,10 +117,6 @@ module _ (t goals wishes : List ℕ) (m : ℕ) (s w : List ℕ) (all : Bytes t) 
         go impossible = refl
         go unfinished = refl
 
-    -- the answer that the definition makes of what stands
-    abbrev made : Result → Outcome Granted
-    made d = answer (record { wished = d; settings = settingOf (p .nodes) (d .standing) ++ drop 1024 s })
-
     pub ends : {s′ w′ : List ℕ} (r : Wished) → Answered x n goals wishes m s s′ r → Wishes t goals wishes m s w s′ w′ r
     unfolding grant
     ends {s′} r h =
@@ -135,10 +125,10 @@ module _ (t goals wishes : List ℕ) (m : ℕ) (s w : List ℕ) (all : Bytes t) 
         (h .settings ∙ rw (wished-in, p .answered, listed p) (written (wished (answered (p .nodes)) goals wishes m (answered (p .nodes) goals))))
         (λ number place e. refused-no (sym e ∙ p .answered))
       where
-        numbers : (o : Outcome Result) → (o >>= λ d. answer (grantOf d)) ≡ ((o >>= made) >>= λ d. answer (grantOf (d .wished)))
+        numbers : (o : Outcome Result) → (o >>= λ d. answer (grantOf d)) ≡ ((o >>= made t goals wishes s w (p .nodes)) >>= λ d. answer (grantOf (d .wished)))
         numbers (answer d) = refl
         numbers (refused number place) = refl
 
-        written : (o : Outcome Result) → settingsBy (p .nodes) s o ≡ grantedAfter s (o >>= made)
+        written : (o : Outcome Result) → settingsBy (p .nodes) s o ≡ grantedAfter s (o >>= made t goals wishes s w (p .nodes))
         written (answer d) = refl
         written (refused number place) = refl

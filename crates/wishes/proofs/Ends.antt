@@ -1,11 +1,10 @@
 -- The goals alone, then the questions: where they end. Assumes nothing.
-use mathlib.Core.Path.{_≡_, refl, sym, ap, _∙_}
+use mathlib.Core.Path.{_≡_, ap, _∙_}
 use mathlib.Core.List.{List, _++_}
 use mathlib.Core.Bool.{Bool, true, false, cond}
-use Prim.Native.Nat.{ℕ, _+_, _≤_}
-use native.Mathlib.Omega.{arith}
+use Prim.Native.Nat.{ℕ, _+_}
 use lib.Dec.{eqb}
-use lib.ListN.{length, take, drop}
+use lib.ListN.{length, drop}
 use lib.Seq.{drop-at}
 use borrow.Author.Tests.{eq-eqb, ne-eqb}
 use Rattle.scope.specs.declared.Node.{Node}
@@ -13,18 +12,12 @@ use Rattle.scope.specs.Table.{listFrom}
 use Rattle.calculus.specs.Order.{settingOf}
 use Rattle.calculus.proofs.Setting.{setting-length}
 use Rattle.index.specs.Index.{indexNode}
-use Rattle.index.specs.Indexed.{Indexed}
 use Rattle.state.specs.Work.{gOf, Ready}
-use Rattle.searching.specs.declared.Found.{Found}
 use Rattle.searching.specs.declared.Found.the-variants.{Model, Closed}
 use Rattle.searching.specs.Search.{Solved}
-use Rattle.deciding.specs.Setting.{Points}
-use Rattle.deciding.specs.Decides.{Room}
-use Rattle.questions.specs.Asking.{asks}
 use Rattle.granting.specs.declared.Grant.{Grant}
 use Rattle.granting.specs.Visits.{Gathered, Grants}
 use Rattle.wishes.specs.Wishes.{Stands, Posed, Answered}
-use Rattle.wishes.specs.declared.Wished.{Wished}
 use Rattle.wishes.specs.declared.Wished.the-variants.{Granted as Given, Refused}
 
 -- ---- what stands

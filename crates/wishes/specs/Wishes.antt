@@ -17,7 +17,6 @@ use Rattle.calculus.specs.Decide.{Unsatisfiable, _⇔_}
 use Rattle.table.specs.declared.Counted.{Counted}
 use Rattle.index.specs.Index.{indexNode}
 use Rattle.asking.specs.Asks.{Asks}
-use Rattle.deciding.specs.Decides.{Room}
 use Rattle.questions.specs.Asking.{asks}
 use Rattle.granting.specs.declared.Grant.{Grant}
 use Rattle.wishing.specs.Wish.{Wished as Result, wished, count}

@@ -1,16 +1,15 @@
 -- What the call's answer means: the setting meets the goals and k wishes, no setting meets more than u, and what more questions change.
 -- Assumes nothing.
-use mathlib.Core.Path.{_≡_, refl, sym, ap, _∙_}
+use mathlib.Core.Path.{_≡_, refl, sym, _∙_}
 use mathlib.Core.Logic.{_⊎_}
 use mathlib.Core.List.{List, _++_}
 use mathlib.Core.Bool.{true}
 use Prim.Native.Nat.{ℕ, suc, _*_, _^_, _<_, _≤_}
 use native.Mathlib.Omega.{arith}
-use lib.Dec.{leb}
 use lib.ListN.{length, getD, drop, List·getD-append}
 use borrow.Author.Tests.{leb-true}
 use Rattle.scope.specs.declared.Node.{Node}
-use Rattle.scope.specs.Outcome.{Outcome, answer, refused, fine, require, _>>=_}
+use Rattle.scope.specs.Outcome.{Outcome, answer, refused, _>>=_}
 use Rattle.scope.specs.Table.{decode}
 use Rattle.scope.specs.Truth.{truth}
 use Rattle.scope.specs.Kleene.{Fills}
@@ -28,7 +27,7 @@ use Rattle.questions.specs.Asking.{answered}
 use Rattle.questions.proofs.Settings.{some-node}
 use Rattle.wishing.specs.Wish.{Wished, granted, wished, count}
 use Rattle.wishing.specs.Call.{mostWishes, listsRow, wishesAsked, Granted, grant}
-use Rattle.wishing.proofs.Wishes.{no-more, standing-meets, granted-most, granted-stops, granted-not-sooner, granted-stays, granted-larger, granted-enough}
+use Rattle.wishing.proofs.Wishes.{no-more, standing-meets, granted-most, granted-stops, granted-not-sooner, granted-larger, granted-enough}
 use Rattle.wishing.proofs.Truths.{holds, FillsOf, decides}
 
 -- what fills the 2s of a setting with bytes behind it fills those of the setting
@@ -118,6 +117,21 @@ module _ (t goals wishes s w : List ℕ) where
   answers {m} {g} e =
       let b = bound (wishesAsked t goals wishes (length s) (length w)) _ e in
       alone-read (b .0) (b .1) g (answered (b .0) goals) refl (b .2)
+
+  -- the answer that the definition makes of what stands
+  abbrev pub made : List Node → Wished → Outcome Granted
+  made rs r = answer (record { wished = r; settings = settingOf rs (r .standing) ++ drop 1024 s })
+
+  -- behind the rows before, 67 is the only refusal
+  pub only-alone : (m : ℕ) (rs : List Node) → wishesAsked t goals wishes (length s) (length w) ≡ answer rs → {number place : ℕ}
+      → grant t goals wishes m s w ≡ refused number place → (number ≡ 67) × (place ≡ 0)
+  unfolding grant
+  only-alone m rs a {number} {place} e = go (answered rs goals) (rw a at e)
+    where
+      go : (x : Answer) → (wished (answered rs) goals wishes m x >>= made rs) ≡ refused number place → (number ≡ 67) × (place ≡ 0)
+      go (possible G) z = refused-no (sym z)
+      go impossible z = (cc, cc)
+      go unfinished z = (cc, cc)
 
   -- '67 goals alone impossible': exactly where no setting makes all goals true
   pub none-granted : Bytes t → (rs : List Node) → wishesAsked t goals wishes (length s) (length w) ≡ answer rs → (m : ℕ)

@@ -17,7 +17,7 @@ use Rattle.questions.proofs.Answers.{picked-fit, is-possible}
 use Rattle.wishing.specs.Wish.{queries, Wished, question, granted, count}
 use Rattle.wishing.specs.Walk.{asking, visits, finish}
 use Rattle.wishing.proofs.Subsets.{visited, hits, hits-rise, hits-pass, hits-few, hits-most, hits-count}
-use Rattle.wishing.proofs.Spends.{Query, queries-fit, queries-fall, queries-size, queries-count, questions-most, stops, not-sooner, stays, larger, enough, Refused, u-refused, stands}
+use Rattle.wishing.proofs.Spends.{Query, queries-fit, queries-fall, queries-size, queries-count, questions-most, stops, not-sooner, larger, enough, Refused, u-refused, stands}
 use Rattle.wishing.proofs.Walks.{walks}
 
 -- what is granted by the questions put: for any decision
@@ -44,9 +44,6 @@ module _ (ask : List ℕ → Answer) (goals wishes first : List ℕ) where
 
   pub granted-not-sooner : (m l : ℕ) → l < grants m .questions → (grants l .questions ≡ l) × (grants l .k < grants l .u)
   granted-not-sooner m l h = not-sooner asks first m l all not-empty h
-
-  pub granted-stays : (m l : ℕ) → m ≤ l → grants m .k ≡ grants m .u → grants l ≡ grants m
-  granted-stays m l h e = stays asks first m l all not-empty h e
 
   -- 'A larger allowance never lowers k or raises u.'
   pub granted-larger : (m l : ℕ) → m ≤ l → (grants m .k ≤ grants l .k) × (grants l .u ≤ grants m .u)

@@ -1,6 +1,5 @@
 -- What is granted is that of the definition: the sizes fall, and with those that are left the walk is the whole one. Assumes nothing.
 use native.Mathlib.Omega.{arith}
-use mathlib.Core.Path.{sym, _∙_}
 use borrow.Author.Needs.{needs}
 use Rattle.granting.proofs.Laws.{Walked, walked-starts, walked-listed, walked-goes, walked-ends}
 use Rattle.granting.proofs.spend.Statement.{statement}

@@ -1,5 +1,4 @@
 -- A step makes of a stage what its definition does. Assumes nothing.
-use mathlib.Core.Path.{_∙_}
 use borrow.Author.Needs.{needs}
 use Rattle.granting.proofs.Laws.{step-spent, step-found, step-refused}
 use Rattle.granting.proofs.step.Statement.{statement}

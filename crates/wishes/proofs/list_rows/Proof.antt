@@ -1,5 +1,5 @@
 -- `wishes::list_rows` meets its contract: row 62, then row 66. Assumes nothing.
-use mathlib.Core.Path.{_≡_, _∙_, ap, sym}
+use mathlib.Core.Path.{_∙_, ap, sym}
 use borrow.Author.Needs.{needs}
 use borrow.Author.Tests.{le-leb, lt-leb}
 use Rattle.scope.specs.Outcome.{verdictOf}
