@@ -56,7 +56,7 @@ static bev_wished ask_with_progress(struct wishing *x)
     size_t allowance = x->allowance < QUIET_QUESTIONS ? x->allowance : QUIET_QUESTIONS;
     bev_wished v = ask(x, allowance);
     while (!v.number && v.met < v.bound && allowance < x->allowance) {
-        fprintf(stderr, "\r%zu questions put, at most %zu wishes", v.questions, v.bound);
+        fprintf(stderr, "\r\033[K%zu questions put, at most %zu wishes", v.questions, v.bound);
         shown = true;
         allowance = allowance < x->allowance / 2 ? 2 * allowance : x->allowance;
         v = ask(x, allowance);

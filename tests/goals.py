@@ -2,8 +2,10 @@
 solver's order and the derivation rules in plain Python, and every refusal that a file or a list of goals can meet."""
 import itertools
 import os
+import pty
 import random
 import re
+import subprocess
 
 from command import ANSWERED, IMPOSSIBLE, POSSIBLE, REFUSED, get, put
 from tables import A, AND, ATOM, IFF, IMP, OR, TRUE, checked, derivation, edited, expansion, full_table, parity, possible_together, search, setting_of, some_goals, some_table, table, truths
@@ -126,6 +128,17 @@ def wishing(bev, folder, rounds):
     put(name, table(A))
     bev.answers(ANSWERED, "met 2\nbound 2\nquestions 7\nyes 0\nyes 1\n", "wishes", name, 6, ":", 0, 1, 2, 3)
     bev.answers(ANSWERED, "met 0\nbound 0\nquestions 65535\nyes 0\neither 1\n", "wishes", "-", 6, ":", *[13] * 16, stdin=table(A))
+    for wishes, shows in (([13] * 16, True), ([13] * 7, False)):
+        leader, follower = pty.openpty()
+        bev.run("wishes", name, 6, ":", *wishes, capture_output=False, stdout=subprocess.DEVNULL, stderr=follower)
+        os.write(follower, b"end\n")
+        shown = b""
+        while not shown.endswith(b"end\r\n"):
+            shown += os.read(leader, 4096)
+        if (b"questions put, at most" in shown) != shows or not shown.endswith(b"\x1b[Kend\r\n" if shows else b"end\r\n"):
+            bev.wrong(("wishes", *wishes), shown, "a progress line, taken back" if shows else "none")
+        os.close(leader)
+        os.close(follower)
     bev.refuses(66, 0, "wishes", name, 6, ":", *[99] * 17, about="the wishes")
     bev.refuses(62, 0, "wishes", name, ":", *[99] * 17, about="the goals")
     bev.refuses(20, 2, "wishes", name, 6, 0, ":", 99, 1, about="99, goal 2)")
