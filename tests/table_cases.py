@@ -66,6 +66,9 @@ def add(t, used, r):
         no(9)
     nodes = read(t[:used]) if used else []
     n, r = len(nodes), bytearray(r)
+    if r[0] == 5: # the refusals are those of the record given
+        record(r, n)
+        r[0], r[2] = 4, r[2] ^ 1
     if r[0] in (3, 4, 6) and word(r, 2) // 2 > word(r, 4) // 2:
         r[2:4], r[4:6] = r[4:6], r[2:4]
     x = record(r, n)
@@ -104,6 +107,8 @@ def table_a(other):
     t, used = bytearray([other] * 600), 0
     for x in A:
         used = add(t, used, node(*x))[1]
+    t[place(4):place(4) + 8] = node(*A[4]) # as it was before IMP was retired
+    seal(t)
     return t
 
 def evaluate(t, l, s):
@@ -151,7 +156,11 @@ for first, second in [(0, 0), (1, 0), (0, 1), (1, 1), (2, 1), (1, 255)]:
     say(lambda: evaluate(t[:512], 0, s[:1023]))
 print("adds")
 t = table_a(238)
-for used, x in [(512, (4, 2, 0)), (512, (5, 2, 0)), (601, (1, 0, 0)), (600, (1, 0, 0)), (512, (7, 0, 0)), (512, (2, 1024, 0)), (512, (2, 1023, 0)),
+for x in [(4, 2, 0), (5, 2, 0), (5, 0, 2), (5, 0, 2), (4, 2, 1), (5, 3, 1), (5, 4, 5), (5, 99, 0)]:
+    show_add(t, 512, node(*x))
+for l in range(21):
+    say(lambda: record_of(t[:512], l))
+for used, x in [(601, (1, 0, 0)), (600, (1, 0, 0)), (512, (7, 0, 0)), (512, (2, 1024, 0)), (512, (2, 1023, 0)),
                 (512, (3, 99, 0)), (512, (6, 4, 5))]:
     show_add(t, used, node(*x))
 t[9] = 1

@@ -10,7 +10,7 @@ use Rattle.scope.specs.declared.Node.{Node}
 use Rattle.scope.specs.Outcome.{Outcome, answer, refused, _>>=_}
 use Rattle.scope.specs.Block.{recordsIn}
 use Rattle.scope.specs.Table.{tables, nodeAt, readRecord, listFrom}
-use Rattle.scope.specs.Calls.{decodeUsed, exchanged, addNode, add, bytesAfter}
+use Rattle.scope.specs.Calls.{decodeUsed, normalized, addNode, add, bytesAfter}
 use Rattle.scope.proofs.Tests.{bound, passed-on}
 use Rattle.scope.proofs.Lists.{length-listFrom}
 use Rattle.codec.specs.Valid.{Bytes}
@@ -39,16 +39,16 @@ module _ (buf : List ℕ) (used : ℕ) (r : List ℕ) where
     unfolding add
     used-rows e =
         rw (le-leb used (length buf) within)
-        (passed-on (decodeUsed (take used buf)) length (λ rs. readRecord (exchanged r) (length rs) >>= λ x. addNode buf used rs x) e)
+        (passed-on (decodeUsed (take used buf)) length (λ rs. readRecord (normalized r) (length rs) >>= λ x. addNode buf used rs x) e)
 
     -- the used part reads
     module _ (rs : List Node) (d : decodeUsed (take used buf) ≡ answer rs) where
       -- rows 14 to 16 of the record given
-      pub record-rows : {number place : ℕ} → readRecord (exchanged r) (length rs) ≡ refused number place → add buf used r ≡ refused number place
+      pub record-rows : {number place : ℕ} → readRecord (normalized r) (length rs) ≡ refused number place → add buf used r ≡ refused number place
       unfolding add
       record-rows e = rw (le-leb used (length buf) within, d, e)
 
-      pub add-is : {x : Node} → readRecord (exchanged r) (length rs) ≡ answer x → add buf used r ≡ addNode buf used rs x
+      pub add-is : {x : Node} → readRecord (normalized r) (length rs) ≡ answer x → add buf used r ≡ addNode buf used rs x
       unfolding add
       add-is e = rw (le-leb used (length buf) within, d, e)
 

@@ -133,7 +133,7 @@ pub fn add(buf: &mut [u8], used: usize, r: [u8; 8]) -> Added
     let Counted::Nodes(nodes) = c else {
         return pass_count(c);
     };
-    let y = lookup::exchange(r);
+    let y = lookup::normalize(r);
     let v = record::read_record(&y, nodes);
     let NodeRead::Found(x) = v else {
         return pass_read(v);

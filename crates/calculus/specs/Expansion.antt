@@ -1,14 +1,12 @@
 -- 01, 'Expansion': the clauses of a literal. Assumes nothing.
 use mathlib.Core.List.{List, [], _∷_, map}
 use mathlib.Core.Bool.{cond}
-use Prim.Native.Nat.{ℕ, _+_, _-_, _*_, _/_, _%_}
+use Prim.Native.Nat.{ℕ, _+_, _*_, _/_, _%_}
 use lib.Dec.{eqb}
 use lib.ListN.{getD}
 use Rattle.scope.specs.declared.Node.{Node}
-
--- '¬ is negation': 2n and 2n + 1 are each other's
-abbrev pub neg : ℕ → ℕ
-neg l = l + 1 - 2 * (l % 2)
+-- '¬ is negation'
+pub use Rattle.scope.specs.Table.{neg}
 
 -- an operand choice of a clause template: 0 is a, 1 is ¬a, 2 is b, 3 is ¬b
 unfoldable pub chosen : Node → ℕ → ℕ

@@ -13,7 +13,7 @@ use Rattle.scope.specs.declared.Node.{Node}
 use Rattle.scope.specs.Outcome.{Outcome, answer, refused, require, _>>_}
 use Rattle.scope.specs.Table.{nodeBytes, readRecord, decode, encode}
 use Rattle.scope.specs.Truth.{truthsFrom, litTruth, truthIn, classical, truth}
-use Rattle.scope.specs.Calls.{noNode, decodeUsed, exchanged, indexOf, Added, addNew, addNode, add}
+use Rattle.scope.specs.Calls.{noNode, decodeUsed, normalized, indexOf, Added, addNew, addNode, add}
 use Rattle.scope.proofs.Tests.{refused-no}
 use Rattle.codec.specs.Valid.{Bytes, Valid, withNode, ReadsBack}
 use Rattle.codec.proofs.Rows.{row, by-test}
@@ -113,7 +113,7 @@ only-two false true false n a b e = inr (cc)
 only-two false true true n a b e = refused-no (sym e)
 
 module _ {vars used : ℕ} {bytes : List ℕ} {rs : List Node} (h : Holds vars used bytes rs) (x y : Node) (small : Bytes (nodeBytes x))
-    (e : readRecord (exchanged (nodeBytes x)) (length rs) ≡ answer y) where
+    (e : readRecord (normalized (nodeBytes x)) (length rs) ≡ answer y) where
   adds : add bytes used (nodeBytes x) ≡ addNode bytes used rs y
   adds = add-is bytes used (nodeBytes x) (h .within) rs (h .nodes) e
 

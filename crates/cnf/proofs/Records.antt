@@ -1,17 +1,17 @@
 -- The records that the reader adds: each reads, with its operands in order of their nodes. Assumes nothing.
-use mathlib.Core.Path.{_≡_, refl}
-use mathlib.Core.Bool.{true, false, cond, _||_}
+use mathlib.Core.Path.{_≡_, _∙_, refl}
+use mathlib.Core.Bool.{true, false, cond}
 use Prim.Native.Nat.{ℕ, _/_, _<_}
 use native.Mathlib.Omega.{arith}
 use lib.Dec.{eqb, ltb}
-use borrow.Author.Tests.{lt-ltb, le-ltb, ltb-true, ltb-false, eqb-false, ne-eqb, eq-eqb}
+use borrow.Author.Tests.{lt-ltb, le-ltb, ltb-true, ltb-false, ne-eqb}
 use Rattle.scope.specs.declared.Node.{Node}
 use Rattle.scope.specs.Outcome.{answer}
 use Rattle.scope.specs.Table.{nodeBytes, formOk, rangeOk, orderOk, readRecord}
-use Rattle.scope.specs.Calls.{wrongOrder, exchanged}
+use Rattle.scope.specs.Calls.{normalized}
 use Rattle.codec.proofs.Rows.{by-test}
-use Rattle.codec.proofs.Bytes.{of-word}
 use Rattle.codec.proofs.Records.{nodeOf-bytes, reading}
+use Rattle.codec.proofs.Normal.{normalized-bytes, turned-other, ordered-none, ordered-two}
 use Rattle.cnf.specs.Fold.{node}
 
 -- a node that reads at n, in its own bytes
@@ -20,19 +20,17 @@ unfolding nodeBytes
 reads-own x n form range order =
     reading (nodeBytes x) n (record { node = nodeOf-bytes x; form = form; range = range; order = order })
 
--- kinds without operands are never exchanged
-as-given : (x : Node) → x .kind < 3 → exchanged (nodeBytes x) ≡ nodeBytes x
-unfolding exchanged wrongOrder nodeBytes
-as-given x h =
-    rw (ne-eqb (x .kind) 3 (λ q. omega arith), ne-eqb (x .kind) 4 (λ q. omega arith), ne-eqb (x .kind) 6 (λ q. omega arith))
+-- kinds without operands are looked up as they are given
+as-given : (x : Node) → x .kind < 3 → normalized (nodeBytes x) ≡ nodeBytes x
+as-given x h = normalized-bytes x ∙ rw (turned-other x (λ q. omega arith), ordered-none x h)
 
 -- 'TRUE'
-pub true-reads : (n : ℕ) → readRecord (exchanged (nodeBytes (node 1 0 0))) n ≡ answer (node 1 0 0)
+pub true-reads : (n : ℕ) → readRecord (normalized (nodeBytes (node 1 0 0))) n ≡ answer (node 1 0 0)
 unfolding formOk rangeOk orderOk
 true-reads n = rw (as-given (node 1 0 0) (omega arith)) (reads-own (node 1 0 0) n refl refl refl)
 
 -- a point's ATOM
-pub point-reads : (p n : ℕ) → p < 1024 → readRecord (exchanged (nodeBytes (node 2 p 0))) n ≡ answer (node 2 p 0)
+pub point-reads : (p n : ℕ) → p < 1024 → readRecord (normalized (nodeBytes (node 2 p 0))) n ≡ answer (node 2 p 0)
 unfolding formOk rangeOk orderOk
 point-reads p n h = rw (as-given (node 2 p 0) (omega arith)) (reads-own (node 2 p 0) n refl (lt-ltb p 1024 h) refl)
 
@@ -53,18 +51,16 @@ module _ (kind : ℕ) (above : 2 < kind) (below : kind < 5) where
       (rw (le-ltb kind 2 (omega arith), two, lt-ltb (a / 2) n (omega arith), lt-ltb (b / 2) n i))
       (rw (le-ltb kind 3 (omega arith), five, lt-ltb (a / 2) (b / 2) h))
 
-  exchanges : (a b : ℕ) → exchanged (nodeBytes (node kind a b)) ≡ nodeBytes (ordered kind a b)
-  unfolding exchanged wrongOrder nodeBytes ordered
-  exchanges a b =
-      let sorted : (eqb kind 3 || (eqb kind 4 || eqb kind 6)) ≡ true =
-      by-test (eqb kind 3) (λ e. rw e) (λ e. rw (e, eq-eqb kind 4 (omega (arith, eqb-false kind 3 e)))) in
-      rw (of-word a, of-word b, sorted)
-      (by-test (ltb (b / 2) (a / 2)) (λ e. rw e) (λ e. rw e))
+  sorts : (a b : ℕ) → normalized (nodeBytes (node kind a b)) ≡ nodeBytes (ordered kind a b)
+  unfolding ordered
+  sorts a b =
+      normalized-bytes (node kind a b)
+      ∙ rw (turned-other (node kind a b) (λ q. omega arith), ordered-two (node kind a b) above)
 
-  pub join-reads : (a b n : ℕ) → a / 2 < n → b / 2 < n → (a / 2 ≡ b / 2 → ⊥) → readRecord (exchanged (nodeBytes (node kind a b))) n ≡ answer (ordered kind a b)
+  pub join-reads : (a b n : ℕ) → a / 2 < n → b / 2 < n → (a / 2 ≡ b / 2 → ⊥) → readRecord (normalized (nodeBytes (node kind a b))) n ≡ answer (ordered kind a b)
   unfolding ordered
   join-reads a b n h i apart =
-      rw (exchanges a b)
+      rw (sorts a b)
       (by-test (ltb (b / 2) (a / 2))
       (λ e. rw e (in-order b a n (ltb-true (b / 2) (a / 2) e) h))
       (λ e. rw e (in-order a b n (omega (arith, ltb-false (b / 2) (a / 2) e, apart)) i)))

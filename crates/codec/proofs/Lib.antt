@@ -8,5 +8,6 @@ pub mod Tables
 pub mod Grows
 pub mod Nodes
 pub mod Used
-pub mod Exchanges
+pub mod Sorted
+pub mod Normal
 pub mod Adds

@@ -85,10 +85,10 @@ pub record Small (x : Node) : Type 0 where
   pub a : x .a < 4032
   pub b : x .b < 4032
 
-pub small : (r : List ℕ) (n : ℕ) {x : Node} → n ≤ 2016 → Reads r n x → Small x
+pub fields-small : (x : Node) (one six n : ℕ) → n ≤ 2016 → formOk x one six ≡ true → rangeOk x n ≡ true → Small x
 unfolding formOk rangeOk
-small r n {x} h p =
-    let form = both (eqb (wordAt r 6) 0) _ (both (eqb (getD r 1 0) 0) _ (p .form) .1) .1 in
+fields-small x one six n h f range =
+    let form = both (eqb six 0) _ (both (eqb one 0) _ f .1) .1 in
     let small-operand : (l : ℕ) → ltb (l / 2) n ≡ true → l < 4032 = λ l q. omega (arith, ltb-true (l / 2) n q) in
     by-test (eqb (x .kind) 1)
     (λ one.
@@ -103,18 +103,21 @@ small r n {x} h p =
     let low : ltb (x .kind) 2 ≡ false = le-ltb (x .kind) 2 (omega (arith, eqb-true (x .kind) 2 two)) in
     record {
       kind = omega (arith, eqb-true (x .kind) 2 two);
-      a = omega (arith, ltb-true (x .a) 1024 (rw (low, two) at (p .range)));
+      a = omega (arith, ltb-true (x .a) 1024 (rw (low, two) at range));
       b = omega (arith, eqb-true (x .b) 0 (rw (one, two) at form));
     })
     (λ two.
     let kinds = both (ltb 2 (x .kind)) (ltb (x .kind) 7) (rw (one, two) at form) in
     let low : ltb (x .kind) 2 ≡ false = le-ltb (x .kind) 2 (omega (arith, ltb-true 2 (x .kind) (kinds .0))) in
-    let operands = both (ltb (x .a / 2) n) (ltb (x .b / 2) n) (rw (low, two) at (p .range)) in
+    let operands = both (ltb (x .a / 2) n) (ltb (x .b / 2) n) (rw (low, two) at range) in
     record {
       kind = ltb-true (x .kind) 7 (kinds .1);
       a = small-operand (x .a) (operands .0);
       b = small-operand (x .b) (operands .1);
     }))
+
+pub small : (r : List ℕ) (n : ℕ) {x : Node} → n ≤ 2016 → Reads r n x → Small x
+small r n {x} h p = fields-small x (getD r 1 0) (wordAt r 6) n h (p .form) (p .range)
 
 pub bytes-node : (x : Node) → Small x → Bytes (nodeBytes x)
 unfolding nodeBytes

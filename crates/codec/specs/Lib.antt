@@ -1,2 +1,3 @@
 -- What the theorems about tables and their bytes speak of. Assumes nothing.
 pub mod Valid
+pub mod Given

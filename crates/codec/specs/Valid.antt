@@ -10,7 +10,7 @@ use Rattle.scope.specs.declared.Node.{Node}
 use Rattle.scope.specs.Outcome.{Outcome, answer, _>>=_}
 use Rattle.scope.specs.Block.{blocksOf}
 use Rattle.scope.specs.Table.{nodeBytes, nodeOf, readRecord, sameNode, decode}
-use Rattle.scope.specs.Calls.{noNode, decodeUsed, exchanged, indexOf, Added, add}
+use Rattle.scope.specs.Calls.{noNode, decodeUsed, normal, indexOf, Added, add}
 
 -- every element is a byte (beyond the end `getD` answers 0)
 abbrev pub Bytes : List ℕ → Type 0
@@ -27,6 +27,10 @@ pub record Valid (rs : List Node) : Type 0 where
   pub few : length rs ≤ 2016
   pub each : (n : ℕ) → n < length rs → readRecord (nodeBytes (getD rs n noNode)) n ≡ answer (getD rs n noNode)
   pub once : (m n : ℕ) → m < n → n < length rs → sameNode (getD rs m noNode) (getD rs n noNode) ≡ false
+
+-- no record has kind 5
+abbrev pub NoImp : List Node → Type 0
+NoImp rs = (n : ℕ) → n < length rs → getD rs n noNode .kind ≡ 5 → ⊥
 
 -- the full blocks of a file that holds records, and the bytes of the records behind them
 unfoldable pub front : {A : Type 0} → Format → (A → List ℕ) → List A → List ℕ
@@ -69,7 +73,7 @@ Records (r ∷ rs) = (length r ≡ 8) × Bytes r × Records rs
 
 -- the node of a record that add is given
 abbrev pub nodeGiven : List ℕ → Node
-nodeGiven r = nodeOf (exchanged r)
+nodeGiven r = normal (nodeOf r)
 
 -- nodes with those of records that were added, each once
 unfoldable pub withAll : List Node → List (List ℕ) → List Node

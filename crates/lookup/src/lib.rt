@@ -1,51 +1,65 @@
-// What add does with a record before any byte changes: exchange operands in the wrong order, and look for the node.
+// What add does with a record before any byte changes: turn an implication into an OR, order the operands, and look for the node.
 ghost use mathlib.Core.Path.{_≡_};
-ghost use mathlib.Core.Bool.{_||_};
-ghost use lib.Dec.{eqb};
 ghost use Prim.Native.Nat.{ℕ, _+_, _<_, _≤_};
 ghost use lib.ListN.{length};
-ghost use Rattle.scope.specs.Table.{sameNode, nodeAt, listFrom};
-ghost use Rattle.scope.specs.Calls.{wrongOrder, exchanged, indexOf};
+ghost use Rattle.scope.specs.Table.{neg, sameNode, nodeAt, listFrom};
+ghost use Rattle.scope.specs.Calls.{ordered, turned, normalized, indexOf};
 ghost use Rattle.record.specs.Place.{placeOf};
 use scope::Node;
 
-// AND, OR and IFF: the kinds whose operands have an order.
-fn has_order(kind: u8) -> bool
-    ensures { λ r. ⌜ r ≡ (eqb kind 3 || (eqb kind 4 || eqb kind 6)) ⌝ }
+// A literal's negation.
+fn negation(l: u16) -> u16
+    ensures { λ r. ⌜ r ≡ neg l ⌝ }
 {
-    match kind {
-        3 => true,
-        4 => true,
-        6 => true,
-        _ => false,
+    if l % 2 == 0 { l + 1 } else { l - 1 }
+}
+
+// An implication becomes OR of ¬a and b.
+fn turn(x: Node) -> Node
+    ensures { λ y. ⌜ y ≡ turned x ⌝ }
+{
+    if x.kind != 5 {
+        return x;
+    }
+    Node {
+        kind: 4,
+        a: negation(x.a),
+        b: x.b,
     }
 }
 
-// Operands of such a kind in the wrong order.
-fn wrong_order(r: [u8; 8]) -> bool
-    ensures { λ w. ⌜ w ≡ wrongOrder r ⌝ }
+// The operands in order of their nodes.
+fn order(x: Node) -> Node
+    ensures { λ y. ⌜ y ≡ ordered x ⌝ }
 {
-    if !has_order(r[0]) {
-        return false;
+    if x.kind < 3 {
+        return x;
     }
-    let a = words::word(&r, 2);
-    let b = words::word(&r, 4);
-    b / 2 < a / 2
+    if x.a / 2 <= x.b / 2 {
+        return x;
+    }
+    Node {
+        kind: x.kind,
+        a: x.b,
+        b: x.a,
+    }
 }
 
-// The record with such operands exchanged.
-pub fn exchange(r: [u8; 8]) -> [u8; 8]
-    ensures { λ x. ⌜ x ≡ exchanged r ⌝ }
+// The record that add looks up for the record given.
+pub fn normalize(r: [u8; 8]) -> [u8; 8]
+    ensures { λ y. ⌜ y ≡ normalized r ⌝ }
 {
-    if !wrong_order(r) {
-        return r;
-    }
-    let mut x = r;
-    x[2] = r[4];
-    x[3] = r[5];
-    x[4] = r[2];
-    x[5] = r[3];
-    x
+    let x = order(turn(record::fields(&r)));
+    [
+        x.kind,
+        r[1],
+        (x.a % 256) as u8,
+        (x.a / 256) as u8,
+        (x.b % 256) as u8,
+        (x.b / 256) as u8,
+        r[6],
+        r[7],
+    ]
 }
 
 // Two nodes have the same fields.

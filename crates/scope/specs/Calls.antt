@@ -1,14 +1,14 @@
 -- 01, 'Where each call says no': the calls on tables, each a chain of rows in table order. Assumes nothing.
 use mathlib.Core.List.{List, [], _∷_, _++_}
-use mathlib.Core.Bool.{Bool, cond, _&&_, _||_}
+use mathlib.Core.Bool.{cond}
 use Prim.Native.Nat.{ℕ, suc, _+_, _*_, _/_}
 use lib.Dec.{eqb, leb, ltb}
 use lib.ListN.{length, getD, take, drop}
 use Rattle.scope.specs.declared.Node.{Node}
 use Rattle.scope.specs.declared.Truth.{Truth}
 use Rattle.scope.specs.Outcome.{Outcome, answer, refused, require, first, _>>_, _>>=_}
-use Rattle.scope.specs.Block.{wordAt}
-use Rattle.scope.specs.Table.{decode, encode, readRecord, sameNode}
+use Rattle.scope.specs.Block.{wordBytes}
+use Rattle.scope.specs.Table.{nodeOf, neg, operands, withOperands, readRecord, sameNode, decode, encode}
 use Rattle.scope.specs.Kleene.{truth₃}
 
 -- 'Table reading answers the node count'
@@ -43,16 +43,33 @@ evaluate t l s =
 unfoldable pub decodeUsed : List ℕ → Outcome (List Node)
 decodeUsed t = cond (eqb (length t) 0) (answer []) (decode t)
 
--- 'Operands of 3, 4, 6 in the wrong order are exchanged first.'
-unfoldable pub wrongOrder : List ℕ → Bool
-wrongOrder r =
-    (eqb (getD r 0 0) 3 || (eqb (getD r 0 0) 4 || eqb (getD r 0 0) 6)) && ltb (wordAt r 4 / 2) (wordAt r 2 / 2)
+-- literals in order of their nodes: one joins those that are in order, then all of them
+unfoldable pub placed : ℕ → List ℕ → List ℕ
+placed l [] = l ∷ []
+placed l (k ∷ ks) = cond (ltb (k / 2) (l / 2)) (k ∷ placed l ks) (l ∷ k ∷ ks)
 
-unfoldable pub exchanged : List ℕ → List ℕ
-exchanged r =
-    cond (wrongOrder r)
-    (getD r 0 0 ∷ getD r 1 0 ∷ getD r 4 0 ∷ getD r 5 0 ∷ getD r 2 0 ∷ getD r 3 0 ∷ getD r 6 0 ∷ getD r 7 0 ∷ [])
-    r
+unfoldable pub sorted : List ℕ → List ℕ
+sorted [] = []
+sorted (l ∷ ls) = placed l (sorted ls)
+
+-- 'Operands of 3, 4, 6 in the wrong order are exchanged first.'
+unfoldable pub ordered : Node → Node
+ordered x = withOperands x (sorted (operands x))
+
+-- 'Add turns kind 5 into OR of ¬a and b'
+unfoldable pub turned : Node → Node
+turned x = cond (eqb (x .kind) 5) (record { kind = 4; a = neg (x .a); b = x .b }) x
+
+-- '.. ordered by node, before looking it up'
+abbrev pub normal : Node → Node
+normal x = ordered (turned x)
+
+-- the record given with its node so; what must be zero is as it was given
+unfoldable pub normalized : List ℕ → List ℕ
+normalized r =
+    normal (nodeOf r) .kind
+    ∷ getD r 1 0
+    ∷ wordBytes (normal (nodeOf r) .a) ++ (wordBytes (normal (nodeOf r) .b) ++ getD r 6 0 ∷ getD r 7 0 ∷ [])
 
 -- where a node stands in a list: its index, or the list's length
 unfoldable pub indexOf : Node → List Node → ℕ
@@ -87,12 +104,13 @@ addNode buf used rs x =
     (answer (record { literal = 2 * indexOf x rs; used = used; bytes = buf }))
     (addNew buf rs x)
 
--- Add: 9, the rows of the used part, 14 to 16 for the record given, then found or new
+-- Add: 9, the rows of the used part, 14 to 16 for the record given, then found or new. 'An old kind 5 record is not found again':
+-- no node that is looked up has kind 5.
 unfoldable pub add : List ℕ → ℕ → List ℕ → Outcome Added
 add buf used r =
     require (leb used (length buf)) 9 0
     >> (decodeUsed (take used buf)
-    >>= λ rs. readRecord (exchanged r) (length rs)
+    >>= λ rs. readRecord (normalized r) (length rs)
     >>= λ x. addNode buf used rs x)
 
 -- the buffer after a call: a refusal changes no byte

@@ -1,7 +1,7 @@
 -- 01, 'The table': records, and which tables are readable. Assumes nothing.
 use mathlib.Core.List.{List, [], _∷_, _++_}
 use mathlib.Core.Bool.{Bool, true, false, cond, not, _&&_, _||_}
-use Prim.Native.Nat.{ℕ, zero, suc, _+_, _*_, _/_, _%_}
+use Prim.Native.Nat.{ℕ, zero, suc, _+_, _-_, _*_, _/_, _%_}
 use lib.Dec.{eqb, leb, ltb}
 use lib.ListN.{length, getD}
 use Rattle.scope.specs.declared.Format.{Format}
@@ -19,6 +19,18 @@ nodeBytes x = x .kind ∷ 0 ∷ wordBytes (x .a) ++ (wordBytes (x .b) ++ 0 ∷ 0
 
 unfoldable pub nodeOf : List ℕ → Node
 nodeOf r = record { kind = getD r 0 0; a = wordAt r 2; b = wordAt r 4 }
+
+-- 'Literal 2n means node n, literal 2n + 1 its negation': they are each other's negation
+abbrev pub neg : ℕ → ℕ
+neg l = l + 1 - 2 * (l % 2)
+
+-- the operands of a node: 'for 3 to 6, a and b are literals'
+unfoldable pub operands : Node → List ℕ
+operands x = cond (ltb (x .kind) 3) [] (x .a ∷ x .b ∷ [])
+
+-- the node with other operands
+unfoldable pub withOperands : Node → List ℕ → Node
+withOperands x ls = record { kind = x .kind; a = getD ls 0 (x .a); b = getD ls 1 (x .b) }
 
 -- 14: 'kind or a must-be-zero field'. 'Kinds: 1 TRUE (a = b = 0), 2 ATOM (b = 0), 3 AND, 4 OR, 5 IMP, 6 IFF'
 unfoldable pub formOk : Node → ℕ → ℕ → Bool

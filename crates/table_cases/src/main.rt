@@ -100,7 +100,8 @@ fn show_add(buf: &mut [u8], used: usize, r: [u8; 8]) {
     }
 }
 
-// Table A of the scope paper, in the first 512 bytes of a buffer that held other bytes.
+// Table A of the scope paper, in the first 512 bytes of a buffer that held other bytes. Add turns its IMP into an OR, so the record of
+// node 4 is written over, as tables have it that were built before IMP was retired.
 fn table_a(other: u8) -> [u8; 600] {
     let mut t = [other; 600];
     let mut used = put(&mut t, 0, node(2, 0, 0));
@@ -113,6 +114,9 @@ fn table_a(other: u8) -> [u8; 600] {
     used = put(&mut t, used, node(3, 4, 7));
     used = put(&mut t, used, node(6, 0, 3));
     put(&mut t, used, node(3, 10, 16));
+    t[36] = 5;
+    t[38] = 0;
+    resealed(&mut t, true);
     t
 }
 
@@ -247,6 +251,13 @@ fn adds() {
     let mut t = table_a(238);
     show_add(&mut t, 512, node(4, 2, 0));
     show_add(&mut t, 512, node(5, 2, 0));
+    show_add(&mut t, 512, node(5, 0, 2));
+    show_add(&mut t, 512, node(5, 0, 2));
+    show_add(&mut t, 512, node(4, 2, 1));
+    show_add(&mut t, 512, node(5, 3, 1));
+    show_add(&mut t, 512, node(5, 4, 5));
+    show_add(&mut t, 512, node(5, 99, 0));
+    show_records(front(&t, 512));
     show_add(&mut t, 601, node(1, 0, 0));
     show_add(&mut t, 600, node(1, 0, 0));
     show_add(&mut t, 512, node(7, 0, 0));

@@ -7,7 +7,7 @@ use mir.Val.{Fits}
 use mir.Syntax.{w8}
 use Rattle.scope.specs.Outcome.{answer}
 use Rattle.scope.specs.Table.{readRecord}
-use Rattle.scope.specs.Calls.{exchanged}
+use Rattle.scope.specs.Calls.{normalized}
 use Rattle.record.specs.Read.{readOf}
 use Rattle.table.specs.Counted.{countedOf}
 use Rattle.codec.specs.Valid.{Bytes}
@@ -28,12 +28,12 @@ counted c = sym (c .before .before .before .used-nodes .ensures) ∙ ap countedO
 -- past the reading of the record: what was read
 given : (c : tie.After-read-record)
     → let at-c = c .before .before .before .before in let start = at-c .before .before .before .before .before .before in
-    readRecord (exchanged (start .args .r)) (length (usedNodes (start .args .buf .now) (start .args .used) (at-c .c .given .0 .0))) ≡ readOf (c .read-record .result)
+    readRecord (normalized (start .args .r)) (length (usedNodes (start .args .buf .now) (start .args .used) (at-c .c .given .0 .0))) ≡ readOf (c .read-record .result)
 given c =
     let a = c .before .before .before .before .before .before .before .before .before .before .args in
     let n : ℕ = c .before .before .before .before .c .given .0 .0 in
-    ap (readRecord (exchanged (a .r))) (used-count (a .buf .now) (a .used) n (counted (c .before .before .before)))
-    ∙ ap (λ (l : List ℕ). readRecord l n) (sym (c .before .before .exchange .ensures))
+    ap (readRecord (normalized (a .r))) (used-count (a .buf .now) (a .used) n (counted (c .before .before .before)))
+    ∙ ap (λ (l : List ℕ). readRecord l n) (sym (c .before .before .normalize .ensures))
     ∙ sym (c .read-record .ensures)
 
 returns : tie.Need-returns
@@ -63,8 +63,8 @@ returns-2 c =
     refuses (start .args .buf .now) _ _ (c .pass-count .result) (c .pass-count .ensures ∙ ap countPassed told)
     (used-rows _ _ _ (at-if1 .if1 .left) (sym (at-used-nodes .used-nodes .ensures) ∙ ap countedOf told))
 
-exchange-requires : tie.Need-exchange-requires
-exchange-requires c κs = search needs
+normalize-requires : tie.Need-normalize-requires
+normalize-requires c κs = search needs
 
 slice-aggregate-read-record : tie.Need-slice-aggregate-read-record
 slice-aggregate-read-record c = search needs
@@ -100,14 +100,14 @@ add-node-requires : tie.Need-add-node-requires
 add-node-requires c κs =
     let at-v = c .before .before in
     let at-read-record = at-v .before .before in
-    let at-exchange = at-read-record .before .before in
-    let at-rest = at-exchange .before in
+    let at-normalize = at-read-record .before .before in
+    let at-rest = at-normalize .before in
     let at-c = at-rest .before in
     let at-if1 = at-c .before .before .before .before in
     let at-slice-known = at-if1 .before in
     let start = at-slice-known .before in
     let a = start .args in
-    let y : List ℕ = at-exchange .exchange .result in
+    let y : List ℕ = at-normalize .normalize .result in
     let n : ℕ = at-c .c .given .0 .0 in
     let all : Bytes (a .buf .now) = λ i. at-slice-known .slice-known .given i .fits in
     let bytes : Bytes y = λ i. let f : Fits w8 (getD y i 0) = search needs in f .fits in
@@ -144,7 +144,7 @@ add-spec =
     pass-count-requires
     same-length
     returns-2
-    exchange-requires
+    normalize-requires
     slice-aggregate-read-record
     read-record-requires
     enum-known-v
