@@ -29,8 +29,13 @@ static const struct command commands[] = {
     { "add", "TABLE RECORD ..", "adds records, prints the literal of each",
       "A RECORD is TRUE, ATOM P, AND(A,B), OR(A,B), IMP(A,B) or IFF(A,B), with a point P and literals A, B.\n"
       "A record that is there already is found. TABLE is made where there is none. The file is replaced\n"
-      "whole once every record is in, and stays as it was on any refusal.\n",
+      "whole once every record is in, and stays as it was on any refusal. IMP(A,B) is added as the OR of not A and B.\n",
       run_add, 2, INT_MAX, 0 },
+    { "rebuild", "OLD NEW", "adds a table's records anew, and says which literal each got",
+      "Adds the records of OLD in turn to an empty table, with their operands replaced by the literals that these got,\n"
+      "and writes it to NEW. A line a node: its literal in OLD and in NEW, which are true under the same settings. No\n"
+      "IMP is left; without one NEW is OLD byte for byte. Where two operands have become one node: refused 16.\n",
+      run_rebuild, 2, 2, 0 },
     { "eval", "TABLE LITERAL SETTINGS", "a literal's truth: yes, no or unknown",
       "SETTINGS is a file of a byte for each of the 1,024 points, 0 no, 1 yes and 2 either way; what follows them is\n"
       "not read.\n",
@@ -91,8 +96,8 @@ static int print_overview(void)
 {
     puts("usage: bev COMMAND ARGUMENT ..\n\nCondition tables over 1,024 points, their solver and its derivations.\n");
     for (size_t i = 0; i < COMMANDS; i++)
-        printf("  %-7s%-27s%s\n", commands[i].name, commands[i].arguments, commands[i].summary);
-    puts("\n  help   COMMAND                    more about a command\n"
+        printf("  %-8s%-26s%s\n", commands[i].name, commands[i].arguments, commands[i].summary);
+    puts("\n  help    COMMAND                   more about a command\n"
          "  --version\n\n"
          "The file name - is standard input. A refusal is printed as `refused N at P: meaning`.\n"
          "Exit status: 10 possible, 20 impossible, 0 answered or accepted, 1 refused, 2 wrong use, input or output.");

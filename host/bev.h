@@ -75,6 +75,7 @@ struct nodes {
 bool load_table(const char *path, struct bytes *into);
 struct nodes *read_nodes(const struct bytes *table, const struct names *of, int *status);
 void print_record(const bev_node *n);
+void write_record(const bev_node *n, uint8_t record[BEV_RECORD]);
 const char *parse_record(const char *text, uint8_t record[BEV_RECORD]);
 bool parse_number(const char *text, size_t *number);
 
@@ -88,6 +89,7 @@ void print_words(const struct nodes *nodes, const bev_node *n);
 int run_list(const struct words *w);
 int run_show(const struct words *w);
 int run_add(const struct words *w);
+int run_rebuild(const struct words *w);
 int run_eval(const struct words *w);
 int run_decide(const struct words *w);
 int run_clash(const struct words *w);

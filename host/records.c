@@ -82,6 +82,17 @@ static const char *parse_operands(const char *text, size_t *a, size_t *b)
     return text && *text == ')' ? text + 1 : NULL;
 }
 
+/* The 8 bytes of a node's record. */
+void write_record(const bev_node *n, uint8_t record[BEV_RECORD])
+{
+    memset(record, 0, BEV_RECORD);
+    record[0] = n->kind;
+    record[2] = (uint8_t)n->a;
+    record[3] = (uint8_t)(n->a >> 8);
+    record[4] = (uint8_t)n->b;
+    record[5] = (uint8_t)(n->b >> 8);
+}
+
 /* The 8 bytes of a record written as text; NULL, or why it is no record. */
 const char *parse_record(const char *text, uint8_t record[BEV_RECORD])
 {
@@ -96,11 +107,6 @@ const char *parse_record(const char *text, uint8_t record[BEV_RECORD])
         rest = parse_operands(rest, &a, &b);
     if (!rest || *rest)
         return "is no record: they are written TRUE, ATOM 5, AND(0,2), with numbers up to 65,535";
-    memset(record, 0, BEV_RECORD);
-    record[0] = kind;
-    record[2] = (uint8_t)a;
-    record[3] = (uint8_t)(a >> 8);
-    record[4] = (uint8_t)b;
-    record[5] = (uint8_t)(b >> 8);
+    write_record(&(bev_node){ .kind = kind, .a = (uint16_t)a, .b = (uint16_t)b }, record);
     return NULL;
 }

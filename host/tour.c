@@ -26,7 +26,7 @@ static const char *word(bev_decided d)
 int main(void)
 {
     uint16_t storm = add(BEV_ATOM, 0, 0), go_around = add(BEV_ATOM, 1, 0);
-    uint16_t rule = add(BEV_IMP, storm, go_around);                 /* a storm implies a go-around */
+    uint16_t rule = add(BEV_OR, (uint16_t)(storm + 1), go_around);  /* no storm, or a go-around */
     uint16_t goals[] = { rule, storm, (uint16_t)(go_around + 1) };  /* the rule, and a storm; and no go-around */
     bev_decided d = bev_decide(table, used, goals, 2, settings, sizeof settings, work, BEV_WORK);
     printf("%s: storm %d, go-around %d\n", word(d), settings[0], settings[1]);

@@ -193,11 +193,19 @@ static inline o_added o_add(uint8_t *buf, size_t len, size_t used, const uint8_t
             return v;
     }
     memcpy(r, r8, 8);
-    if ((r[0] == 3 || r[0] == 4 || r[0] == 6) && o_word(r + 2) / 2 > o_word(r + 4) / 2) {
-        memcpy(r + 2, r8 + 4, 2);
-        memcpy(r + 4, r8 + 2, 2);
-    }
     v.place = n;
+    if (r[0] == 5) { /* its own refusals, then it is the OR of not a and b */
+        v.number = o_record(r, n);
+        if (v.number)
+            return v;
+        r[0] = 4;
+        r[2] ^= 1;
+    }
+    if ((r[0] == 3 || r[0] == 4 || r[0] == 6) && o_word(r + 2) / 2 > o_word(r + 4) / 2) {
+        uint8_t a[2] = { r[2], r[3] };
+        memcpy(r + 2, r + 4, 2);
+        memcpy(r + 4, a, 2);
+    }
     v.number = o_record(r, n);
     if (v.number)
         return v;
