@@ -183,7 +183,7 @@ static times measure(operation f, const a_case *c, const char *what)
 static double ratio(times t) { return t.seconds[LIB] / t.seconds[PLAIN]; }
 
 /* The worst of each kind, for the last lines. */
-static struct { double decide, clash, read, adds, listing, derive, check; } worst = { 0, 0, 0, 0, 0, 1e18, 1e18 };
+static struct { double decide, clash, read, adds, listing, threes, gain, derive, check; } worst = { 0, 0, 0, 0, 0, 0, 0, 1e18, 1e18 };
 
 static void at_least(double *w, double v) { *w = v > *w ? v : *w; }
 
@@ -294,6 +294,27 @@ static void clashes(void)
     }
 }
 
+/* The same conditions in pairs and in threes. */
+static void in_threes(void)
+{
+    static const struct { unsigned points, seed; } random[] = { { 50, 11 }, { 70, 8 }, { 80, 5 } };
+    for (unsigned k = 0; k < 6; k++) {
+        double seconds[2];
+        for (int threes = 0; threes < 2; threes++) {
+            if (k < 3)
+                pigeons(&now, 5 + k, threes);
+            else
+                clauses_of_three(&now, random[k - 3].points, random[k - 3].seed, threes);
+            times t = measure(decide, &now, "decide");
+            report(&now, "decide", t, (double)ps.moves, "moves");
+            seconds[threes] = t.seconds[LIB];
+            if (threes)
+                at_least(&worst.threes, ratio(t));
+        }
+        at_least(&worst.gain, seconds[1] / seconds[0]);
+    }
+}
+
 /* Not among those that count: a node with 2,013 parents, which are all looked at whenever it joins or leaves; and long stretches of met
  * clauses, which a split looks through. */
 static void wide(void)
@@ -317,7 +338,7 @@ static void derives(void)
     if (!derivation[LIB])
         exit(2);
     derivation[PLAIN] = derivation[LIB] + ROOM;
-    for (int k = 0; k < 9; k++) {
+    for (int k = 0; k < 11; k++) {
         switch (k) {
         case 0: pigeonhole(&now, 6); break;
         case 1: pigeonhole(&now, 7); break;
@@ -327,7 +348,9 @@ static void derives(void)
         case 5: schwichtenberg(&now, 500); break;
         case 6: random_clauses(&now, 60, 6); break;
         case 7: random_clauses(&now, 80, 2); break;
-        case 8: random_list(&now, 80, 2, P_GOALS); break;
+        case 8: random_list(&now, 80, 2, 8); break;
+        case 9: pigeons(&now, 6, 1); break;
+        case 10: clauses_of_three(&now, 70, 8, 1); break;
         }
         times t = measure(derive, &now, "derive");
         if (memcmp(derivation[LIB], derivation[PLAIN], size_of_steps())) {
@@ -374,6 +397,7 @@ static void targets(void)
 {
     printf("worst, and the target: decide %.2f (1.5) times plain, clash %.2f (1.5) times plain, read %.2f (2) times plain, 2,016 adds %.1f (60) ms, listing %.2f (1) s\n",
         worst.decide, worst.clash, worst.read, 1e3 * worst.adds, worst.listing);
+    printf("worst, and the target: decide in threes %.2f (1.3) times plain, %.2f (1) times the same in pairs\n", worst.threes, worst.gain);
 #ifdef HAVE_DERIVE
     printf("worst, and the target: derive %.1f (8) and check %.1f (40) million steps a second\n", worst.derive, worst.check);
 #endif
@@ -385,6 +409,7 @@ int main(void)
     lists();
     searches();
     clashes();
+    in_threes();
     wide();
 #ifdef HAVE_DERIVE
     derives();

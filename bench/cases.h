@@ -20,17 +20,11 @@ static unsigned pick(unsigned below)
     return (unsigned)(b_seed >> 11) % below;
 }
 
-enum { IS_TRUE = 1, ATOM, AND, OR, IMP, IFF };
+enum { IS_TRUE = 1, ATOM, AND, OR, IMP, IFF, AND3, OR3 };
 
 /* The literal of a record, which is added unless it is there. */
-static unsigned node(unsigned kind, unsigned a, unsigned b)
+static unsigned find(uint64_t r)
 {
-    if (kind > ATOM && kind != IMP && a / 2 > b / 2) {
-        unsigned s = a;
-        a = b;
-        b = s;
-    }
-    uint64_t r = kind | (uint64_t)a << 16 | (uint64_t)b << 32;
     for (size_t n = 0; n < b_nodes; n++)
         if (b_record[n] == r)
             return 2 * (unsigned)n;
@@ -42,12 +36,53 @@ static unsigned node(unsigned kind, unsigned a, unsigned b)
     return 2 * (unsigned)(b_nodes - 1);
 }
 
+static unsigned node(unsigned kind, unsigned a, unsigned b)
+{
+    if (kind > ATOM && kind != IMP && a / 2 > b / 2) {
+        unsigned s = a;
+        a = b;
+        b = s;
+    }
+    return find(kind | (uint64_t)a << 16 | (uint64_t)b << 32);
+}
+
+/* A literal of kind 7 or 8, of three others. */
+static unsigned node3(unsigned kind, unsigned a, unsigned b, unsigned c)
+{
+    unsigned l[3] = { a, b, c };
+    for (int i = 0; i < 3; i++) {
+        unsigned *x = l + i % 2, y = x[0];
+        if (y / 2 > x[1] / 2) {
+            x[0] = x[1];
+            x[1] = y;
+        }
+    }
+    return find(kind | (uint64_t)l[0] << 16 | (uint64_t)l[1] << 32 | (uint64_t)l[2] << 48);
+}
+
 static unsigned atom(unsigned point) { return node(ATOM, point, 0); }
 static unsigned no(unsigned l) { return l ^ 1; }
 
 /* One more member of a chain; `none` is the chain without any. */
 enum { none = 65535 };
 static unsigned chain(unsigned kind, unsigned so_far, unsigned l) { return so_far == none ? l : node(kind, so_far, l); }
+
+/* A chain of ANDs or ORs, in pairs or in threes. */
+typedef struct { unsigned kind, so_far, waiting; int threes; } a_chain;
+
+static void more(a_chain *c, unsigned l)
+{
+    if (!c->threes || c->so_far == none)
+        c->so_far = chain(c->kind, c->so_far, l);
+    else if (c->waiting == none)
+        c->waiting = l;
+    else {
+        c->so_far = node3(c->kind + AND3 - AND, c->so_far, c->waiting, l);
+        c->waiting = none;
+    }
+}
+
+static unsigned chained(const a_chain *c) { return c->waiting == none ? c->so_far : node(c->kind, c->so_far, c->waiting); }
 
 static p_list one(size_t goal)
 {
@@ -168,6 +203,54 @@ static void random_list(a_case *c, unsigned n, unsigned seed, size_t goals)
 }
 
 static void random_clauses(a_case *c, unsigned n, unsigned seed) { random_list(c, n, seed, 1); }
+
+/* Conditions that come in threes: random clauses of three points, 4.26 to a point, in pairs or in threes. */
+static void clauses_of_three(a_case *c, unsigned n, unsigned seed, int threes)
+{
+    char name[32];
+    a_chain all = { AND, none, none, threes };
+    b_seed = 88172645463325252u + seed * 7919;
+    for (unsigned i = 0; i < 20; i++)
+        pick(2);
+    for (unsigned i = 0; i < n; i++)
+        atom(i);
+    for (unsigned k = 0; k < n * 426 / 100; k++) {
+        unsigned x = pick(n), y = pick(n), z = pick(n);
+        while (y == x)
+            y = pick(n);
+        while (z == x || z == y)
+            z = pick(n);
+        a_chain some = { OR, none, none, threes };
+        more(&some, 2 * x + pick(2));
+        more(&some, 2 * y + pick(2));
+        more(&some, 2 * z + pick(2));
+        more(&all, chained(&some));
+    }
+    snprintf(name, sizeof name, "random %u/%u %s", n, seed, threes ? "3s" : "2s");
+    write_case(c, name, 0, chained(&all));
+}
+
+/* The pigeons in pairs or in threes. */
+static void pigeons(a_case *c, unsigned n, int threes)
+{
+    char name[32];
+    a_chain all = { AND, none, none, threes };
+    for (unsigned i = 0; i <= n; i++)
+        for (unsigned j = 0; j < n; j++)
+            atom(n * i + j);
+    for (unsigned i = 0; i <= n; i++) {
+        a_chain some = { OR, none, none, threes };
+        for (unsigned j = 0; j < n; j++)
+            more(&some, atom(n * i + j));
+        more(&all, chained(&some));
+    }
+    for (unsigned j = 0; j < n; j++)
+        for (unsigned i = 0; i <= n; i++)
+            for (unsigned k = 0; k < i; k++)
+                more(&all, node(OR, no(atom(n * k + j)), no(atom(n * i + j))));
+    snprintf(name, sizeof name, "pigeons %u %s", n, threes ? "3s" : "2s");
+    write_case(c, name, 0, chained(&all));
+}
 
 /* Nine choices that have no part in the clash, each behind a stretch of n points whose clauses are met: what looking for an open clause costs. */
 static void stretches(a_case *c, unsigned n)

@@ -20,8 +20,9 @@ enum { P_MET, P_CONFLICT, P_UNIT, P_OPEN };
 typedef struct { unsigned number; size_t place; } p_refusal;
 typedef struct { size_t count; uint16_t goal[P_GOALS]; } p_list;
 
-/* A table that was read: the records as numbers (kind, a from bit 16, b from bit 32), and the hash of all of them. */
-static struct { size_t nodes; uint64_t node[P_NODES]; uint16_t slot[P_SLOTS]; } p_table;
+/* A table that was read: the records as numbers (kind, a from bit 16, b from bit 32, c from bit 48), whether one has three operands, and the
+ * hash of all of them. */
+static struct { size_t nodes; int threes; uint64_t node[P_NODES]; uint16_t slot[P_SLOTS]; } p_table;
 
 static struct {
     uint8_t value[P_TRUE + 2];     /* by literal: 0 undecided, 1 true, 2 false */
@@ -31,7 +32,7 @@ static struct {
     uint16_t position[P_NODES];    /* by node: where it is held, from 1; 0 not held */
     uint16_t trail[P_NODES + 1];   /* by position */
     uint16_t number[P_NODES + 2];  /* by position: the number of its first clause */
-    uint16_t first[P_NODES + 1], parent[2 * P_NODES];
+    uint16_t first[P_NODES + 1], parent[3 * P_NODES];
     uint32_t note[3 * P_PLACES];   /* place and former class */
     struct { uint16_t literal, held; uint32_t notes; } level[P_NODES];
     size_t held, notes, levels;
@@ -103,7 +104,15 @@ static unsigned p_block(const uint8_t *b, size_t j, int last, unsigned letter, u
 /* Rows 14 to 16 of a record that would be node n. */
 static inline unsigned p_record(uint64_t r, size_t n)
 {
-    unsigned kind = r & 255, a = r >> 16 & 65535, b = r >> 32 & 65535;
+    unsigned kind = r & 255, a = r >> 16 & 65535, b = r >> 32 & 65535, c = (unsigned)(r >> 48);
+    if (kind - 7 < 2) {
+        if (r & 0xFF00)
+            return 14;
+        p_table.threes = 1;
+        if (a / 2 >= n || b / 2 >= n || c / 2 >= n)
+            return 15;
+        return a / 2 >= b / 2 || b / 2 >= c / 2 ? 16 : 0;
+    }
     if (r & 0xFFFF00000000FF00)
         return 14;
     if (kind - 3 < 4) {
@@ -131,6 +140,7 @@ static p_refusal p_read(const uint8_t *t, size_t len)
     if (len == 0 || len % 512 || len > 16384)
         return p_no(10, 0);
     memset(p_table.slot, 0, sizeof p_table.slot);
+    p_table.threes = 0;
     size_t blocks = len / 512, n = 0;
     for (size_t j = 0; j < blocks; j++) {
         const uint8_t *b = t + 512 * j;
@@ -173,6 +183,17 @@ static p_added p_add(uint8_t *buf, size_t len, size_t used, const uint8_t *recor
     unsigned kind = r & 255, a = r >> 16 & 65535, b = r >> 32 & 65535;
     if ((kind == 3 || kind == 4 || kind == 6) && a / 2 > b / 2)
         r = (r & 0xFFFF00000000FFFF) | (uint64_t)b << 16 | (uint64_t)a << 32;
+    if (kind - 7 < 2) {
+        unsigned l[3] = { a, b, (unsigned)(r >> 48) };
+        for (int i = 0; i < 3; i++) {
+            unsigned *x = l + i % 2, y = x[0];
+            if (y / 2 > x[1] / 2) {
+                x[0] = x[1];
+                x[1] = y;
+            }
+        }
+        r = (r & 65535) | (uint64_t)l[0] << 16 | (uint64_t)l[1] << 32 | (uint64_t)l[2] << 48;
+    }
     v.number = p_record(r, n);
     v.place = n;
     if (v.number)
@@ -224,6 +245,11 @@ static int p_evaluate(const uint8_t *t, size_t len, size_t literal, const uint8_
     for (size_t n = 0; n <= literal / 2; n++) {
         uint64_t r = p_table.node[n];
         unsigned kind = r & 255, a = r >> 16 & 65535, b = r >> 32 & 65535;
+        if (kind > 6) {
+            unsigned c = (unsigned)(r >> 48), two = joined[kind - 4][3 * signed_as[a & 1][truth[a / 2]] + signed_as[b & 1][truth[b / 2]]];
+            truth[n] = joined[kind - 4][3 * two + signed_as[c & 1][truth[c / 2]]];
+            continue;
+        }
         truth[n] = kind > 2 ? joined[kind][3 * signed_as[a & 1][truth[a / 2]] + signed_as[b & 1][truth[b / 2]]] : kind == 1 ? 1 : s[a];
     }
     return signed_as[literal & 1][truth[literal / 2]];
@@ -273,6 +299,8 @@ static void p_link(size_t nodes)
         if ((r & 255) > 2) {
             ps.first[(r >> 17) & 32767]++;
             ps.first[(r >> 33) & 32767]++;
+            if ((r & 255) > 6)
+                ps.first[r >> 49]++;
         }
     }
     unsigned sum = 0;
@@ -283,6 +311,8 @@ static void p_link(size_t nodes)
         if ((r & 255) > 2) {
             ps.parent[--ps.first[(r >> 17) & 32767]] = (uint16_t)n;
             ps.parent[--ps.first[(r >> 33) & 32767]] = (uint16_t)n;
+            if ((r & 255) > 6)
+                ps.parent[--ps.first[r >> 49]] = (uint16_t)n;
         }
     }
 }
@@ -498,6 +528,8 @@ static inline int p_search(const p_list *g, p_sink *steps)
     return p_put(g, nodes, steps);
 }
 
+#include "threes.h"
+
 /* The table's rows, then rows 62 and 20. */
 static p_refusal p_asked(const uint8_t *t, size_t len, const p_list *g)
 {
@@ -518,7 +550,7 @@ static int p_decide(const uint8_t *t, size_t len, const p_list *g, uint8_t *sett
     *no = p_asked(t, len, g);
     if (!no->number && points < 1024)
         *no = p_no(21, 0);
-    if (no->number || !p_search(g, NULL))
+    if (no->number || !(p_table.threes ? p3_search(g, NULL) : p_search(g, NULL)))
         return 0;
     memset(settings, 2, 1024);
     for (size_t q = 1; q <= ps.held; q++) {
@@ -569,7 +601,7 @@ static size_t p_derive(const uint8_t *t, size_t len, const p_list *g, uint8_t *o
     if (no->number)
         return 0;
     p_sink s = { 0, NULL };
-    *no = p_no(p_search(g, &s) ? 30 : 0, 0);
+    *no = p_no((p_table.threes ? p3_search(g, &s) : p_search(g, &s)) ? 30 : 0, 0);
     if (no->number)
         return 0;
     uint64_t blocks = (s.steps + 125) / 126;
@@ -578,7 +610,10 @@ static size_t p_derive(const uint8_t *t, size_t len, const p_list *g, uint8_t *o
         return 0;
     s.steps = 0;
     s.out = out;
-    p_search(g, &s);
+    if (p_table.threes)
+        p3_search(g, &s);
+    else
+        p_search(g, &s);
     if (s.steps % 126)
         p_seal(out + 512 * (blocks - 1));
     return (size_t)s.steps;
@@ -586,13 +621,13 @@ static size_t p_derive(const uint8_t *t, size_t len, const p_list *g, uint8_t *o
 
 /* The checker */
 
-enum { P_GONE0 = 1, P_GONE1 = 2, P_STRUCK = 4, P_CLAUSES = P_GOALS + 2 * P_NODES };
+enum { P_GONE0 = 1, P_GONE1 = 2, P_GONE2 = 4, P_STRUCK = 8, P_CLAUSES = P_GOALS + 3 * P_NODES };
 
 static struct {
     uint8_t value[P_TRUE], marks[P_CLAUSES], size[P_CLAUSES];
-    uint32_t pair[P_CLAUSES];
+    uint64_t lits[P_CLAUSES]; /* three literals of 16 bits */
     uint16_t trail[P_NODES];
-    uint32_t note[3 * P_PLACES];
+    uint32_t note[4 * P_CLAUSES];
     struct { uint16_t literal, held, clauses; uint32_t notes; } level[P_NODES];
     size_t held, clauses, notes, levels;
 } pc;
@@ -601,16 +636,32 @@ static inline void p_clause(unsigned pair)
 {
     pc.marks[pc.clauses] = 0;
     pc.size[pc.clauses] = (uint8_t)(((pair & 65535) < P_TRUE) + (pair >> 16 < P_TRUE));
-    pc.pair[pc.clauses++] = pair;
+    pc.lits[pc.clauses++] = pair;
+}
+
+/* The clauses of a literal of three operands. */
+static inline void p_join_three(unsigned l)
+{
+    uint64_t clause[3];
+    unsigned count = p3_clauses(l, clause);
+    for (unsigned j = 0; j < count; j++) {
+        pc.marks[pc.clauses] = 0;
+        pc.size[pc.clauses] = count == 1 ? 3 : 1;
+        pc.lits[pc.clauses++] = clause[j];
+    }
 }
 
 static inline void p_join(unsigned l)
 {
     unsigned count;
-    uint64_t both = p_clauses(l, &count);
     pc.value[l] = 1;
     pc.value[l ^ 1] = 2;
     pc.trail[pc.held++] = (uint16_t)l;
+    if ((p_table.node[l / 2] & 255) > 6) {
+        p_join_three(l);
+        return;
+    }
+    uint64_t both = p_clauses(l, &count);
     if (count > 0)
         p_clause((unsigned)both);
     if (count > 1)
@@ -657,9 +708,10 @@ static inline int p_apply(unsigned rule, unsigned i, unsigned k)
     }
     if (k >= pc.clauses || pc.marks[k] & P_STRUCK)
         return 0;
-    unsigned pair = pc.pair[k], size = pc.size[k], marks = pc.marks[k];
-    unsigned left = size - (marks & 1) - (marks >> 1);
-    unsigned x = marks & P_GONE0 ? pair >> 16 : pair & 65535;
+    uint64_t lits = pc.lits[k];
+    unsigned size = pc.size[k], marks = pc.marks[k];
+    unsigned left = size - (marks & 1) - (marks >> 1 & 1) - (marks >> 2);
+    unsigned x = lits >> 16 * (marks & P_GONE0 ? marks & P_GONE1 ? 2 : 1 : 0) & 65535;
     switch (rule) {
     case 'U':
         if (left != 1 || pc.value[x])
@@ -668,12 +720,14 @@ static inline int p_apply(unsigned rule, unsigned i, unsigned k)
         p_join(x);
         return 1;
     case 'R':
-        if (i >= size || marks >> i & 1 || pc.value[i ? pair >> 16 : pair & 65535] != 2)
+        if (i >= size || marks >> i & 1 || pc.value[lits >> 16 * i & 65535] != 2)
             return 0;
         p_mark(k, P_GONE0 << i);
         return 1;
     case 'E':
-        if (!((left && pc.value[x] == 1) || (left == 2 && pc.value[pair >> 16] == 1)))
+        for (i = 0; i < size && (marks >> i & 1 || pc.value[lits >> 16 * i & 65535] != 1); i++)
+            ;
+        if (i == size)
             return 0;
         p_mark(k, P_STRUCK);
         return 1;
@@ -695,7 +749,7 @@ static p_refusal p_form(const uint8_t *d, size_t len)
     for (size_t j = 0; j < len / 512; j++)
         for (unsigned i = 0; i < d[512 * j + 1]; i++) {
             const uint8_t *s = d + 512 * j + 4 + 4 * i;
-            if (s[0] == 'R' ? s[1] > 1 : s[1] || (s[0] != 'U' && s[0] != 'E' && s[0] != 'C' && s[0] != 'S'))
+            if (s[0] == 'R' ? s[1] > 2 : s[1] || (s[0] != 'U' && s[0] != 'E' && s[0] != 'C' && s[0] != 'S'))
                 return p_no(44, 126 * j + i);
         }
     return p_no(0, 0);

@@ -27,7 +27,7 @@ static const struct command commands[] = {
       "  --dot   a graph for Graphviz; the edge to a negated operand is dashed\n",
       run_show, 1, 1, TAKES_DOT },
     { "add", "TABLE RECORD ..", "adds records, prints the literal of each",
-      "A RECORD is TRUE, ATOM P, AND(A,B), OR(A,B), IMP(A,B) or IFF(A,B), with a point P and literals A, B.\n"
+      "A RECORD is TRUE, ATOM P, AND(A,B), OR(A,B), IMP(A,B), IFF(A,B), AND(A,B,C) or OR(A,B,C), with a point P and literals A, B, C.\n"
       "A record that is there already is found. TABLE is made where there is none. The file is replaced\n"
       "whole once every record is in, and stays as it was on any refusal. IMP(A,B) is added as the OR of not A and B.\n",
       run_add, 2, INT_MAX, 0 },

@@ -25,6 +25,8 @@ static bev_added add_mapped(struct rebuilt *r, bev_node n)
         n.a = rebuilt_literal(r, n.a);
         n.b = rebuilt_literal(r, n.b);
     }
+    if (n.kind > BEV_IFF)
+        n.c = rebuilt_literal(r, n.c);
     write_record(&n, record);
     return bev_add(r->bytes, sizeof r->bytes, r->used, record);
 }

@@ -1,10 +1,11 @@
-/* Tables and their records, read by the library and written as text: TRUE, ATOM 5, AND(0,2). */
+/* Tables and their records, read by the library and written as text: TRUE, ATOM 5, AND(0,2), OR(1,2,4). */
 #include "bev.h"
 #include <stdlib.h>
 #include <string.h>
 
 static const char *const kind_names[] = {
     [BEV_TRUE] = "TRUE", [BEV_ATOM] = "ATOM", [BEV_AND] = "AND", [BEV_OR] = "OR", [BEV_IMP] = "IMP", [BEV_IFF] = "IFF",
+    [BEV_AND3] = "AND", [BEV_OR3] = "OR",
 };
 
 enum { KINDS = sizeof kind_names / sizeof kind_names[0] };
@@ -39,6 +40,8 @@ void print_record(const bev_node *n)
     fputs(kind_names[n->kind], stdout);
     if (n->kind == BEV_ATOM)
         printf(" %u", n->a);
+    else if (n->kind > BEV_IFF)
+        printf("(%u,%u,%u)", n->a, n->b, n->c);
     else if (n->kind != BEV_TRUE)
         printf("(%u,%u)", n->a, n->b);
 }
@@ -72,14 +75,19 @@ static uint8_t parse_kind(const char *text, size_t *len)
     return 0;
 }
 
-/* The fields of `(a,b)`; where they end, or NULL. A space may follow the comma. */
-static const char *parse_operands(const char *text, size_t *a, size_t *b)
+/* The fields of `(a,b)` or `(a,b,c)` and how many these are; where they end, or NULL. A space may follow a comma. */
+static const char *parse_operands(const char *text, size_t field[3], int *count)
 {
-    text = *text == '(' ? parse_digits(text + 1, UINT16_MAX, a) : NULL;
-    if (!text || *text != ',')
-        return NULL;
-    text = parse_digits(text + 1 + (text[1] == ' '), UINT16_MAX, b);
-    return text && *text == ')' ? text + 1 : NULL;
+    text = *text == '(' ? parse_digits(text + 1, UINT16_MAX, &field[0]) : NULL;
+    for (*count = 1; text && *text == ',' && *count < 3; ++*count)
+        text = parse_digits(text + 1 + (text[1] == ' '), UINT16_MAX, &field[*count]);
+    return text && *text == ')' && *count > 1 ? text + 1 : NULL;
+}
+
+/* The kind that a name has with three operands; 0 for none. */
+static uint8_t of_three(uint8_t kind)
+{
+    return kind == BEV_AND ? BEV_AND3 : kind == BEV_OR ? BEV_OR3 : 0;
 }
 
 /* The 8 bytes of a node's record. */
@@ -91,22 +99,27 @@ void write_record(const bev_node *n, uint8_t record[BEV_RECORD])
     record[3] = (uint8_t)(n->a >> 8);
     record[4] = (uint8_t)n->b;
     record[5] = (uint8_t)(n->b >> 8);
+    record[6] = (uint8_t)n->c;
+    record[7] = (uint8_t)(n->c >> 8);
 }
 
 /* The 8 bytes of a record written as text; NULL, or why it is no record. */
 const char *parse_record(const char *text, uint8_t record[BEV_RECORD])
 {
-    size_t a = 0, b = 0, len;
+    size_t field[3] = { 0, 0, 0 }, len;
+    int count = 0;
     uint8_t kind = parse_kind(text, &len);
     if (!kind)
         return "is no record: it starts with none of TRUE, ATOM, AND, OR, IMP, IFF";
     const char *rest = text + len;
     if (kind == BEV_ATOM)
-        rest = *rest == ' ' ? parse_digits(rest + 1, UINT16_MAX, &a) : NULL;
+        rest = *rest == ' ' ? parse_digits(rest + 1, UINT16_MAX, &field[0]) : NULL;
     else if (kind != BEV_TRUE)
-        rest = parse_operands(rest, &a, &b);
-    if (!rest || *rest)
-        return "is no record: they are written TRUE, ATOM 5, AND(0,2), with numbers up to 65,535";
-    write_record(&(bev_node){ .kind = kind, .a = (uint16_t)a, .b = (uint16_t)b }, record);
+        rest = parse_operands(rest, field, &count);
+    if (count == 3)
+        kind = of_three(kind);
+    if (!rest || *rest || !kind)
+        return "is no record: they are written TRUE, ATOM 5, AND(0,2), OR(1,2,4), with numbers up to 65,535";
+    write_record(&(bev_node){ .kind = kind, .a = (uint16_t)field[0], .b = (uint16_t)field[1], .c = (uint16_t)field[2] }, record);
     return NULL;
 }

@@ -37,7 +37,8 @@ static void print_operand(const struct nodes *nodes, uint16_t literal)
 
 void print_words(const struct nodes *nodes, const bev_node *n)
 {
-    static const char *const between[] = { [BEV_AND] = " and ", [BEV_OR] = " or ", [BEV_IMP] = " then ", [BEV_IFF] = " if and only if " };
+    static const char *const between[] = { [BEV_AND] = " and ", [BEV_OR] = " or ", [BEV_IMP] = " then ", [BEV_IFF] = " if and only if ",
+                                           [BEV_AND3] = " and ", [BEV_OR3] = " or " };
     if (n->kind == BEV_TRUE) {
         fputs("always yes", stdout);
     } else if (n->kind == BEV_ATOM) {
@@ -47,6 +48,10 @@ void print_words(const struct nodes *nodes, const bev_node *n)
         print_operand(nodes, n->a);
         fputs(between[n->kind], stdout);
         print_operand(nodes, n->b);
+        if (n->kind > BEV_IFF) {
+            fputs(between[n->kind], stdout);
+            print_operand(nodes, n->c);
+        }
     }
 }
 
@@ -79,6 +84,8 @@ static void show_dot(const struct nodes *nodes)
             print_edge(n, node->a, node->kind == BEV_IMP ? ", label=if" : "");
             print_edge(n, node->b, node->kind == BEV_IMP ? ", label=then" : "");
         }
+        if (node->kind > BEV_IFF)
+            print_edge(n, node->c, "");
     }
     puts("}");
 }

@@ -5,7 +5,7 @@
 #include <stdlib.h>
 #include <string.h>
 
-enum { LITERALS_MAX = 2 * NODES_MAX, CLAUSES_MAX = BEV_GOALS + 2 * NODES_MAX, WIDTH = 2, STRIKES_MAX = (WIDTH + 1) * CLAUSES_MAX };
+enum { LITERALS_MAX = 2 * NODES_MAX, CLAUSES_MAX = BEV_GOALS + 3 * NODES_MAX, WIDTH = 3, STRIKES_MAX = (WIDTH + 1) * CLAUSES_MAX };
 enum { CLAUSE_STRUCK = 1 << WIDTH };
 
 /* The clauses of a literal by kind and sign: each ends in a semicolon, a capital is a negation. */
@@ -16,6 +16,8 @@ static const char *const expansions[][2] = {
     [BEV_OR] = { "ab;", "A;B;" },
     [BEV_IMP] = { "Ab;", "a;B;" },
     [BEV_IFF] = { "Ab;aB;", "ab;AB;" },
+    [BEV_AND3] = { "a;b;c;", "ABC;" },
+    [BEV_OR3] = { "abc;", "A;B;C;" },
 };
 
 struct clause {
@@ -65,7 +67,7 @@ static void expand(struct replay *r, uint16_t literal)
             r->clause[r->clauses++] = next;
             next.width = 0;
         } else {
-            uint16_t operand = tolower(*c) == 'a' ? n->a : n->b;
+            uint16_t operand = tolower(*c) == 'a' ? n->a : tolower(*c) == 'b' ? n->b : n->c;
             next.literal[next.width++] = isupper((unsigned char)*c) ? operand ^ 1 : operand;
         }
     }

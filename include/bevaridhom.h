@@ -84,10 +84,8 @@ bev_node bev_record(const uint8_t *table, size_t table_len, size_t literal);
 bev_truth bev_evaluate(const uint8_t *table, size_t table_len, size_t literal, const uint8_t *settings, size_t settings_len);
 
 /* Adds a record to the table in the first `used` bytes of a buffer; used 0 is an empty table. Operands may come in any order; a BEV_IMP is
- * added as the BEV_OR of not a and b, which means the same. Operands of BEV_AND, BEV_OR and BEV_IFF may
- * come in any order; a BEV_IMP is added as the BEV_OR of not a and b, which means the same. Answers the record's literal and the used length; a record that is there
- * already is found, and no byte changes. Refusals: 9, 10 to 17, then 14 to 16 of the record given, 51, 52
- * at the node count. */
+ * added as the BEV_OR of not a and b, which means the same. Answers the record's literal and the used length; a record that is there
+ * already is found, and no byte changes. Refusals: 9, 10 to 17, then 14 to 16 of the record given, 51, 52 at the node count. */
 bev_added bev_add(uint8_t *buffer, size_t buffer_len, size_t used, const uint8_t record[BEV_RECORD]);
 
 /* Whether one setting makes every goal true (1 possible, 0 impossible); if so the first 1,024 settings bytes become the setting that

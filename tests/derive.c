@@ -536,7 +536,7 @@ static void as_before(void)
     uint64_t sum = 0;
     seed = 1;
     for (int round = 0; round < 60; round++) {
-        size_t n = 8 + pick(18), len = random_table(t, 2 + pick(5), n);
+        size_t n = 8 + pick(18), len = pair_table(t, 2 + pick(5), n);
         for (size_t l = 0; l < 2 * n; l++) {
             o_list g = o_one(l);
             bev_derived v = derive(t, len, &g, lent, ROOM);

@@ -24,7 +24,7 @@ def decision(records, goals, brute=False):
     setting = setting_of(records, model)
     v = truths(records, {p for p in range(1024) if setting[p] == 1})
     assert all(v[g // 2] != (g % 2 == 1) for g in goals)
-    points = sorted(a for kind, a, _ in records if kind == ATOM)
+    points = sorted(a for kind, a, *_ in records if kind == ATOM)
     return POSSIBLE, "possible\n" + "".join(f"{('no', 'yes', 'either')[setting[p]]} {p}\n" for p in points), setting
 
 def deciding(bev, folder, rounds):
@@ -365,7 +365,7 @@ def forms(bev, t, d):
     long = derivation([("S", 0, 0)] * 300)
     for data, want in [(good + bytes(512), (42, 0)), (good[:100] + b"\1" + good[101:], (41, 0)), (long[:-2] + b"xx", (41, 2)), (b"", (40, 0)), (good[:511], (40, 0)),
                        (good + b"x", (40, 0)), (edited(good, 0, 70), (42, 0)), (edited(good, 1, 127), (42, 0)), (edited(good, 300, 1), (43, 0)),
-                       (edited(good, 4, 84), (44, 0)), (edited(good, 5, 1), (44, 0)), (edited(good, 4 + 4 * 5 + 1, 2), (44, 5)), (edited(long, 512 * 2 + 2, 1), (42, 2)),
+                       (edited(good, 4, 84), (44, 0)), (edited(good, 5, 1), (44, 0)), (edited(good, 4 + 4 * 5 + 1, 3), (44, 5)), (edited(long, 512 * 2 + 2, 1), (42, 2)),
                        (bytes(33554432), (42, 0)), (bytes(33554433), (40, 0)), (bytes(33554944), (40, 0))]:
         put(d, data)
         bev.refuses(*want, "check", t, 18, d, about=d)

@@ -74,6 +74,13 @@ static void rec(uint8_t *r, unsigned kind, unsigned a, unsigned b)
     r[5] = (uint8_t)(b >> 8);
 }
 
+static void rec3(uint8_t *r, unsigned kind, unsigned a, unsigned b, unsigned c)
+{
+    rec(r, kind, a, b);
+    r[6] = (uint8_t)c;
+    r[7] = (uint8_t)(c >> 8);
+}
+
 /* Count, in a buffer of exactly the length, against the number and place expected. */
 static void count_is(const uint8_t *t, size_t len, unsigned number, size_t place, size_t nodes)
 {
@@ -104,7 +111,7 @@ static void make_records(uint8_t (*r)[8], size_t n, int imp)
     for (size_t i = 0; i < n; i++) {
         int again = 1;
         while (again) {
-            unsigned kind = i < 3 ? 2 : 1 + pick(6);
+            unsigned kind = i < 3 ? 2 : 1 + pick(8);
             if (kind == 5 && !imp)
                 kind = 4;
             if (kind == 1)
@@ -121,6 +128,12 @@ static void make_records(uint8_t (*r)[8], size_t n, int imp)
                     q = s;
                 }
                 rec(r[i], kind, 2 * p + pick(2), 2 * q + pick(2));
+                if (kind > 6) {
+                    unsigned s = pick((unsigned)i);
+                    while (s == p || s == q)
+                        s = pick((unsigned)i);
+                    rec3(r[i], kind, 2 * (s < p ? s : p) + pick(2), 2 * (s < p ? p : s < q ? s : q) + pick(2), 2 * (s < q ? q : s) + pick(2));
+                }
             }
             again = 0;
             for (size_t m = 0; m < i; m++)
@@ -177,7 +190,7 @@ static void refusals(void)
     edit(t, len, 84, 1, 13, 0);
     edit(t, len, 509, 255, 13, 0);
     edit(t, len, 4, 0, 14, 0);
-    edit(t, len, 4, 7, 14, 0);
+    edit(t, len, 4, 9, 14, 0);
     edit(t, len, 5, 1, 14, 0);
     edit(t, len, 10, 1, 14, 0);
     edit(t, len, 11, 1, 14, 0);
@@ -245,7 +258,7 @@ static void random_damage(void)
         size_t len = o_build(t, (const uint8_t (*)[8])r, n);
         for (unsigned k = pick(4); k > 0; k--) {
             size_t at = pick((unsigned)len);
-            t[at] = (uint8_t)pick(pick(2) ? 8 : 256);
+            t[at] = (uint8_t)pick(pick(2) ? 10 : 256);
             if (pick(8))
                 o_seal(t + at / 512 * 512);
         }
@@ -262,7 +275,7 @@ static void records(void)
     lent b = lend(t, len);
     for (size_t l = 0; l < 20; l++) {
         bev_node x = bev_record(b.p, len, l);
-        EXPECT(x.number == 0 && x.place == 0 && x.kind == A[l / 2][0] && x.a == A[l / 2][1] && x.b == A[l / 2][2]);
+        EXPECT(x.number == 0 && x.place == 0 && x.kind == A[l / 2][0] && x.a == A[l / 2][1] && x.b == A[l / 2][2] && x.c == 0);
     }
     EXPECT(bev_record(b.p, len, 20).number == 20 && bev_record(b.p, len, 20).place == 0);
     EXPECT(bev_record(b.p, len, SIZE_MAX).number == 20);
@@ -362,7 +375,7 @@ static void adds(void)
     add_is(b, SIZE_MAX, r, 9, 0, 0, 0);
     add_is(b, 700, r, 10, 0, 0, 0);
     add_is(b, 511, r, 10, 0, 0, 0);
-    rec(r, 7, 0, 0);
+    rec(r, 9, 0, 0);
     add_is(b, 512, r, 14, 10, 0, 0);
     rec(r, 2, 0, 0);
     r[7] = 1;
@@ -442,6 +455,45 @@ static void adds(void)
     printf("adds\n");
 }
 
+/* Three operands: read in rising order alone, added in any; c is zero for the other kinds. */
+static void threes(void)
+{
+    static const unsigned orders[6][3] = { { 0, 3, 4 }, { 0, 4, 3 }, { 3, 0, 4 }, { 3, 4, 0 }, { 4, 0, 3 }, { 4, 3, 0 } };
+    static const unsigned twice[6][3] = { { 0, 1, 4 }, { 0, 4, 5 }, { 4, 0, 1 }, { 1, 4, 0 }, { 4, 5, 0 }, { 2, 3, 3 } };
+    uint8_t r[6][8], t[512];
+    for (unsigned i = 0; i < 3; i++)
+        rec(r[i], 2, i, 0);
+    for (unsigned kind = 7; kind <= 8; kind++) {
+        rec3(r[3], kind, 0, 3, 4);
+        rec3(r[4], 15 - kind, 0, 3, 4);
+        count_is(t, o_build(t, (const uint8_t (*)[8])r, 5), 0, 0, 5);
+        lent b = lend(t, 512);
+        bev_node x = bev_record(b.p, 512, 7);
+        EXPECT(x.number == 0 && x.kind == kind && x.a == 0 && x.b == 3 && x.c == 4);
+        for (int i = 0; i < 6; i++) {
+            rec3(r[5], kind, orders[i][0], orders[i][1], orders[i][2]);
+            add_is(b, 512, r[5], 0, 0, 6, 512);
+            rec3(r[5], kind, orders[i][0], orders[i][1], 10 + (unsigned)i);
+            add_is(b, 512, r[5], 15, 5, 0, 0);
+            rec3(r[5], kind, twice[i][0], twice[i][1], twice[i][2]);
+            add_is(b, 512, r[5], 16, 5, 0, 0);
+            count_is(t, o_build(t, (const uint8_t (*)[8])r, 6), 16, 5, 0);
+            rec3(r[5], kind, orders[i][0] ^ 1, orders[i][1], orders[i][2]);
+            count_is(t, o_build(t, (const uint8_t (*)[8])r, 6), i ? 16 : 0, i ? 5 : 0, i ? 0 : 6);
+            rec3(r[5], 1 + (unsigned)i, 0, i > 1 ? 2 : 0, 4);
+            add_is(b, 512, r[5], 14, 5, 0, 0);
+            rec3(r[5], kind, orders[i][0], 12, orders[i][2]);
+            count_is(t, o_build(t, (const uint8_t (*)[8])r, 6), 15, 5, 0);
+        }
+        /* a new one in the wrong order is sorted as it is written */
+        rec3(r[5], kind, 4, 2, 1);
+        add_is(b, 512, r[5], 0, 0, 10, 512);
+        EXPECT(bev_record(b.p, 512, 10).a == 1 && bev_record(b.p, 512, 10).b == 2 && bev_record(b.p, 512, 10).c == 4);
+        back(b);
+    }
+    printf("threes\n");
+}
+
 /* Adds of random records, good and bad, to random tables in dirty buffers of random lengths. */
 static void random_adds(void)
 {
@@ -455,7 +507,7 @@ static void random_adds(void)
         for (size_t i = 0; i < b.len; i++)
             b.p[i] = (uint8_t)(i < used ? t[i] : pick(256));
         memcpy(b.old, b.p, b.len);
-        rec(x, 1 + pick(7), pick(2 * (unsigned)n + 3), pick(2 * (unsigned)n + 3));
+        rec3(x, 1 + pick(9), pick(2 * (unsigned)n + 3), pick(2 * (unsigned)n + 3), pick(2) ? pick(2 * (unsigned)n + 3) : 0);
         if (n && pick(4) == 0)
             memcpy(x, r[pick((unsigned)n)], 8);
         if (pick(20) == 0)
@@ -494,6 +546,7 @@ int main(void)
     records();
     truths();
     adds();
+    threes();
     random_adds();
     printf("%lu checks, %lu failed\n", checks, failed);
     return failed ? 1 : 0;

@@ -7,7 +7,7 @@
 #include <string.h>
 
 typedef struct { unsigned number; size_t place; size_t nodes; } o_read;
-typedef struct { uint8_t kind; unsigned a, b; } o_node;
+typedef struct { uint8_t kind; unsigned a, b, c; } o_node;
 typedef struct { unsigned number; size_t place; } o_told;
 
 /* A list of goals, of which 65 do not pass, or of 64 goals and 16 wishes. */
@@ -48,15 +48,18 @@ static inline const uint8_t * o_at(const uint8_t *t, size_t n) { return t + 512 
 
 static inline o_node o_get(const uint8_t *r)
 {
-    o_node x = { r[0], o_word(r + 2), o_word(r + 4) };
+    o_node x = { r[0], o_word(r + 2), o_word(r + 4), o_word(r + 6) };
     return x;
 }
+
+/* TRUE and ATOM have no operands, kinds 3 to 6 two, 7 and 8 three. */
+static inline int o_operands(const o_node *x) { return x->kind < 3 ? 0 : x->kind < 7 ? 2 : 3; }
 
 /* Rows 14 to 16 of a record that would be node n. */
 static inline unsigned o_record(const uint8_t *r, size_t n)
 {
     o_node x = o_get(r);
-    if (r[1] || r[6] || r[7] || x.kind < 1 || x.kind > 6)
+    if (r[1] || x.kind < 1 || x.kind > 8 || (x.kind < 7 && x.c))
         return 14;
     if (x.kind == 1 && (x.a || x.b))
         return 14;
@@ -66,13 +69,13 @@ static inline unsigned o_record(const uint8_t *r, size_t n)
         return 0;
     if (x.kind == 2)
         return x.a > 1023 ? 15 : 0;
-    if (x.a / 2 >= n || x.b / 2 >= n)
+    if (x.a / 2 >= n || x.b / 2 >= n || (o_operands(&x) == 3 && x.c / 2 >= n))
         return 15;
     if (x.a / 2 == x.b / 2)
         return 16;
     if (x.kind != 5 && x.a / 2 > x.b / 2)
         return 16;
-    return 0;
+    return o_operands(&x) == 3 && x.b / 2 >= x.c / 2 ? 16 : 0;
 }
 
 /* Rows 10 to 17. */
@@ -118,6 +121,19 @@ static inline o_read o_table(const uint8_t *t, size_t len)
     return r;
 }
 
+/* Truths joined as a kind says; c counts for kinds 7 and 8 alone. */
+static inline int o_joined(unsigned kind, int a, int b, int c)
+{
+    switch (kind) {
+    case 3: return a && b;
+    case 4: return a || b;
+    case 5: return !a || b;
+    case 6: return a == b;
+    case 7: return a && b && c;
+    default: return a || b || c;
+    }
+}
+
 /* The truth of a literal of a readable table, by recursion over the nodes. */
 static inline int o_truth(const uint8_t *t, const uint8_t *s, size_t literal)
 {
@@ -126,8 +142,8 @@ static inline int o_truth(const uint8_t *t, const uint8_t *s, size_t literal)
     if (x.kind == 2)
         v = s[x.a] == 1;
     if (x.kind > 2) {
-        int a = o_truth(t, s, x.a), b = o_truth(t, s, x.b);
-        v = x.kind == 3 ? a && b : x.kind == 4 ? a || b : x.kind == 5 ? !a || b : a == b;
+        int a = o_truth(t, s, x.a), b = o_truth(t, s, x.b), c = o_operands(&x) == 3 ? o_truth(t, s, x.c) : 0;
+        v = o_joined(x.kind, a, b, c);
     }
     return literal % 2 ? !v : v;
 }
@@ -138,11 +154,9 @@ static inline int o_kleene(const uint8_t *t, const uint8_t *s, size_t literal)
     o_node x = o_get(o_at(t, literal / 2));
     int v = x.kind == 2 ? s[x.a] : 1;
     if (x.kind > 2) {
-        int a = o_kleene(t, s, x.a), b = o_kleene(t, s, x.b), seen = 0;
-        for (int way = 0; way < 4; way++) {
-            int p = a == 2 ? way & 1 : a, q = b == 2 ? way >> 1 : b;
-            seen |= 1 << (x.kind == 3 ? p && q : x.kind == 4 ? p || q : x.kind == 5 ? !p || q : p == q);
-        }
+        int a = o_kleene(t, s, x.a), b = o_kleene(t, s, x.b), c = o_operands(&x) == 3 ? o_kleene(t, s, x.c) : 0, seen = 0;
+        for (int way = 0; way < 8; way++)
+            seen |= 1 << o_joined(x.kind, a == 2 ? way & 1 : a, b == 2 ? way >> 1 & 1 : b, c == 2 ? way >> 2 : c);
         v = seen == 3 ? 2 : seen == 2;
     }
     return v == 2 ? 2 : literal % 2 ? !v : v;
@@ -172,6 +186,19 @@ static inline size_t o_build(uint8_t *t, const uint8_t (*records)[8], size_t n)
         o_seal(b);
     }
     return 512 * blocks;
+}
+
+/* Three operands in the order of their nodes. */
+static inline void o_sort(uint8_t *r)
+{
+    for (int i = 0; i < 3; i++) {
+        uint8_t *x = r + (i == 1 ? 4 : 2), y[2];
+        if (o_word(x) / 2 > o_word(x + 2) / 2) {
+            memcpy(y, x, 2);
+            memcpy(x, x + 2, 2);
+            memcpy(x + 2, y, 2);
+        }
+    }
 }
 
 /* Adds a record as the paper says, to the bytes themselves. */
@@ -206,6 +233,8 @@ static inline o_added o_add(uint8_t *buf, size_t len, size_t used, const uint8_t
         memcpy(r + 2, r + 4, 2);
         memcpy(r + 4, a, 2);
     }
+    if (r[0] == 7 || r[0] == 8)
+        o_sort(r);
     v.number = o_record(r, n);
     if (v.number)
         return v;

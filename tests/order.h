@@ -6,8 +6,8 @@
 #include "oracle.h"
 #include <stdlib.h>
 
-enum { O_CLAUSES = 4200 };
-typedef struct { int len, lit[2]; } o_clause;
+enum { O_CLAUSES = 6200 };
+typedef struct { int len, lit[3]; } o_clause;
 typedef struct { int held[2016], count; uint8_t value[4032]; o_clause clause[O_CLAUSES]; int clauses; } o_state;
 typedef struct { uint8_t (*step)[4]; size_t count, room; int letter; } o_steps; /* letter: 68 version one, 86 version two */
 
@@ -16,15 +16,28 @@ static inline int o_value(const o_state *s, int l) { return s->value[l]; }
 
 static inline void o_clause_of(o_state *s, int len, int x, int y)
 {
-    o_clause c = { len, { x, y } };
+    o_clause c = { len, { x, y, 0 } };
     s->clause[s->clauses++] = c;
+}
+
+/* The clauses of three operands: one with all of them, or three with one each. */
+static inline void o_three(o_state *s, int together, int x, int y, int z)
+{
+    if (together) {
+        o_clause c = { 3, { x, y, z } };
+        s->clause[s->clauses++] = c;
+        return;
+    }
+    o_clause_of(s, 1, x, 0);
+    o_clause_of(s, 1, y, 0);
+    o_clause_of(s, 1, z, 0);
 }
 
 /* A literal joins G, and its expansion the clause list. */
 static inline void o_join(o_state *s, const uint8_t *t, int l)
 {
     o_node x = o_get(o_at(t, (size_t)l / 2));
-    int a = (int)x.a, b = (int)x.b, no = l & 1;
+    int a = (int)x.a, b = (int)x.b, c = (int)x.c, no = l & 1;
     s->held[s->count++] = l;
     s->value[l] = 1;
     s->value[l ^ 1] = 2;
@@ -58,6 +71,10 @@ static inline void o_join(o_state *s, const uint8_t *t, int l)
     case 6:
         o_clause_of(s, 2, no ? a : a ^ 1, b);
         o_clause_of(s, 2, no ? a ^ 1 : a, b ^ 1);
+        break;
+    case 7:
+    case 8:
+        o_three(s, (x.kind == 8) != no, a ^ no, b ^ no, c ^ no);
         break;
     }
 }

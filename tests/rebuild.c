@@ -22,15 +22,19 @@ static void rebuild(const uint8_t *t, size_t n, size_t room, o_rebuilt *o)
     for (size_t k = 0; k < n; k++) {
         o_node x = o_get(o_at(t, k));
         uint8_t r[8];
-        int one_node = x.kind > 2 && rebuilt_literal(o, x.a) / 2 == rebuilt_literal(o, x.b) / 2;
-        if (x.kind > 2)
-            rec(r, x.kind, (unsigned)rebuilt_literal(o, x.a), (unsigned)rebuilt_literal(o, x.b));
-        else
-            rec(r, x.kind, x.a, x.b);
+        unsigned a = x.a, b = x.b, c = x.c;
+        if (x.kind > 2) {
+            a = (unsigned)rebuilt_literal(o, x.a);
+            b = (unsigned)rebuilt_literal(o, x.b);
+        }
+        if (x.kind > 6)
+            c = (unsigned)rebuilt_literal(o, x.c);
+        rec3(r, x.kind, a, b, c);
+        int one_node = x.kind > 2 && (a / 2 == b / 2 || (x.kind > 6 && (a / 2 == c / 2 || b / 2 == c / 2)));
         bev_added v = bev_add(o->bytes, room, o->used, r);
         if (n <= 200) { /* the reading in C looks for repeats by comparing all with all */
-            o_added a = o_add(copy, room, o->used, r);
-            EXPECT(v.number == a.number && v.place == a.place && v.literal == a.literal && v.used == a.used);
+            o_added e = o_add(copy, room, o->used, r);
+            EXPECT(v.number == e.number && v.place == e.place && v.literal == e.literal && v.used == e.used);
             EXPECT(memcmp(o->bytes, copy, sizeof copy) == 0);
         }
         EXPECT((v.number == 16) == one_node && (v.number == 0 || v.number == 16 || v.number == 52));
@@ -77,7 +81,7 @@ static int has_imp(const uint8_t *t, size_t n)
     return 0;
 }
 
-/* Two points, then ORs and IMPs of them, of which many mean the same, then ANDs of any of these. */
+/* Two points, then ORs and IMPs of them, of which many mean the same, then ANDs of any two or three of these. */
 static size_t alike_table(uint8_t *t, size_t n)
 {
     uint8_t r[12][8];
@@ -89,8 +93,10 @@ static size_t alike_table(uint8_t *t, size_t n)
             unsigned p = i < 7 ? pick(2) : pick((unsigned)i - 1), q = i < 7 ? 1 : p + 1 + pick((unsigned)i - 1 - p);
             if (i < 7 && p == 1)
                 rec(r[i], 5, 2 + pick(2), pick(2));
-            else
+            else if (i < 7 || q + 1 == i || pick(2))
                 rec(r[i], i < 7 ? 4 + pick(2) : 3, 2 * p + pick(2), 2 * q + pick(2));
+            else
+                rec3(r[i], 7, 2 * p + pick(2), 2 * q + pick(2), 2 * (q + 1 + pick((unsigned)i - 1 - q)) + pick(2));
             again = 0;
             for (size_t m = 0; m < i; m++)
                 again |= memcmp(r[m], r[i], 8) == 0;

@@ -5,7 +5,7 @@
 
 #include "order.h"
 
-typedef struct { o_state s; uint8_t struck[O_CLAUSES], gone[O_CLAUSES][2]; } o_branch;
+typedef struct { o_state s; uint8_t struck[O_CLAUSES], gone[O_CLAUSES][3]; } o_branch;
 
 static inline const uint8_t *o_step_at(const uint8_t *d, size_t k) { return d + 512 * (k / 126) + 4 + 4 * (k % 126); }
 
@@ -47,7 +47,7 @@ static inline unsigned o_block_bad(const uint8_t *d, size_t j, int last)
 
 static inline unsigned o_step_bad(int letter, const uint8_t *s)
 {
-    if (!(s[0] == 82 && s[1] <= 1) && !(s[1] == 0 && (s[0] == 85 || s[0] == 69 || s[0] == 67 || s[0] == 83 || s[0] == 71)))
+    if (!(s[0] == 82 && s[1] <= 2) && !(s[1] == 0 && (s[0] == 85 || s[0] == 69 || s[0] == 67 || s[0] == 83 || s[0] == 71)))
         return 44;
     return letter == 86 && (s[0] == 82 || s[0] == 69) ? 65 : 0;
 }

@@ -1,5 +1,6 @@
 #!/usr/bin/env python3
 """What crates/table_cases must print, worked out from the scope paper by an independent reading. Its output is crates/table_cases/stdout."""
+import itertools
 
 def check(b):
     total, weight = 0, 1
@@ -22,15 +23,19 @@ class No(Exception):
 def no(number, at=0):
     raise No(f"refused {number} at {at}")
 
+def operands(kind, a, b, c):
+    return [] if kind <= 2 else [a, b] if kind <= 6 else [a, b, c]
+
 def record(r, n):
-    kind, a, b = r[0], word(r, 2), word(r, 4)
-    if r[1] or r[6] or r[7] or not 1 <= kind <= 6 or (kind == 1 and a) or (kind <= 2 and b):
+    kind, a, b, c = r[0], word(r, 2), word(r, 4), word(r, 6)
+    if r[1] or not 1 <= kind <= 8 or (kind == 1 and a) or (kind <= 2 and b) or (kind <= 6 and c):
         no(14, n)
-    if kind == 2 and a > 1023 or kind > 2 and max(a, b) // 2 >= n:
+    nodes = [l // 2 for l in operands(kind, a, b, c)]
+    if kind == 2 and a > 1023 or any(m >= n for m in nodes):
         no(15, n)
-    if kind > 2 and (a // 2 == b // 2 or kind != 5 and a // 2 > b // 2):
+    if len(set(nodes)) < len(nodes) or kind != 5 and nodes != sorted(nodes):
         no(16, n)
-    return kind, a, b
+    return kind, a, b, c
 
 def read(t):
     if len(t) == 0 or len(t) % 512 or len(t) > 16384:
@@ -53,12 +58,12 @@ def read(t):
 
 def truths(nodes, s, l):
     """The truths that a literal may have, as strong Kleene tables join them: a point's 2 has both, and operands go their ways apart."""
-    kind, a, b = nodes[l // 2]
+    kind, a, *rest = nodes[l // 2]
     if kind <= 2:
         v = {True} if kind == 1 else {True, False} if s[a] == 2 else {s[a] == 1}
     else:
-        join = {3: lambda x, y: x and y, 4: lambda x, y: x or y, 5: lambda x, y: not x or y, 6: lambda x, y: x == y}[kind]
-        v = {join(x, y) for x in truths(nodes, s, a) for y in truths(nodes, s, b)}
+        join = {3: all, 4: any, 5: lambda x: not x[0] or x[1], 6: lambda x: x[0] == x[1], 7: all, 8: any}[kind]
+        v = {join(x) for x in itertools.product(*(truths(nodes, s, k) for k in operands(kind, a, *rest)))}
     return {x != (l % 2 == 1) for x in v}
 
 def add(t, used, r):
@@ -69,8 +74,9 @@ def add(t, used, r):
     if r[0] == 5: # the refusals are those of the record given
         record(r, n)
         r[0], r[2] = 4, r[2] ^ 1
-    if r[0] in (3, 4, 6) and word(r, 2) // 2 > word(r, 4) // 2:
-        r[2:4], r[4:6] = r[4:6], r[2:4]
+    fields = operands(r[0], word(r, 2), word(r, 4), word(r, 6))
+    for i, l in enumerate(sorted(fields, key=lambda l: l // 2)):
+        r[2 + 2 * i:4 + 2 * i] = l.to_bytes(2, "little")
     x = record(r, n)
     if x in nodes:
         return 2 * nodes.index(x), used
@@ -86,8 +92,8 @@ def add(t, used, r):
     seal(t, used // 512 - 1)
     return 2 * n, used
 
-def node(kind, a, b):
-    return bytes([kind, 0, a % 256, a // 256, b % 256, b // 256, 0, 0])
+def node(kind, a, b, c=0):
+    return bytes([kind, 0, a % 256, a // 256, b % 256, b // 256, c % 256, c // 256])
 
 def say(make):
     try:
@@ -127,7 +133,7 @@ def record_of(t, l):
     nodes = read(t)
     if l >= 2 * len(nodes):
         no(20)
-    return "%d %d %d" % nodes[l // 2]
+    return "%d %d %d %d" % nodes[l // 2]
 
 print("samples")
 for kind in (1, 2):
@@ -156,11 +162,12 @@ for first, second in [(0, 0), (1, 0), (0, 1), (1, 1), (2, 1), (1, 255)]:
     say(lambda: evaluate(t[:512], 0, s[:1023]))
 print("adds")
 t = table_a(238)
-for x in [(4, 2, 0), (5, 2, 0), (5, 0, 2), (5, 0, 2), (4, 2, 1), (5, 3, 1), (5, 4, 5), (5, 99, 0)]:
+for x in [(4, 2, 0), (5, 2, 0), (5, 0, 2), (5, 0, 2), (4, 2, 1), (5, 3, 1), (5, 4, 5), (5, 99, 0),
+          (8, 5, 2, 0), (8, 0, 5, 2), (7, 0, 2, 5), (7, 4, 0, 5), (8, 0, 2, 98), (6, 0, 2, 5)]:
     show_add(t, 512, node(*x))
-for l in range(21):
+for l in (*range(21), 24):
     say(lambda: record_of(t[:512], l))
-for used, x in [(601, (1, 0, 0)), (600, (1, 0, 0)), (512, (7, 0, 0)), (512, (2, 1024, 0)), (512, (2, 1023, 0)),
+for used, x in [(601, (1, 0, 0)), (600, (1, 0, 0)), (512, (7, 0, 0)), (512, (9, 0, 0)), (512, (2, 1024, 0)), (512, (2, 1023, 0)),
                 (512, (3, 99, 0)), (512, (6, 4, 5))]:
     show_add(t, used, node(*x))
 t[9] = 1

@@ -54,14 +54,21 @@ static void rec(uint8_t *r, unsigned kind, unsigned a, unsigned b)
     r[5] = (uint8_t)(b >> 8);
 }
 
-/* Some points, then operations on random earlier nodes: all kinds, both signs, shared nodes. */
-static size_t random_table(uint8_t *t, unsigned points, size_t n)
+static void rec3(uint8_t *r, unsigned kind, unsigned a, unsigned b, unsigned c)
+{
+    rec(r, kind, a, b);
+    r[6] = (uint8_t)c;
+    r[7] = (uint8_t)(c >> 8);
+}
+
+/* Some points, then operations on random earlier nodes: all kinds, of two and of three operands, both signs, shared nodes. */
+static size_t table_of(uint8_t *t, unsigned points, size_t n, unsigned operations)
 {
     static uint8_t r[300][8];
     for (size_t i = 0; i < n; i++) {
         int again = 1;
         for (int tries = 0; again; tries++) {
-            unsigned kind = i < points ? 2 : pick(12) ? 3 + pick(4) : 1;
+            unsigned kind = i < points ? 2 : pick(12) ? 3 + pick(i < 3 ? 4 : operations) : 1;
             if (kind <= 2)
                 rec(r[i], kind, kind == 2 ? (unsigned)i : 0, 0);
             else {
@@ -75,7 +82,14 @@ static size_t random_table(uint8_t *t, unsigned points, size_t n)
                     p = q;
                     q = s;
                 }
-                rec(r[i], kind, 2 * p + pick(2), 2 * q + pick(2));
+                if (kind < 7)
+                    rec(r[i], kind, 2 * p + pick(2), 2 * q + pick(2));
+                else {
+                    unsigned s = pick((unsigned)i);
+                    while (s == p || s == q)
+                        s = pick((unsigned)i);
+                    rec3(r[i], kind, 2 * (s < p ? s : p) + pick(2), 2 * (s < p ? p : s < q ? s : q) + pick(2), 2 * (s < q ? q : s) + pick(2));
+                }
             }
             again = 0;
             for (size_t m = 0; m < i; m++)
@@ -84,6 +98,11 @@ static size_t random_table(uint8_t *t, unsigned points, size_t n)
     }
     return o_build(t, (const uint8_t (*)[8])r, n);
 }
+
+static size_t random_table(uint8_t *t, unsigned points, size_t n) { return table_of(t, points, n, 6); }
+
+/* The same without three operands. */
+static size_t pair_table(uint8_t *t, unsigned points, size_t n) { return table_of(t, points, n, 4); }
 
 /* A list of 1 to 64 goals: any literals, or such that one setting makes true, or those with one turned. Most long ones have repeats, and
  * of the first and the last sort many have opposite literals. */

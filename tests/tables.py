@@ -3,7 +3,7 @@ for the tests of the command and the programs. It shares nothing with the librar
 import sys
 
 sys.setrecursionlimit(10000)
-TRUE, ATOM, AND, OR, IMP, IFF = range(1, 7)
+TRUE, ATOM, AND, OR, IMP, IFF, AND3, OR3 = range(1, 9) # a record is its kind and two fields, of the last two kinds three
 A = [(ATOM, 0, 0), (ATOM, 1, 0), (AND, 0, 2), (OR, 0, 2), (IMP, 0, 2), (IFF, 0, 2), (TRUE, 0, 0), (AND, 4, 7), (IFF, 0, 3), (AND, 10, 16)]
 
 def seal(block):
@@ -20,7 +20,7 @@ def blocks(letter, capacity, records):
     return out
 
 def table(records):
-    return blocks(70, 63, [bytes([k, 0]) + a.to_bytes(2, "little") + b.to_bytes(2, "little") + bytes(2) for k, a, b in records])
+    return blocks(70, 63, [(bytes([kind, 0]) + b"".join(f.to_bytes(2, "little") for f in fields)).ljust(8, b"\0") for kind, *fields in records])
 
 def derivation(steps, letter=68):
     return blocks(letter, 126, [bytes([ord(rule), position]) + value.to_bytes(2, "little") for rule, position, value in steps])
@@ -36,19 +36,19 @@ def truths(records, yes):
     v = []
     def lit(l):
         return v[l // 2] != (l % 2 == 1)
-    for kind, a, b in records:
+    for kind, *fields in records:
         if kind == TRUE:
             v.append(True)
         elif kind == ATOM:
-            v.append(a in yes)
+            v.append(fields[0] in yes)
         else:
-            x, y = lit(a), lit(b)
-            v.append({AND: x and y, OR: x or y, IMP: not x or y, IFF: x == y}[kind])
+            x, y, *_ = xs = [lit(l) for l in fields]
+            v.append(all(xs) if kind in (AND, AND3) else any(xs) if kind in (OR, OR3) else {IMP: not x or y, IFF: x == y}[kind])
     return v
 
 def by_truth_table(records):
     """For each node, whether some setting makes it true, and whether some makes it false."""
-    points = sorted({a for kind, a, _ in records if kind == ATOM})
+    points = sorted({a for kind, a, *_ in records if kind == ATOM})
     yes, no = [False] * len(records), [False] * len(records)
     for w in range(1 << len(points)):
         for n, x in enumerate(truths(records, {p for i, p in enumerate(points) if w >> i & 1})):
@@ -58,7 +58,7 @@ def by_truth_table(records):
 
 def possible_together(records, goals):
     """Whether one setting makes every goal true."""
-    points = sorted({a for kind, a, _ in records if kind == ATOM})
+    points = sorted({a for kind, a, *_ in records if kind == ATOM})
     def makes_true(v):
         return all(v[g // 2] != (g % 2 == 1) for g in goals)
     return any(makes_true(truths(records, {p for i, p in enumerate(points) if w >> i & 1})) for w in range(1 << len(points)))
@@ -69,7 +69,7 @@ def some_goals(rng, records):
     goals = [rng.randrange(2 * len(records)) for _ in range(count)]
     sort = rng.randrange(3)
     if sort:
-        v = truths(records, {a for kind, a, _ in records if kind == ATOM and rng.random() < 0.5})
+        v = truths(records, {a for kind, a, *_ in records if kind == ATOM and rng.random() < 0.5})
         goals = [g - g % 2 + (not v[g // 2]) for g in goals]
     if sort == 2:
         goals[rng.randrange(count)] ^= 1
@@ -78,11 +78,13 @@ def some_goals(rng, records):
 def some_table(rng, points, count):
     records = [(ATOM, p, 0) for p in rng.sample(range(1024), points)]
     while len(records) < count:
-        kind = rng.choice([TRUE, AND, OR, IMP, IFF, AND, OR, IMP, IFF])
-        p, q = rng.sample(range(len(records)), 2)
+        kind = rng.choice([TRUE, AND, OR, IMP, IFF, AND, OR, IMP, IFF, AND3, OR3])
+        nodes = rng.sample(range(len(records)), min(len(records), 3) if kind > IFF else 2)
+        if kind > IFF and len(nodes) < 3:
+            continue
         if kind != IMP:
-            p, q = min(p, q), max(p, q)
-        record = (kind, 0, 0) if kind == TRUE else (kind, 2 * p + rng.randrange(2), 2 * q + rng.randrange(2))
+            nodes.sort()
+        record = (kind, 0, 0) if kind == TRUE else (kind, *(2 * n + rng.randrange(2) for n in nodes))
         if record not in records:
             records.append(record)
     return records
@@ -97,10 +99,13 @@ def full_table():
     return records + [(ATOM, 1001, 0), (ATOM, 1002, 0), (TRUE, 0, 0)], answers + [(True, True), (True, True), (True, False)]
 
 def expansion(records, l):
-    kind, a, b = records[l // 2]
+    kind, *fields = records[l // 2]
+    a, b, *_ = fields
+    units, whole = [[f] for f in fields], [fields]
+    not_units, not_whole = [[f ^ 1] for f in fields], [[f ^ 1 for f in fields]]
     if l % 2 == 0:
-        return {TRUE: [], ATOM: [], AND: [[a], [b]], OR: [[a, b]], IMP: [[a ^ 1, b]], IFF: [[a ^ 1, b], [a, b ^ 1]]}[kind]
-    return {TRUE: [[]], ATOM: [], AND: [[a ^ 1, b ^ 1]], OR: [[a ^ 1], [b ^ 1]], IMP: [[a], [b ^ 1]], IFF: [[a, b], [a ^ 1, b ^ 1]]}[kind]
+        return {TRUE: [], ATOM: [], AND: units, OR: whole, IMP: [[a ^ 1, b]], IFF: [[a ^ 1, b], [a, b ^ 1]], AND3: units, OR3: whole}[kind]
+    return {TRUE: [[]], ATOM: [], AND: not_whole, OR: not_units, IMP: [[a], [b ^ 1]], IFF: [[a, b], [a ^ 1, b ^ 1]], AND3: not_whole, OR3: not_units}[kind]
 
 def search(records, goals, letter=68):
     """Of a list of goals: the final list and None, or None and the derivation's steps, the goals' names first; with letter 86 without R."""

@@ -1,22 +1,22 @@
 -- From the search to the truth of goals: a readable table's nodes are a Table, the truths under a setting are a Model, and so the
 -- calculus' theorems speak of settings, as evaluate takes them. Assumes nothing.
-use mathlib.Core.Path.{_≡_, refl, sym, ap, _∙_}
+use mathlib.Core.Path.{_≡_, refl, sym, ap, _∙_, fun-ext}
 use mathlib.Core.List.{List, [], _∷_, _++_, map, append-nil}
-use mathlib.Core.Bool.{Bool, true, cond, false≢true}
+use mathlib.Core.Bool.{Bool, true, cond, _&&_, false≢true}
 use Prim.Native.Nat.{ℕ, _+_, _-_, _*_, _/_, _%_, _<_, _≤_}
 use native.Mathlib.Omega.{arith}
 use native.Mathlib.Decide.{decLt, ℕ-discrete}
 use lib.Dec.{eqb, ltb}
 use lib.ListN.{length, getD, length-append, length-map, List·getD-append, List·getD-map}
-use borrow.Author.Tests.{eq-eqb, eqb-true, lt-ltb, le-leb}
+use borrow.Author.Tests.{eq-eqb, eqb-true, lt-ltb, ltb-true, le-leb}
 use Rattle.scope.specs.declared.Node.{Node}
 use Rattle.scope.specs.declared.Truth.the-variants.{Yes}
 use Rattle.scope.specs.Outcome.{answer, fine, require}
-use Rattle.scope.specs.Table.{nodeBytes, formOk, sameNode, decode}
-use Rattle.scope.specs.Truth.{Logic, litTruth, truthIn, classical, truth}
+use Rattle.scope.specs.Table.{nodeBytes, operands, formOk, sameNode, decode}
+use Rattle.scope.specs.Truth.{Logic, litTruth, joined, truthIn, classical, truth}
 use Rattle.scope.specs.Kleene.{opposite, pointTruth, kleene, truth₃, sure, NoTwo, Fills}
 use Rattle.scope.specs.Calls.{settingsTest, evaluate}
-use Rattle.scope.proofs.Tests.{and-right, met, then-next}
+use Rattle.scope.proofs.Tests.{and-left, and-right, met, then-next}
 use Rattle.scope.proofs.First.{all-fine}
 use Rattle.codec.specs.Valid.{Bytes, Valid}
 use Rattle.codec.proofs.Records.{reads, Small, small}
@@ -28,26 +28,35 @@ use Rattle.truth.proofs.Says.{Points, two-valued, sure-filled}
 use Rattle.calculus.specs.Order.{settingOf, Answer, possible, impossible, unfinished, answerOf}
 use Rattle.calculus.specs.Model.{All, Table, litIn, litTrue, Model, HeldAtoms, Below, Good}
 use Rattle.calculus.specs.Decide.{nodesOf, searchOf, Satisfies, Unsatisfiable, _⇔_}
-use Rattle.calculus.proofs.Lists.{all-imply}
+use Rattle.calculus.proofs.Lists.{all-imply, every-all}
 use Rattle.calculus.proofs.Literals.{all-member, good-below}
 use Rattle.calculus.proofs.Search.{never-cut}
 use Rattle.calculus.proofs.Sound.{sound}
 use Rattle.calculus.proofs.Complete.{complete}
 use Rattle.calculus.proofs.Setting.{setting-held, setting-length, setting-small}
-use Rattle.index.specs.Index.{always}
+use Rattle.index.specs.Index.{mostLiterals}
 
 -- ---- a readable table's nodes
 
--- an ATOM has no second operand
-atom-b : (x : Node) (one six : ℕ) → formOk x one six ≡ true → x .kind ≡ 2 → x .b ≡ 0
-unfolding formOk
-atom-b x one six e k =
-    eqb-true (x .b) 0 (and-right (eqb six 0) (eqb (x .b) 0) (and-right (eqb one 0) _ (simp k at e)))
+-- the other fields of an ATOM are zero
+abbrev Bare : Node → Type 0
+Bare x = (x .b ≡ 0) × (x .c ≡ 0)
 
--- ATOMs of one point are the same record
-same-atom : (x y : Node) → x .kind ≡ 2 → y .kind ≡ 2 → x .a ≡ y .a → x .b ≡ 0 → y .b ≡ 0 → sameNode x y ≡ true
+atom-bare : (x : Node) (one : ℕ) → formOk x one ≡ true → x .kind ≡ 2 → Bare x
+unfolding formOk
+atom-bare x one e k =
+    let f : (eqb (x .b) 0 && eqb (x .c) 0) ≡ true = and-right (eqb one 0) _ (simp k at e) in
+    (eqb-true (x .b) 0 (and-left (eqb (x .b) 0) (eqb (x .c) 0) f), eqb-true (x .c) 0 (and-right (eqb (x .b) 0) (eqb (x .c) 0) f))
+
+-- so ATOMs of one point are the same record
+same-atom : (x y : Node) → x .kind ≡ 2 → y .kind ≡ 2 → x .a ≡ y .a → Bare x → Bare y → sameNode x y ≡ true
 same-atom x y k l a b c =
-    simp (eq-eqb (x .kind) (y .kind) (k ∙ sym l), eq-eqb (x .a) (y .a) a, eq-eqb (x .b) (y .b) (b ∙ sym c))
+    simp (
+      eq-eqb (x .kind) (y .kind) (k ∙ sym l),
+      eq-eqb (x .a) (y .a) a,
+      eq-eqb (x .b) (y .b) (b .0 ∙ sym (c .0)),
+      eq-eqb (x .c) (y .c) (b .1 ∙ sym (c .1)),
+    )
 
 module _ (t : List ℕ) (rs : List Node) (all : Bytes t) (e : decode t ≡ answer rs) where
   valid : Valid rs
@@ -56,8 +65,8 @@ module _ (t : List ℕ) (rs : List Node) (all : Bytes t) (e : decode t ≡ answe
   pub low : (i : ℕ) → i < length rs → Low (nodesOf rs i) i
   low i h = readable-low t rs i all e h
 
-  none : (i : ℕ) → i < length rs → nodesOf rs i .kind ≡ 2 → nodesOf rs i .b ≡ 0
-  none i h k = atom-b (nodesOf rs i) _ _ (reads (nodeBytes (nodesOf rs i)) i (valid .each i h) .form) k
+  none : (i : ℕ) → i < length rs → nodesOf rs i .kind ≡ 2 → Bare (nodesOf rs i)
+  none i h k = atom-bare (nodesOf rs i) _ (reads (nodeBytes (nodesOf rs i)) i (valid .each i h) .form) k
 
   once : (i j : ℕ) → i < j → j < length rs → nodesOf rs i .kind ≡ 2 → nodesOf rs j .kind ≡ 2 → nodesOf rs i .a ≡ nodesOf rs j .a → ⊥
   once i j h b k l a =
@@ -69,9 +78,10 @@ module _ (t : List ℕ) (rs : List Node) (all : Bytes t) (e : decode t ≡ answe
 
   pub table-of : Table (length rs) (nodesOf rs)
   table-of = record {
-    kinds = λ i h. (low i h .kinds, small-of i h .kind);
-    left = λ i h k. low i h .left k;
-    right = λ i h k. low i h .right k;
+    kinds = λ i h. (low i h .kinds, low i h .known);
+    earlier = λ i h.
+        all-imply (λ l. ltb (l / 2) i ≡ true) (λ l. l / 2 < i) (λ l. ltb-true (l / 2) i) (operands (nodesOf rs i))
+        (every-all (λ l. ltb (l / 2) i) (operands (nodesOf rs i)) (low i h .below));
     atoms = λ i j h b k l a. go i j h b k l a (decLt i j) (decLt j i);
   }
     where
@@ -81,9 +91,9 @@ module _ (t : List ℕ) (rs : List Node) (all : Bytes t) (e : decode t ≡ answe
       go i j h b k l a (no p) (yes q) = absurd (once j i q h l k (sym a))
       go i j h b k l a (no p) (no q) = omega arith
 
-  -- no cell holds more than the literals of no node
-  pub cells-of : (i : ℕ) → i < length rs → (nodesOf rs i .a < always + 2) × (nodesOf rs i .b < always + 2)
-  cells-of i h = (omega (arith, small-of i h .a), omega (arith, small-of i h .b))
+  -- every cell holds the number of a literal
+  pub cells-of : (i : ℕ) → i < length rs → (nodesOf rs i .a < mostLiterals) × (nodesOf rs i .b < mostLiterals)
+  cells-of i h = (small-of i h .a, small-of i h .b)
 
 -- ---- the truths under a setting, in any logic
 
@@ -101,8 +111,8 @@ module _ (t : List ℕ) (rs : List Node) (all : Bytes t) (e : decode t ≡ answe
   model-in L s = record {
     top = λ i h k. true-yes L s rs i (nodesOf rs i) h refl k;
     join = λ i h k.
-        let b = low t rs all e i h in
-        rw (literal-in L s rs (nodesOf rs i .a), literal-in L s rs (nodesOf rs i .b)) (truths-join L s rs i (nodesOf rs i) h refl (b .left k) (b .right k) k);
+        truths-join L s rs i (nodesOf rs i) h refl (low t rs all e i h .below) k
+        ∙ ap (λ (f : ℕ → _). joined L (nodesOf rs i .kind) (map f (operands (nodesOf rs i)))) (fun-ext (λ l. sym (literal-in L s rs l)));
   }
 
   pub model-of : (s : List ℕ) → Model classical (length rs) (nodesOf rs) (λ i. truth s rs (2 * i))

@@ -20,7 +20,7 @@ use Rattle.calculus.specs.Order.{tree}
 use Rattle.calculus.specs.Model.{Table, Below, Goals}
 use Rattle.calculus.specs.Decide.{nodesOf, searchOf, listRow, Admitted}
 use Rattle.calculus.proofs.Asked.{list-met, by-fine}
-use Rattle.index.specs.Index.{indexSize, mostNodes, always, indexNode, Built}
+use Rattle.index.specs.Index.{indexSize, mostNodes, mostLiterals, indexNode, Built}
 use Rattle.asking.specs.Asks.{Prepared}
 use Rattle.asking.proofs.Models.{low, table-of, cells-of}
 use Rattle.asking.proofs.Same.{table-same, search-same}
@@ -60,7 +60,7 @@ module _ (t : List ℕ) {nodes : ℕ} (e : tableCount t ≡ answer nodes) where
       table : Table nodes (indexNode x)
       table = table-same nodes (indexNode x) (nodesOf (nodesIn t nodes)) node-in (rw (size-in t nodes) at (table-of t (nodesIn t nodes) all nodes-read))
 
-      cells : (i : ℕ) → i < nodes → (indexNode x i .a < always + 2) × (indexNode x i .b < always + 2)
+      cells : (i : ℕ) → i < nodes → (indexNode x i .a < mostLiterals) × (indexNode x i .b < mostLiterals)
       cells i h = rw (node-in i h) (cells-of t (nodesIn t nodes) all nodes-read i (omega (arith, size-in t nodes)))
 
       -- goals that no row refuses may be put to it

@@ -19,8 +19,7 @@ module _ (n : ℕ) (t u : ℕ → Node) (same : (i : ℕ) → i < n → t i ≡ 
   pub table-same : Table n u → Table n t
   table-same T = record {
     kinds = λ i h. rw (same i h) (T .kinds i h);
-    left = λ i h. rw (same i h) (T .left i h);
-    right = λ i h. rw (same i h) (T .right i h);
+    earlier = λ i h. rw (same i h) (T .earlier i h);
     atoms = λ i j h b. rw (same i h, same j b) (T .atoms i j h b);
   }
 

@@ -52,8 +52,8 @@ countAnswer (answer n) = record { number = 0; place = 0; nodes = n }
 countAnswer (refused n p) = record { number = n; place = p; nodes = 0 }
 
 abbrev pub recordAnswer : Outcome Node → BevRecord
-recordAnswer (answer x) = record { number = 0; place = 0; kind = x .kind; a = x .a; b = x .b }
-recordAnswer (refused n p) = record { number = n; place = p; kind = 0; a = 0; b = 0 }
+recordAnswer (answer x) = record { number = 0; place = 0; kind = x .kind; a = x .a; b = x .b; c = x .c }
+recordAnswer (refused n p) = record { number = n; place = p; kind = 0; a = 0; b = 0; c = 0 }
 
 -- 'no' is 0, 'yes' is 1, 'unknown' is 2
 abbrev pub truthNumber : Truth → ℕ

@@ -33,6 +33,7 @@ pub struct BevRecord {
     pub kind: u8,
     pub a: u16,
     pub b: u16,
+    pub c: u16,
 }
 
 #[repr(C)]
@@ -83,6 +84,7 @@ pub extern "C" fn bev_record(t: &[u8], literal: usize) -> BevRecord
             kind: x.kind,
             a: x.a,
             b: x.b,
+            c: x.c,
         },
         NodeRead::Refused(f) => BevRecord {
             number: f.number,
@@ -90,6 +92,7 @@ pub extern "C" fn bev_record(t: &[u8], literal: usize) -> BevRecord
             kind: 0,
             a: 0,
             b: 0,
+            c: 0,
         },
     }
 }

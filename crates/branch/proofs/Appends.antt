@@ -1,24 +1,26 @@
 -- The clauses of a literal by the code's templates, and how they are appended. Assumes nothing.
 use mathlib.Core.Path.{_≡_, refl, sym, ap, _∙_, subst}
-use mathlib.Core.Bool.{Bool, true, false, _&&_, _||_}
+use mathlib.Core.Bool.{Bool, true, _&&_, _||_}
 use mathlib.Core.Logic.{_⊎_, inl, inr}
 use mathlib.Core.List.{List, [], _∷_, _++_, map}
 use Prim.Native.Nat.{ℕ, zero, suc, _+_, _-_, _*_, _/_, _%_, _<_, _≤_}
 use native.Mathlib.Omega.{arith}
 use native.Mathlib.Nat.{zero-add}
 use native.Mathlib.Decide.{ℕ-discrete, decLt}
-use lib.Dec.{eqb, leb, ltb}
+use lib.Dec.{leb, ltb}
 use lib.ListN.{length, getD, set, length-set, length-map, length-append, List·getD-append}
 use lib.Seq.{getD-set-same, getD-set-other, getD-append-add}
-use borrow.Author.Tests.{eqb-true, leb-true, ltb-true}
+use borrow.Author.Tests.{leb-true, ltb-true, lt-leb}
 use Rattle.scope.specs.declared.Node.{Node}
-use Rattle.scope.specs.Table.{listFrom}
+use Rattle.scope.specs.Table.{arity, listFrom}
+use Rattle.scope.proofs.Operands.{arity-most}
 use Rattle.scope.proofs.Lists.{length-listFrom, getD-listFrom}
 use Rattle.scope.proofs.Tests.{and-left, and-right}
 use Rattle.calculus.specs.Expansion.{chosen, templates, expand}
 use Rattle.calculus.specs.Order.{clauses}
 use Rattle.calculus.proofs.Lists.{every, every-all, all-at, all-getD, getD-map}
 use Rattle.index.specs.Index.{indexNode}
+use Rattle.index.proofs.Nodes.{operand-low}
 use Rattle.area.specs.Area.{areaSize, mostClauses, mostSlots, clauseRoom, literalRoom, basesFrom, slotsFrom, strikesFrom, clauseCount, baseAt, slotAt}
 use Rattle.branch.specs.Templates.{rowFor, rows, cell, endColumn, choiceColumn}
 use Rattle.branch.specs.Clauses.{flat, offset, Listed, Filled, Appended}
@@ -55,9 +57,9 @@ module _ {at : ℕ} {f : ℕ → ℕ} {w₀ : List ℕ} where
 
 -- ---- the rows
 
-or-else : (a b : Bool) → (a || b) ≡ true → (a ≡ true) ⊎ (b ≡ true)
-or-else true b e = inl refl
-or-else false b e = inr e
+-- a number up to m, or one that passes a test
+past-or : (m i : ℕ) (b : Bool) → (leb m i || b) ≡ true → i < m → b ≡ true
+past-or m i b e h = rw (lt-leb m i h) at e
 
 -- a test that each row passes
 row-test : (p : ℕ → Bool) (m : ℕ) → every p (listFrom (λ i. i) 0 m) ≡ true → (i : ℕ) → i < m → p i ≡ true
@@ -65,73 +67,56 @@ row-test p m e i h =
     ap p (sym (getD-listFrom (λ j. j) m 0 i 0 h ∙ zero-add i))
     ∙ all-at (λ j. p j ≡ true) (listFrom (λ j. j) 0 m) i 0 (every-all p (listFrom (λ j. j) 0 m) e) (omega (arith, length-listFrom (λ j. j) m 0, h))
 
--- a row has room for its clauses and literals, its choices are those of two operands, and TRUE and ATOM have none
-abbrev fits : ℕ → Bool
-fits i =
-    leb (cell i 0) clauseRoom
-    && (leb (cell i 1) literalRoom
-    && ((ltb 5 i || eqb (cell i 1) 0)
-    && (every (λ c. ltb (cell i (choiceColumn c)) 4) (listFrom (λ c. c) 0 literalRoom)
-    && every (λ j. leb (cell i (endColumn (1 + j))) literalRoom) (listFrom (λ j. j) 0 clauseRoom))))
+-- a row has room for its clauses and literals, its choices are of the kind's operands, and its ends are small
+abbrev choiceFits : ℕ → ℕ → Bool
+choiceFits row i = leb (cell row 1) i || ltb (cell row (choiceColumn i) / 2) (arity (row / 2))
 
-rows-fit : every fits (listFrom (λ i. i) 0 14) ≡ true
-unfolding listFrom rows templates flat offset
+abbrev endFits : ℕ → ℕ → Bool
+endFits row j = leb (cell row (endColumn (1 + j))) literalRoom
+
+abbrev fits : ℕ → Bool
+fits row =
+    leb (cell row 0) clauseRoom
+    && (leb (cell row 1) literalRoom
+    && (every (choiceFits row) (listFrom (λ c. c) 0 literalRoom)
+    && every (endFits row) (listFrom (λ j. j) 0 clauseRoom)))
+
+rows-fit : every fits (listFrom (λ i. i) 0 18) ≡ true
+unfolding listFrom rows templates flat offset arity
 rows-fit = refl
 
-module _ (row : ℕ) (h : row < 14) where
+module _ (row : ℕ) (h : row < 18) where
   fit : fits row ≡ true
-  fit = row-test fits 14 rows-fit row h
+  fit = row-test fits 18 rows-fit row h
 
-  rest₁ : Bool
-  rest₁ = (ltb 5 row || eqb (cell row 1) 0)
-      && (every (λ c. ltb (cell row (choiceColumn c)) 4) (listFrom (λ c. c) 0 literalRoom)
-      && every (λ j. leb (cell row (endColumn (1 + j))) literalRoom) (listFrom (λ j. j) 0 clauseRoom))
+  choices : Bool
+  choices = every (choiceFits row) (listFrom (λ c. c) 0 literalRoom)
+
+  ends : Bool
+  ends = every (endFits row) (listFrom (λ j. j) 0 clauseRoom)
 
   pub row-clauses : cell row 0 ≤ clauseRoom
-  unfolding rest₁
-  row-clauses = leb-true (cell row 0) clauseRoom (and-left (leb (cell row 0) clauseRoom) (leb (cell row 1) literalRoom && rest₁) fit)
+  row-clauses = leb-true (cell row 0) clauseRoom (and-left (leb (cell row 0) clauseRoom) _ fit)
 
-  fit₁ : (leb (cell row 1) literalRoom && rest₁) ≡ true
-  unfolding rest₁
-  fit₁ = and-right (leb (cell row 0) clauseRoom) (leb (cell row 1) literalRoom && rest₁) fit
+  fit₁ : (leb (cell row 1) literalRoom && (choices && ends)) ≡ true
+  unfolding choices ends
+  fit₁ = and-right (leb (cell row 0) clauseRoom) _ fit
 
   pub row-literals : cell row 1 ≤ literalRoom
-  row-literals = leb-true (cell row 1) literalRoom (and-left (leb (cell row 1) literalRoom) rest₁ fit₁)
+  row-literals = leb-true (cell row 1) literalRoom (and-left (leb (cell row 1) literalRoom) (choices && ends) fit₁)
 
-  fit₂ : rest₁ ≡ true
-  fit₂ = and-right (leb (cell row 1) literalRoom) rest₁ fit₁
+  fit₂ : (choices && ends) ≡ true
+  fit₂ = and-right (leb (cell row 1) literalRoom) (choices && ends) fit₁
 
-  rest₂ : Bool
-  rest₂ = every (λ c. ltb (cell row (choiceColumn c)) 4) (listFrom (λ c. c) 0 literalRoom)
-      && every (λ j. leb (cell row (endColumn (1 + j))) literalRoom) (listFrom (λ j. j) 0 clauseRoom)
-
-  -- a row with a literal is that of a kind with operands
-  pub row-operands : {i : ℕ} → i < cell row 1 → 2 < row / 2
-  unfolding rest₁ rest₂
-  row-operands {i} b = go (or-else (ltb 5 row) (eqb (cell row 1) 0) (and-left (ltb 5 row || eqb (cell row 1) 0) rest₂ fit₂))
-    where
-      go : (ltb 5 row ≡ true) ⊎ (eqb (cell row 1) 0 ≡ true) → 2 < row / 2
-      go (inl e) = omega (arith, ltb-true 5 row e)
-      go (inr e) = absurd (omega (arith, eqb-true (cell row 1) 0 e, b))
-
-  fit₃ : rest₂ ≡ true
-  unfolding rest₁ rest₂
-  fit₃ = and-right (ltb 5 row || eqb (cell row 1) 0) rest₂ fit₂
-
-  -- its choices are of two operands, and its ends are small
-  pub row-choice : (i : ℕ) → i < literalRoom → cell row (choiceColumn i) < 4
-  unfolding rest₂
+  pub row-choice : (i : ℕ) → i < cell row 1 → cell row (choiceColumn i) / 2 < arity (row / 2)
+  unfolding choices
   row-choice i b =
-      ltb-true (cell row (choiceColumn i)) 4
-      (row-test (λ c. ltb (cell row (choiceColumn c)) 4) literalRoom (and-left (every (λ c. ltb (cell row (choiceColumn c)) 4) (listFrom (λ c. c) 0 literalRoom))
-      (every (λ j. leb (cell row (endColumn (1 + j))) literalRoom) (listFrom (λ j. j) 0 clauseRoom)) fit₃) i b)
+      ltb-true (cell row (choiceColumn i) / 2) (arity (row / 2))
+      (past-or (cell row 1) i _ (row-test (choiceFits row) literalRoom (and-left choices ends fit₂) i (omega (arith, b, row-literals))) b)
 
   pub row-end : (j : ℕ) → j < clauseRoom → cell row (endColumn (1 + j)) ≤ literalRoom
-  unfolding rest₂
-  row-end j b =
-      leb-true (cell row (endColumn (1 + j))) literalRoom
-      (row-test (λ i. leb (cell row (endColumn (1 + i))) literalRoom) clauseRoom (and-right (every (λ c. ltb (cell row (choiceColumn c)) 4) (listFrom (λ c. c) 0 literalRoom))
-      (every (λ j. leb (cell row (endColumn (1 + j))) literalRoom) (listFrom (λ j. j) 0 clauseRoom)) fit₃) j b)
+  unfolding ends
+  row-end j b = leb-true (cell row (endColumn (1 + j))) literalRoom (row-test (endFits row) clauseRoom (and-right choices ends fit₂) j b)
 
   -- it is that of the calculus
   row-is : getD rows row [] ≡ rowFor (getD templates row [])
@@ -159,7 +144,7 @@ module _ (row : ℕ) (h : row < 14) where
 
 -- ---- the clauses of a literal
 
-module _ (t : ℕ → Node) (l row : ℕ) (h : row < 14) (e : row ≡ 2 * t (l / 2) .kind + l % 2) where
+module _ (t : ℕ → Node) (l row : ℕ) (h : row < 18) (e : row ≡ 2 * t (l / 2) .kind + l % 2) where
   expand-row : expand t l ≡ map (map (chosen (t (l / 2)))) (getD templates row [])
   unfolding expand
   expand-row = ap (λ (i : ℕ). map (map (chosen (t (l / 2)))) (getD templates i [])) (sym e)
@@ -246,27 +231,13 @@ module _ (t : ℕ → Node) (l row : ℕ) (h : row < 14) (e : row ≡ 2 * t (l /
 
 -- ---- the literal that is chosen
 
--- the number that is read of node m for choice c
-abbrev operand : List ℕ → ℕ → ℕ → ℕ
-operand x m c = getD x (4 * m + (1 + c / 2)) 0
+module _ {x : List ℕ} {n : ℕ} (I : Indexed x n) (m : ℕ) (h : m < n) (c : ℕ) (k : c / 2 < arity (indexNode x m .kind)) where
+  -- there are six choices, and what is read is a literal of the table
+  pub six : c < 6
+  six = omega (arith, k, arity-most (indexNode x m .kind))
 
-module _ {x : List ℕ} {n : ℕ} (I : Indexed x n) (m : ℕ) (h : m < n) where
-  pub operand-low : (c : ℕ) → c < 4 → 2 < indexNode x m .kind → operand x m c < 2 * n
-  unfolding indexNode
-  operand-low zero k o = omega (arith, I .table .left m h o, h)
-  operand-low (suc zero) k o = omega (arith, I .table .left m h o, h)
-  operand-low (suc (suc zero)) k o = omega (arith, I .table .right m h o, h)
-  operand-low (suc (suc (suc zero))) k o = omega (arith, I .table .right m h o, h)
-  operand-low (suc (suc (suc (suc c)))) k o = absurd (omega (arith, k))
-
-  -- an odd choice is the negation of the number
-  pub operand-choice : (c : ℕ) → c < 4 → operand x m c - operand x m c % 2 + (operand x m c + c) % 2 ≡ chosen (indexNode x m) c
-  unfolding indexNode chosen
-  operand-choice zero k = omega arith
-  operand-choice (suc zero) k = omega arith
-  operand-choice (suc (suc zero)) k = omega arith
-  operand-choice (suc (suc (suc zero))) k = omega arith
-  operand-choice (suc (suc (suc (suc c)))) k = absurd (omega (arith, k))
+  pub operand-few : getD x (4 * m + (1 + c / 2)) 0 < 2 * n
+  operand-few = omega (arith, operand-low x n m (c / 2) (I .table) h k, h)
 
 -- ---- the clause list of a work area
 

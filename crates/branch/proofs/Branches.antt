@@ -62,7 +62,7 @@ module _ (t : ℕ → Node) (n : ℕ) (goals w : List ℕ) (few : n ≤ mostNode
   pub literals-most : trailAt w 0 ≤ n
   literals-most = count-most n (trailAt w) (h .trail)
 
-  pub clauses-most : length cs ≤ mostLiterals + 2 * trailAt w 0
+  pub clauses-most : length cs ≤ mostLiterals + clauseRoom * trailAt w 0
   clauses-most = omega (arith, clauses-few t goals (gOf w), trail-length (trailAt w 0) (trailAt w), h .aims .most)
 
   pub slots-most : length (flat cs) ≤ mostLiterals + literalRoom * trailAt w 0

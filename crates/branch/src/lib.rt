@@ -11,6 +11,7 @@ ghost use mathlib.Core.Path.{_≡_};
 ghost use mathlib.Core.List.{[]};
 ghost use Prim.Native.Nat.{suc, _+_, _*_, _/_, _%_, _≤_, _<_};
 ghost use lib.ListN.{length, getD, replicate};
+ghost use Rattle.scope.specs.Table.{arity};
 ghost use Rattle.calculus.specs.Expansion.{neg, chosen, expand};
 ghost use Rattle.calculus.specs.Model.{Fresh};
 ghost use Rattle.index.specs.Index.{mostNodes, indexNode};
@@ -20,8 +21,8 @@ ghost use Rattle.branch.specs.Clauses.{Filled, Appended};
 ghost use Rattle.branch.specs.Holds.{Indexed, Goals, Joined, Holds, Held, Restores, fresh};
 
 // The clauses of a literal, by kind and sign, row 2 * kind + sign: how many clauses and how many literals, where the first, the second
-// and the third clause end, and the choice for each literal: 0 is a, 1 is not a, 2 is b, 3 is not b.
-const TEMPLATES: [[u8; 9]; 14] = [
+// and the third clause end, and the choice for each literal: 0 is a, 1 is not a, 2 is b, 3 is not b, 4 is c, 5 is not c.
+const TEMPLATES: [[u8; 9]; 18] = [
     // there is no kind 0
     [0, 0, 0, 0, 0, 0, 0, 0, 0],
     [0, 0, 0, 0, 0, 0, 0, 0, 0],
@@ -43,12 +44,18 @@ const TEMPLATES: [[u8; 9]; 14] = [
     // IFF
     [2, 4, 2, 4, 4, 1, 2, 0, 3],
     [2, 4, 2, 4, 4, 0, 2, 1, 3],
+    // AND of three
+    [3, 3, 1, 2, 3, 0, 2, 4, 0],
+    [1, 3, 3, 3, 3, 1, 3, 5, 0],
+    // OR of three
+    [1, 3, 3, 3, 3, 0, 2, 4, 0],
+    [3, 3, 1, 2, 3, 1, 3, 5, 0],
 ];
 
 // A number of TEMPLATES, which is lent: an index into a constant copies the constant.
-fn template(templates: &[[u8; 9]; 14], row: usize, column: usize) -> u8
+fn template(templates: &[[u8; 9]; 18], row: usize, column: usize) -> u8
     requires { ⌜ now templates ≡ rows ⌝ }
-    requires { ⌜ (row < 14) × (column < 9) ⌝ }
+    requires { ⌜ (row < 18) × (column < 9) ⌝ }
     ensures { λ r. ⌜ r ≡ cell row column ⌝ }
 {
     templates[row][column]
@@ -58,7 +65,7 @@ fn template(templates: &[[u8; 9]; 14], row: usize, column: usize) -> u8
 fn row_of(x: &[u16], n: usize, l: u16) -> usize
     requires { ⌜ Indexed (now x) n ⌝ }
     requires { ⌜ l < 2 * n ⌝ }
-    ensures { λ r. ⌜ (r ≡ 2 * indexNode (now (x .entry)) (l / 2) .kind + l % 2) × (r < 14) ⌝ }
+    ensures { λ r. ⌜ (r ≡ 2 * indexNode (now (x .entry)) (l / 2) .kind + l % 2) × (r < 18) ⌝ }
 {
     let kind = x[4 * ((l / 2) as usize)];
     (2 * kind + l % 2) as usize
@@ -75,7 +82,7 @@ pub fn negated(l: u16) -> u16
 // The literal that a template chooses of a node's operands: an even choice is the operand, an odd one its negation.
 fn choose(x: &[u16], n: usize, node: usize, c: u8) -> u16
     requires { ⌜ Indexed (now x) n ⌝ }
-    requires { ⌜ (node < n) × (c < 4) × (2 < indexNode (now x) node .kind) ⌝ }
+    requires { ⌜ (node < n) × (c / 2 < arity (indexNode (now x) node .kind)) ⌝ }
     ensures { λ r. ⌜ r ≡ chosen (indexNode (now (x .entry)) node) c ⌝ }
 {
     let l = x[4 * node + (1 + (c / 2) as usize)];
@@ -83,9 +90,9 @@ fn choose(x: &[u16], n: usize, node: usize, c: u8) -> u16
 }
 
 // The clauses of a row are appended after clause k - 1, which ends at slot b: where each ends.
-fn put_ends(templates: &[[u8; 9]; 14], work: &mut [u16], row: usize, k: usize, b: u16)
+fn put_ends(templates: &[[u8; 9]; 18], work: &mut [u16], row: usize, k: usize, b: u16)
     requires { ⌜ now templates ≡ rows ⌝ }
-    requires { ⌜ (areaSize ≤ length (now work)) × (row < 14) × (k + clauseRoom ≤ mostClauses) × (b ≤ mostSlots) ⌝ }
+    requires { ⌜ (areaSize ≤ length (now work)) × (row < 18) × (k + clauseRoom ≤ mostClauses) × (b ≤ mostSlots) ⌝ }
     ensures { λ _. ⌜ Filled (basesFrom + (k + 1)) (cell row 0) (λ j. b + cell row (endColumn (1 + j))) (now (work .entry)) (now (work .exit)) ⌝ }
 {
     let clauses = template(templates, row, 0) as usize;
@@ -98,7 +105,7 @@ fn put_ends(templates: &[[u8; 9]; 14], work: &mut [u16], row: usize, k: usize, b
 
 // And their literals, of a node's operands.
 fn put_literals(
-    templates: &[[u8; 9]; 14],
+    templates: &[[u8; 9]; 18],
     x: &[u16],
     n: usize,
     work: &mut [u16],
@@ -108,7 +115,7 @@ fn put_literals(
 )
     requires { ⌜ now templates ≡ rows ⌝ }
     requires { ⌜ Indexed (now x) n ⌝ }
-    requires { ⌜ (areaSize ≤ length (now work)) × (row < 14) × (node < n) × (b + literalRoom ≤ mostSlots) ⌝ }
+    requires { ⌜ (areaSize ≤ length (now work)) × (row < 18) × (node < n) × (b + literalRoom ≤ mostSlots) ⌝ }
     requires { ⌜ indexNode (now x) node .kind ≡ row / 2 ⌝ }
     ensures { λ _. ⌜ Filled (slotsFrom + b) (cell row 1) (λ i. chosen (indexNode (now (x .entry)) node) (cell row (choiceColumn i))) (now (work .entry)) (now (work .exit)) ⌝ }
 {
@@ -121,7 +128,7 @@ fn put_literals(
 }
 
 // The clauses of a literal are appended.
-fn append(templates: &[[u8; 9]; 14], x: &[u16], n: usize, work: &mut [u16], l: u16)
+fn append(templates: &[[u8; 9]; 18], x: &[u16], n: usize, work: &mut [u16], l: u16)
     requires { ⌜ now templates ≡ rows ⌝ }
     requires { ⌜ Indexed (now x) n ⌝ }
     requires { ⌜ (areaSize ≤ length (now work)) × (l < 2 * n) ⌝ }

@@ -1,20 +1,21 @@
 -- The literals of the clauses are the table's, and a move's literal is undecided. Assumes nothing.
 use mathlib.Core.Path.{_≡_, refl, subst}
 use mathlib.Core.List.{List, [], _∷_, map}
-use mathlib.Core.Bool.{Bool, true, false, cond, false≢true}
+use mathlib.Core.Bool.{Bool, true, false, cond}
 use Prim.Native.Nat.{ℕ, _*_, _/_, _%_, _<_}
 use native.Mathlib.Omega.{arith}
-use native.Mathlib.Decide.{decLt}
 use lib.Dec.{eqb}
-use lib.ListN.{getD}
+use lib.ListN.{length, getD}
 use Rattle.scope.specs.declared.Node.{Node}
+use Rattle.scope.specs.Table.{operands}
+use Rattle.scope.proofs.Operands.{operands-length}
 use Rattle.calculus.specs.Expansion.{neg, chosen, expand}
 use Rattle.calculus.specs.Order.{Value, holds, fails, undecided, valueOf, State, met, empty, one, many, opened, joined, stateOf, clauses, move}
 use Rattle.calculus.specs.Model.{All, Table, Below, Fresh, Good}
 use Rattle.calculus.specs.declared.Move.the-variants.{Unit as Single, Split}
-use Rattle.calculus.proofs.Lists.{all-append, all-at, all-each, all-imply, all-map}
+use Rattle.calculus.proofs.Lists.{all-append, all-at, all-imply, all-map}
 use Rattle.calculus.proofs.Moves.{ClauseIs, unit-clause, split-clause}
-use Rattle.calculus.proofs.Rows.{rowOf, bare, row-bare}
+use Rattle.calculus.proofs.Rows.{rowOf, Within, row-within}
 
 -- ---- the literals of a literal's clauses are of earlier nodes
 
@@ -22,40 +23,34 @@ use Rattle.calculus.proofs.Rows.{rowOf, bare, row-bare}
 abbrev pub Under : ℕ → List (List ℕ) → Type 0
 Under i cs = All (All (λ m. m / 2 < i)) cs
 
-chosen-under : (i : ℕ) (x : Node) → x .a / 2 < i → x .b / 2 < i → (c : ℕ) → chosen x c / 2 < i
+-- a choice of an operand is below what the operands are
+pub chosen-under : (i : ℕ) (x : Node) → All (λ l. l / 2 < i) (operands x) → (c : ℕ) → c / 2 < length (operands x) → chosen x c / 2 < i
 unfolding chosen
-chosen-under i x h k c = go (eqb c 0) (eqb c 1) (eqb c 2)
+chosen-under i x h c k = go (eqb (c % 2) 0) (all-at (λ l. l / 2 < i) (operands x) (c / 2) 0 h k)
   where
-    go : (p q r : Bool) → cond p (x .a) (cond q (neg (x .a)) (cond r (x .b) (neg (x .b)))) / 2 < i
-    go true q r = h
-    go false true r = omega arith
-    go false false true = k
-    go false false false = omega arith
+    l : ℕ
+    l = getD (operands x) (c / 2) 0
 
-bare-under : (i : ℕ) (x : Node) (c : List ℕ) → bare c ≡ true → All (λ m. m / 2 < i) (map (chosen x) c)
-bare-under i x [] e = tt
-bare-under i x (c ∷ cs) e = absurd (false≢true e)
+    go : (p : Bool) → l / 2 < i → cond p l (neg l) / 2 < i
+    go true b = b
+    go false b = omega arith
 
 module _ (n : ℕ) (t : ℕ → Node) (T : Table n t) where
   pub expand-under : (l : ℕ) → l < 2 * n → Under (l / 2) (expand t l)
   unfolding expand
-  expand-under l h = all-map Earlier (map (chosen x)) (rowOf (x .kind) (l % 2)) (go (decLt 2 (x .kind)))
+  expand-under l h =
+      all-map Earlier (map (chosen x)) (rowOf (x .kind) (l % 2))
+      (all-imply (All (Within (x .kind))) (λ c. Earlier (map (chosen x) c))
+      (λ c w. all-map (λ m. m / 2 < l / 2) (chosen x) c
+      (all-imply (Within (x .kind)) (λ m. chosen x m / 2 < l / 2)
+      (λ m k. chosen-under (l / 2) x (T .earlier (l / 2) (omega arith)) m (omega (arith, k, operands-length x))) c w))
+      (rowOf (x .kind) (l % 2)) (row-within (x .kind) (l % 2) (T .kinds (l / 2) (omega arith) .1) (omega arith)))
     where
       x : Node
       x = t (l / 2)
 
       Earlier : List ℕ → Type 0
       Earlier c = All (λ m. m / 2 < l / 2) c
-
-      go : Dec (2 < x .kind) → All (λ c. Earlier (map (chosen x) c)) (rowOf (x .kind) (l % 2))
-      go (yes k) =
-          all-each (λ c. Earlier (map (chosen x) c))
-          (λ c. all-map (λ m. m / 2 < l / 2) (chosen x) c
-          (all-each (λ m. chosen x m / 2 < l / 2) (chosen-under (l / 2) x (T .left (l / 2) (omega arith) k) (T .right (l / 2) (omega arith) k)) c))
-          (rowOf (x .kind) (l % 2))
-      go (no k) =
-          all-imply (λ c. bare c ≡ true) (λ c. Earlier (map (chosen x) c)) (bare-under (l / 2) x)
-          (rowOf (x .kind) (l % 2)) (row-bare (x .kind) (l % 2) (omega arith) (omega arith))
 
   module _ (goals : List ℕ) (B : Below n goals) where
     -- every literal of the clause list is one of the table's

@@ -6,6 +6,7 @@ use Prim.Native.Nat.{ℕ, zero, suc, _<_}
 use native.Mathlib.Nat.{le-of-suc-le-suc, not-suc-le-zero}
 use native.Mathlib.Omega.{arith}
 use lib.ListN.{length, getD}
+pub use Rattle.scope.specs.Table.{every}
 use Rattle.scope.proofs.Tests.{and-left, and-right, and-both}
 use Rattle.calculus.specs.Model.{All}
 
@@ -69,14 +70,10 @@ getD-map f (x ∷ xs) (suc k) d e h = getD-map f xs k d e (le-of-suc-le-suc h)
 
 -- ---- tests
 
--- an element, or every element, passes
+-- an element passes
 abbrev pub any : {A : Type 0} → (A → Bool) → List A → Bool
 any p [] = false
 any p (x ∷ xs) = p x || any p xs
-
-abbrev pub every : {A : Type 0} → (A → Bool) → List A → Bool
-every p [] = true
-every p (x ∷ xs) = p x && every p xs
 
 pub any-map : {A B : Type 0} (p : B → Bool) (f : A → B) (xs : List A) → any p (map f xs) ≡ any (λ x. p (f x)) xs
 any-map p f [] = refl
@@ -85,6 +82,15 @@ any-map p f (x ∷ xs) = ap (p (f x) ||_) (any-map p f xs)
 pub every-map : {A B : Type 0} (p : B → Bool) (f : A → B) (xs : List A) → every p (map f xs) ≡ every (λ x. p (f x)) xs
 every-map p f [] = refl
 every-map p f (x ∷ xs) = ap (p (f x) &&_) (every-map p f xs)
+
+-- two tests that agree on all elements
+pub any-same : {A : Type 0} (p q : A → Bool) (xs : List A) → All (λ x. p x ≡ q x) xs → any p xs ≡ any q xs
+any-same p q [] a = refl
+any-same p q (x ∷ xs) a = rw (a .0, any-same p q xs (a .1))
+
+pub every-same : {A : Type 0} (p q : A → Bool) (xs : List A) → All (λ x. p x ≡ q x) xs → every p xs ≡ every q xs
+every-same p q [] a = refl
+every-same p q (x ∷ xs) a = rw (a .0, every-same p q xs (a .1))
 
 -- a test that passes wherever another does
 pub any-imply : {A : Type 0} (p q : A → Bool) (xs : List A) → All (λ x. p x ≡ true → q x ≡ true) xs → any p xs ≡ true → any q xs ≡ true

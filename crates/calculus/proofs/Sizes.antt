@@ -16,10 +16,10 @@ use Rattle.calculus.proofs.Lists.{every, every-all, all-append, all-get
 
 -- the most literals of a clause, and the most clauses of a literal
 abbrev pub widest : ℕ
-widest = 2
+widest = 3
 
 abbrev pub most : ℕ
-most = 2
+most = 3
 
 abbrev pub Short : List ℕ → Type 0
 Short c = length c ≤ widest

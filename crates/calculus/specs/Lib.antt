@@ -4,3 +4,4 @@ pub mod Order
 pub mod Model
 pub mod Decide
 pub mod Count
+pub mod Mixed

@@ -1,6 +1,6 @@
 -- What the solver's theorems speak of: readable tables' nodes, the truths that agree with them, and the lists that a search holds. Assumes nothing.
 use mathlib.Core.Path.{_≡_}
-use mathlib.Core.List.{List, [], _∷_}
+use mathlib.Core.List.{List, [], _∷_, map}
 use mathlib.Core.Bool.{Bool, true, cond}
 use Prim.Native.Nat.{ℕ, _*_, _/_, _%_, _<_, _≤_}
 use lib.Dec.{eqb}
@@ -8,6 +8,7 @@ use lib.ListN.{length}
 use Rattle.scope.specs.declared.Node.{Node}
 use Rattle.scope.specs.declared.Truth.{Truth}
 use Rattle.scope.specs.declared.Truth.the-variants.{Yes}
+use Rattle.scope.specs.Table.{operands}
 use Rattle.scope.specs.Truth.{Logic, joined, classical}
 use Rattle.scope.specs.Kleene.{kleene}
 use Rattle.calculus.specs.Order.{mem, valueOf, undecided}
@@ -17,11 +18,10 @@ abbrev pub All : {A : Type 0} → (A → Type 0) → List A → Type 0
 All P [] = Unit {0}
 All P (x ∷ xs) = P x × All P xs
 
--- n nodes of a readable table: the kinds are known, 'a and b are literals of .. earlier nodes', 'no record repeats'
+-- n nodes of a readable table: the kinds are known, the operands 'are literals of .. earlier nodes', 'no record repeats'
 pub record Table (n : ℕ) (t : ℕ → Node) : Type 0 where
-  pub kinds : (i : ℕ) → i < n → (0 < t i .kind) × (t i .kind < 7)
-  pub left : (i : ℕ) → i < n → 2 < t i .kind → t i .a / 2 < i
-  pub right : (i : ℕ) → i < n → 2 < t i .kind → t i .b / 2 < i
+  pub kinds : (i : ℕ) → i < n → (0 < t i .kind) × (t i .kind < 9)
+  pub earlier : (i : ℕ) → i < n → All (λ l. l / 2 < i) (operands (t i))
   pub atoms : (i j : ℕ) → i < n → j < n → t i .kind ≡ 2 → t j .kind ≡ 2 → t i .a ≡ t j .a → i ≡ j
 
 -- 'a negation is the opposite': a literal's truth, where v gives the nodes'
@@ -31,7 +31,7 @@ litIn L v l = cond (eqb (l % 2) 0) (v (l / 2)) (L .opposite (v (l / 2)))
 -- truths that agree with the nodes; an ATOM has any
 pub record Model {A : Type 0} (L : Logic A) (n : ℕ) (t : ℕ → Node) (v : ℕ → A) : Type 0 where
   pub top : (i : ℕ) → i < n → t i .kind ≡ 1 → v i ≡ L .yes
-  pub join : (i : ℕ) → i < n → 2 < t i .kind → v i ≡ joined L (t i .kind) (litIn L v (t i .a)) (litIn L v (t i .b))
+  pub join : (i : ℕ) → i < n → 2 < t i .kind → v i ≡ joined L (t i .kind) (map (litIn L v) (operands (t i)))
 
 -- two-valued truths: all literals of a list are true
 abbrev pub litTrue : (ℕ → Bool) → ℕ → Bool

@@ -64,7 +64,7 @@ fn replayed(x: &[u16], n: usize, goals: &[u16], work: &mut [u16], d: &[u8]) -> C
 pub fn check(t: &[u8], goals: &[u16], work: &mut [u16], d: &[u8]) -> Checked
     ensures { λ r. ⌜ Checks (now (t .entry)) (now (goals .entry)) (now (work .entry)) (now (d .entry)) (now (work .exit)) r ⌝ }
 {
-    let mut x = [0u16; 18270];
+    let mut x = [0u16; 18378];
     let a = asking::ask(t, goals, 0, 0, work.len(), &mut x);
     match a {
         Counted::Refused(f) => Checked::Refused(f),

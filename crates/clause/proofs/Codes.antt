@@ -1,55 +1,46 @@
 -- The code of a literal, by the values of its node's operands, says what its clauses are under G. Assumes nothing.
 use mathlib.Core.Path.{_≡_, refl, sym, ap, _∙_}
 use mathlib.Core.Bool.{Bool, true, false, cond}
-use mathlib.Core.List.{List, [], map}
+use mathlib.Core.List.{List, [], _∷_, map}
 use Prim.Native.Nat.{ℕ, zero, suc, _+_, _-_, _*_, _/_, _%_, _<_, _≤_}
 use native.Mathlib.Omega.{arith}
-use native.Mathlib.Nat.{zero-add}
 use lib.ListN.{length, getD, length-map}
-use lib.Dec.{ltb}
-use borrow.Author.Tests.{lt-ltb, ltb-false}
+use lib.Dec.{eqb}
+use borrow.Author.Tests.{lt-ltb, le-ltb}
 use Rattle.scope.specs.declared.Node.{Node}
-use Rattle.scope.specs.Table.{listFrom}
-use Rattle.scope.proofs.Lists.{getD-listFrom}
-use Rattle.calculus.specs.Expansion.{neg, chosen, templates, expand}
+use Rattle.scope.specs.Table.{arity, operands}
+use Rattle.scope.proofs.Operands.{arity-pair, arity-most}
+use Rattle.calculus.specs.Expansion.{neg, chosen, expand}
 use Rattle.calculus.specs.Order.{Value, holds, fails, undecided, valueOf, State, literalOf, literalAt, isEmpty, isOne, some, firstOf, bit}
 use Rattle.calculus.specs.Model.{All, Good}
-use Rattle.calculus.proofs.Lists.{all-imply, all-map, getD-map}
+use Rattle.calculus.proofs.Lists.{all-imply, all-map}
 use Rattle.calculus.proofs.Literals.{fails-neg, undecided-neg, holds-neg}
-use Rattle.calculus.proofs.Rows.{rowOf}
+use Rattle.calculus.proofs.Rows.{rowOf, row-within}
 use Rattle.calculus.proofs.Sizes.{expand-few}
 use Rattle.trail.specs.Trail.{valueCode}
-use Rattle.index.specs.Codes.{numbered, opposite, choiceValue, stateBy, rowStates, isOpen, firstIf, codeOf, codeRows, codeAt}
-use Rattle.index.specs.Index.{always, codesAt, indexNode}
+use Rattle.index.specs.Codes.{numbered, opposite, choiceValue, stateBy, rowStates, isOpen, firstIf, codeOf, rowCode, pairCodes, codeAt}
+use Rattle.index.specs.Index.{codesAt, indexNode}
 use Rattle.index.specs.Indexed.{Indexed}
-use Rattle.clause.specs.Coded.{wideValue, statesOf, Choice, Coded}
-use Rattle.clause.proofs.Rows.{Chooses, row-chooses, of-operand}
+use Rattle.index.proofs.Nodes.{operand-cell}
+use Rattle.clause.specs.Coded.{statesOf, Choice, Coded}
+use Rattle.clause.proofs.Rows.{Chooses, of-operand, choice-few}
 use Rattle.clause.proofs.States.{renamed, Right, states-renamed, one-kept, empty-kept, open-kept, one-open, first-most, first-has, some-renamed, first-renamed, literal-renamed, state-has}
 
 -- ---- values
 
--- a literal of a node has its value
-pub wide-low : (G : List ℕ) (l : ℕ) → l < always → wideValue G l ≡ valueCode (valueOf G l)
-unfolding wideValue
-wide-low G l h = simp (lt-ltb l always h)
-
-code-low : (v : Value) → valueCode v < 3
+pub code-low : (v : Value) → valueCode v < 3
 code-low undecided = omega arith
 code-low holds = omega arith
 code-low fails = omega arith
-
-pub wide-most : (G : List ℕ) (l : ℕ) → l < always + 2 → wideValue G l < 3
-unfolding wideValue
-wide-most G l h = go (ltb l always) refl
-  where
-    go : (t : Bool) → ltb l always ≡ t → cond t (valueCode (valueOf G l)) (l + 1 - always) < 3
-    go true e = code-low (valueOf G l)
-    go false e = omega (arith, ltb-false l always e)
 
 numbered-code : (v : Value) → numbered (valueCode v) ≡ v
 numbered-code undecided = refl
 numbered-code holds = refl
 numbered-code fails = refl
+
+-- the numbers vs have the values of a node's operands
+abbrev Values : List ℕ → Node → List ℕ → Type 0
+Values G y vs = (i : ℕ) → i < arity (y .kind) → valueOf G (getD (operands y) i 0) ≡ numbered (getD vs i 0)
 
 module _ (n : ℕ) (G : List ℕ) (good : Good n G) where
   value-neg : (l : ℕ) → valueOf G (neg l) ≡ opposite (valueOf G l)
@@ -60,15 +51,20 @@ module _ (n : ℕ) (G : List ℕ) (good : Good n G) where
       go fails e = fails-neg G l e
       go undecided e = undecided-neg G l e
 
-  -- a choice has the value of its literal, where the operands' numbers have theirs
-  choice-right : (y : Node) (a b : ℕ) → valueOf G (y .a) ≡ numbered a → valueOf G (y .b) ≡ numbered b → (k : ℕ) → k < 4
-      → valueOf G (chosen y k) ≡ choiceValue a b k
+  -- a choice has the value of its literal, where the numbers vs have those of the operands
+  choice-right : (y : Node) (vs : List ℕ) → Values G y vs → (k : ℕ) → Chooses y k → valueOf G (chosen y k) ≡ choiceValue vs k
   unfolding chosen choiceValue
-  choice-right y a b p q zero h = p
-  choice-right y a b p q (suc zero) h = value-neg (y .a) ∙ ap opposite p
-  choice-right y a b p q (suc (suc zero)) h = q
-  choice-right y a b p q (suc (suc (suc zero))) h = value-neg (y .b) ∙ ap opposite q
-  choice-right y a b p q (suc (suc (suc (suc k)))) h = absurd (omega arith)
+  choice-right y vs p k h = go (eqb (k % 2) 0)
+    where
+      l : ℕ
+      l = getD (operands y) (k / 2) 0
+
+      v : Value
+      v = numbered (getD vs (k / 2) 0)
+
+      go : (e : Bool) → valueOf G (cond e l (neg l)) ≡ cond e v (opposite v)
+      go true = p (k / 2) h
+      go false = value-neg l ∙ ap opposite (p (k / 2) h)
 
 -- ---- the digits of a code
 
@@ -113,46 +109,46 @@ digits b c d u v e w n hb hc hd hu hv he hw = record {
 
 -- ---- the code of a row
 
--- where it stands among the codes
-code-is : (row a b : ℕ) → row < 14 → a < 3 → b < 3 → codeAt (9 * row + (3 * a + b)) ≡ codeOf (rowStates (getD templates row []) a b)
-unfolding codeRows templates
-code-is row a b h ha hb =
-    let i : (9 * row + (3 * a + b)) / 9 ≡ row = omega arith in
-    let v : (9 * row + (3 * a + b)) % 9 ≡ 3 * a + b = omega arith in
-    rw (i, v) (ap (λ (c : List ℕ). getD c (3 * a + b) 0) (getD-map codesFor templates row [] [] h)
-    ∙ getD-listFrom (codeFor (getD templates row [])) 9 0 (3 * a + b) 0 (omega arith) ∙ ap (codeFor (getD templates row [])) (zero-add (3 * a + b)) ∙ same)
-  where
-    codeFor : List (List ℕ) → ℕ → ℕ
-    codeFor cs v = codeOf (rowStates cs (v / 3) (v % 3))
+-- where it stands among the codes, by two values and by three
+module _ (row a b : ℕ) (ha : a < 3) (hb : b < 3) where
+  code-two : row < 14 → codeAt (9 * row + (3 * a + b)) ≡ rowCode row (a ∷ b ∷ [])
+  unfolding codeAt
+  code-two h =
+      let i : ℕ = 9 * row + (3 * a + b) in
+      let r : i / 9 ≡ row = omega arith in
+      let x : i / 3 % 3 ≡ a = omega arith in
+      let y : i % 3 ≡ b = omega arith in
+      rw (lt-ltb i pairCodes (omega arith), r, x, y)
 
-    codesFor : List (List ℕ) → List ℕ
-    codesFor cs = listFrom (codeFor cs) 0 9
+  code-three : (c : ℕ) → c < 3 → 14 ≤ row → codeAt (3 * (9 * row + (3 * a + b)) + c - 2 * pairCodes) ≡ rowCode row (a ∷ b ∷ c ∷ [])
+  unfolding codeAt
+  code-three c hc h =
+      let i : ℕ = 3 * (9 * row + (3 * a + b)) + c - 2 * pairCodes in
+      let r : 14 + (i - pairCodes) / 27 ≡ row = omega arith in
+      let x : (i - pairCodes) / 9 % 3 ≡ a = omega arith in
+      let y : i / 3 % 3 ≡ b = omega arith in
+      let z : i % 3 ≡ c = omega arith in
+      rw (le-ltb i pairCodes (omega arith), r, x, y, z)
 
-    same : codeFor (getD templates row []) (3 * a + b) ≡ codeOf (rowStates (getD templates row []) a b)
-    same =
-        let x : (3 * a + b) / 3 ≡ a = omega arith in
-        let y : (3 * a + b) % 3 ≡ b = omega arith in
-        rw (x, y)
-
--- the states of a row's clauses, where the operands have the values a and b
-module _ (t : ℕ → Node) (l a b : ℕ) where
+-- the states of a row's clauses, where the operands have the values vs
+module _ (t : ℕ → Node) (l : ℕ) (known : t (l / 2) .kind < 9) (vs : List ℕ) where
   abbrev node : Node
   node = t (l / 2)
 
   abbrev states : List State
-  states = rowStates (rowOf (node .kind) (l % 2)) a b
+  states = rowStates (rowOf (node .kind) (l % 2)) vs
 
-  few : length states ≤ 2
+  few : length states ≤ 3
   unfolding expand
   few =
-      omega (arith, expand-few t l, length-map (rowOf (node .kind) (l % 2)) (map (chosen node)), length-map (rowOf (node .kind) (l % 2)) (stateBy (choiceValue a b)))
+      omega (arith, expand-few t l, length-map (rowOf (node .kind) (l % 2)) (map (chosen node)), length-map (rowOf (node .kind) (l % 2)) (stateBy (choiceValue vs)))
 
   -- the literal of an open state is a choice of an operand
   chooses : All (λ s. isOpen s ≡ true → Chooses node (literalOf s)) states
   chooses =
-      all-map (λ s. isOpen s ≡ true → Chooses node (literalOf s)) (stateBy (choiceValue a b)) (rowOf (node .kind) (l % 2))
-      (all-imply (All (Chooses node)) (λ c. isOpen (stateBy (choiceValue a b) c) ≡ true → Chooses node (literalOf (stateBy (choiceValue a b) c)))
-      (state-has (Chooses node) (choiceValue a b)) (rowOf (node .kind) (l % 2)) (row-chooses node (l % 2) (omega arith)))
+      all-map (λ s. isOpen s ≡ true → Chooses node (literalOf s)) (stateBy (choiceValue vs)) (rowOf (node .kind) (l % 2))
+      (all-imply (All (Chooses node)) (λ c. isOpen (stateBy (choiceValue vs) c) ≡ true → Chooses node (literalOf (stateBy (choiceValue vs) c)))
+      (state-has (Chooses node) (choiceValue vs)) (rowOf (node .kind) (l % 2)) (row-within (node .kind) (l % 2) known (omega arith)))
 
   one-chooses : some isOne states ≡ true → Chooses node (literalAt states (firstOf isOne states))
   one-chooses = first-has isOne one-open (Chooses node) states chooses
@@ -166,22 +162,21 @@ module _ (t : ℕ → Node) (l a b : ℕ) where
   parts =
       digits _ _ _ _ _ _ _ _ (bit-low (some isOne states)) (bit-low (some isEmpty states)) (bit-low (some isOpen states))
       (if-low isOne (λ _ k. k) states 4 (omega arith) (λ e. omega (arith, first-most isOne states, few)))
-      (if-low isOne literalAt states 8 (omega arith) (λ e. omega (arith, one-chooses e .1)))
+      (if-low isOne literalAt states 8 (omega arith) (λ e. omega (arith, choice-few node _ (one-chooses e))))
       (if-low isEmpty (λ _ k. k) states 4 (omega arith) (λ e. omega (arith, first-most isEmpty states, few)))
-      (if-low isOpen literalAt states 8 (omega arith) (λ e. omega (arith, open-chooses e .1)))
+      (if-low isOpen literalAt states 8 (omega arith) (λ e. omega (arith, choice-few node _ (open-chooses e))))
 
   -- the same of the clauses of literals
-  module _ (n : ℕ) (G : List ℕ) (good : Good n G)
-      (va : 2 < node .kind → valueOf G (node .a) ≡ numbered a) (vb : 2 < node .kind → valueOf G (node .b) ≡ numbered b) where
-    right : All (All (Right G (choiceValue a b) (chosen node))) (rowOf (node .kind) (l % 2))
+  module _ (n : ℕ) (G : List ℕ) (good : Good n G) (values : Values G node vs) where
+    right : All (All (Right G (choiceValue vs) (chosen node))) (rowOf (node .kind) (l % 2))
     right =
-        all-imply (All (Chooses node)) (All (Right G (choiceValue a b) (chosen node)))
-        (all-imply (Chooses node) (Right G (choiceValue a b) (chosen node)) (λ k h. choice-right n G good node a b (va (h .0)) (vb (h .0)) k (h .1)))
-        (rowOf (node .kind) (l % 2)) (row-chooses node (l % 2) (omega arith))
+        all-imply (All (Chooses node)) (All (Right G (choiceValue vs) (chosen node)))
+        (all-imply (Chooses node) (Right G (choiceValue vs) (chosen node)) (choice-right n G good node vs values))
+        (rowOf (node .kind) (l % 2)) (row-within (node .kind) (l % 2) known (omega arith))
 
     states-are : statesOf t G l ≡ map (renamed (chosen node)) states
     unfolding expand
-    states-are = states-renamed G (choiceValue a b) (chosen node) (rowOf (node .kind) (l % 2)) right
+    states-are = states-renamed G (choiceValue vs) (chosen node) (rowOf (node .kind) (l % 2)) right
 
     module _ (p : State → Bool) (kept : (s : State) → p (renamed (chosen node) s) ≡ p s) where
       some-is : some p (map (renamed (chosen node)) states) ≡ some p states
@@ -212,18 +207,54 @@ module _ (t : ℕ → Node) (l a b : ℕ) where
       clauses = parts .clauses ∙ sym (length-map states (renamed (chosen node)));
     }
 
--- ---- the code of a literal in the index, at the values of its node's operands
+-- ---- the code of a literal of the index, at the numbers of its node's values
+
+-- a number that is read for a literal has its value
+read-value : (G : List ℕ) (m v : ℕ) → v ≡ valueCode (valueOf G m) → valueOf G m ≡ numbered v
+read-value G m v e = sym (numbered-code (valueOf G m)) ∙ ap numbered (sym e)
 
 module _ {x : List ℕ} {n : ℕ} (I : Indexed x n) (G : List ℕ) (good : Good n G) (l : ℕ) (h : l < 2 * n) where
-  operand-value : (m v : ℕ) → m < always → v ≡ wideValue G m → valueOf G m ≡ numbered v
-  operand-value m v k e = sym (numbered-code (valueOf G m)) ∙ ap numbered (sym (e ∙ wide-low G m k))
+  abbrev own : Node
+  own = indexNode x (l / 2)
 
-  pub code-right : (row a b r : ℕ) → (row ≡ 2 * indexNode x (l / 2) .kind + l % 2) × (row < 14)
-      → (a ≡ wideValue G (indexNode x (l / 2) .a)) × (a < 3) → (b ≡ wideValue G (indexNode x (l / 2) .b)) × (b < 3)
-      → r ≡ getD x (codesAt + (9 * row + (3 * a + b))) 0 → Coded (indexNode x (l / 2)) (statesOf (indexNode x) G l) r
-  code-right row a b r e ea eb er =
-      rw (er ∙ I .codes (9 * row + (3 * a + b)) (omega arith) ∙ code-is row a b (e .1) (ea .1) (eb .1)
-      ∙ ap (λ (k : ℕ). codeOf (rowStates (getD templates k []) a b)) (e .0))
-      (coded (indexNode x) l a b n G good
-      (λ k. operand-value (indexNode x (l / 2) .a) a (omega (arith, I .table .left (l / 2) (omega arith) k, I .few)) (ea .0))
-      (λ k. operand-value (indexNode x (l / 2) .b) b (omega (arith, I .table .right (l / 2) (omega arith) k, I .few)) (eb .0)))
+  -- the value of the operand in cell i of the node, as a number
+  abbrev valueIn : ℕ → ℕ
+  valueIn i = valueCode (valueOf G (getD x (4 * (l / 2) + (1 + i)) 0))
+
+  -- the code of its row, at numbers that have the operands' values
+  code-right : (row r : ℕ) (vs : List ℕ) → row ≡ 2 * own .kind + l % 2 → ((i : ℕ) → i < arity (own .kind) → getD vs i 0 ≡ valueIn i)
+      → r ≡ rowCode row vs → Coded own (statesOf (indexNode x) G l) r
+  code-right row r vs e ev er =
+      rw (er ∙ ap (λ (k : ℕ). rowCode k vs) e)
+      (coded (indexNode x) l (I .table .kinds (l / 2) (omega arith) .1) vs n G good
+      (λ i k. rw (operand-cell x (l / 2) i k) (read-value G (getD x (4 * (l / 2) + (1 + i)) 0) (getD vs i 0) (ev i k))))
+
+  -- it is read at the values of the first two cells, and of the third where the kind has three operands
+  module _ {row a b : ℕ} (e : row ≡ 2 * own .kind + l % 2) (ea : (a ≡ valueIn 0) × (a < 3)) (eb : (b ≡ valueIn 1) × (b < 3)) where
+    pub pair-right : 9 * row + (3 * a + b) < pairCodes → Coded own (statesOf (indexNode x) G l) (getD x (codesAt + (9 * row + (3 * a + b))) 0)
+    pair-right k =
+        code-right row _ (a ∷ b ∷ []) e values
+        (I .codes (9 * row + (3 * a + b)) (omega (arith, k)) ∙ code-two row a b (ea .1) (eb .1) (omega (arith, k)))
+      where
+        values : (i : ℕ) → i < arity (own .kind) → getD (a ∷ b ∷ []) i 0 ≡ valueIn i
+        values zero j = ea .0
+        values (suc zero) j = eb .0
+        values (suc (suc i)) j = absurd (omega (arith, j, arity-pair (own .kind) (omega (arith, k, e))))
+
+    module _ (k : pairCodes ≤ 9 * row + (3 * a + b)) where
+      -- then the third cell is an operand
+      pub three : 7 ≤ own .kind
+      three = omega (arith, k, e, ea .1, eb .1)
+
+      pub three-right : row < 18 → (c : ℕ) → (c ≡ valueIn 2) × (c < 3)
+          → Coded own (statesOf (indexNode x) G l) (getD x (codesAt + (3 * (9 * row + (3 * a + b)) + c - 2 * pairCodes)) 0)
+      three-right few c ec =
+          code-right row _ (a ∷ b ∷ c ∷ []) e values
+          (I .codes (3 * (9 * row + (3 * a + b)) + c - 2 * pairCodes) (omega (arith, few, ea .1, eb .1, ec .1))
+          ∙ code-three row a b (ea .1) (eb .1) c (ec .1) (omega (arith, k, ea .1, eb .1)))
+        where
+          values : (i : ℕ) → i < arity (own .kind) → getD (a ∷ b ∷ c ∷ []) i 0 ≡ valueIn i
+          values zero j = ea .0
+          values (suc zero) j = eb .0
+          values (suc (suc zero)) j = ec .0
+          values (suc (suc (suc i))) j = absurd (omega (arith, j, arity-most (own .kind)))

@@ -1,100 +1,59 @@
 -- The rows of the code against the calculus' templates: each choice is of an operand, and three choices are a clause. Assumes nothing.
 use mathlib.Core.Path.{_≡_, refl, sym, ap, _∙_}
-use mathlib.Core.Bool.{true, false≢true}
 use mathlib.Core.List.{List, [], _∷_, map}
 use Prim.Native.Nat.{ℕ, zero, suc, _+_, _-_, _*_, _/_, _%_, _<_, _≤_}
 use native.Mathlib.Omega.{arith}
 use native.Mathlib.Nat.{zero-add}
-use native.Mathlib.Decide.{decLt}
-use lib.Dec.{ltb}
 use lib.ListN.{length, getD, length-map, List·getD-map}
-use borrow.Author.Tests.{ltb-true}
 use Rattle.scope.specs.declared.Node.{Node}
-use Rattle.scope.specs.Table.{listFrom}
+use Rattle.scope.specs.Table.{operands, listFrom}
+use Rattle.scope.proofs.Operands.{arity-most, operands-length}
 use Rattle.scope.proofs.Lists.{getD-listFrom}
 use Rattle.calculus.specs.Expansion.{chosen, templates, expand}
 use Rattle.calculus.specs.Order.{clauses}
 use Rattle.calculus.specs.Model.{All}
-use Rattle.calculus.proofs.Lists.{every, every-all, all-getD, all-imply, getD-map}
-use Rattle.calculus.proofs.Rows.{rowOf, bare, row-bare}
+use Rattle.calculus.proofs.Lists.{all-getD, all-imply, getD-map}
+use Rattle.calculus.proofs.Rows.{rowOf, Within, row-within}
 use Rattle.calculus.proofs.Sizes.{Short, expand-few, clauses-short}
-use Rattle.index.specs.Index.{indexNode, operands, always}
+use Rattle.index.specs.Index.{indexNode, mostLiterals}
 use Rattle.index.specs.Indexed.{Indexed}
-use Rattle.index.proofs.Cells.{operands-none, operands-two}
+use Rattle.index.proofs.Nodes.{operand-low, operand-choice}
 use Rattle.clause.specs.Templates.{choiceAt, rows, cell}
 
 -- ---- the choices of the templates
 
--- a choice of an operand, of a node that has operands
+-- a choice of an operand
 abbrev pub Chooses : Node → ℕ → Type 0
-Chooses y c = (2 < y .kind) × (c < 4)
+Chooses y c = Within (y .kind) c
 
-rows-low : every (every (every (λ c. ltb c 4))) templates ≡ true
-unfolding templates
-rows-low = refl
-
-row-low : (row : ℕ) → All (All (λ c. c < 4)) (getD templates row [])
-row-low row =
-    all-imply (λ c. every (λ m. ltb m 4) c ≡ true) (All (λ c. c < 4))
-    (λ c e. all-imply (λ m. ltb m 4 ≡ true) (λ m. m < 4) (λ m. ltb-true m 4) c (every-all (λ m. ltb m 4) c e)) (getD templates row [])
-    (every-all (every (λ m. ltb m 4)) (getD templates row [])
-    (all-getD (λ r. every (every (λ m. ltb m 4)) r ≡ true) templates row [] refl (every-all (every (every (λ m. ltb m 4))) templates rows-low)))
-
--- a clause without literals has none
-bare-all : (P : ℕ → Type 0) (c : List ℕ) → bare c ≡ true → All P c
-bare-all P [] e = tt
-bare-all P (m ∷ c) e = absurd (false≢true e)
-
-pub row-chooses : (y : Node) (sign : ℕ) → sign < 2 → All (All (Chooses y)) (rowOf (y .kind) sign)
-row-chooses y sign s = go (decLt (y .kind) 3)
-  where
-    go : Dec (y .kind < 3) → All (All (Chooses y)) (rowOf (y .kind) sign)
-    go (yes h) = all-imply (λ c. bare c ≡ true) (All (Chooses y)) (bare-all (Chooses y)) (rowOf (y .kind) sign) (row-bare (y .kind) sign h s)
-    go (no h) =
-        all-imply (All (λ c. c < 4)) (All (Chooses y)) (all-imply (λ c. c < 4) (Chooses y) (λ c l. (omega (arith, h), l))) (rowOf (y .kind) sign)
-        (row-low (2 * y .kind + sign))
-
--- such a choice is of an operand
 pub of-operand : (y : Node) (c : ℕ) → Chooses y c → c / 2 < length (operands y)
-of-operand y c h = omega (arith, ap length (operands-two y (omega arith)), h .1)
+of-operand y c h = omega (arith, h, operands-length y)
 
--- and the operands are the index's
-module _ {x : List ℕ} {n : ℕ} (I : Indexed x n) (m : ℕ) (h : m < n) where
+-- so there are six
+pub choice-few : (y : Node) (c : ℕ) → Chooses y c → c < 6
+choice-few y c h = omega (arith, h, arity-most (y .kind))
+
+-- of the index every kind is known
+pub known-kind : {x : List ℕ} {n : ℕ} → Indexed x n → (l : ℕ) → l < 2 * n → indexNode x (l / 2) .kind < 9
+known-kind I l h = I .table .kinds (l / 2) (omega arith) .1
+
+-- and the operands are the cells
+module _ {x : List ℕ} {n : ℕ} (I : Indexed x n) (m : ℕ) (h : m < n) (c : ℕ) (k : c / 2 < length (operands (indexNode x m))) where
   -- the number that is read of node m for choice c
-  abbrev operand : ℕ → ℕ
-  operand c = getD x (4 * m + (1 + c / 2)) 0
+  abbrev operand : ℕ
+  operand = getD x (4 * m + (1 + c / 2)) 0
 
-  module _ (c : ℕ) (k : c / 2 < length (operands (indexNode x m))) where
-    -- a node without operands has no choices
-    pub has : (2 < indexNode x m .kind) × (c < 4)
-    has = go (decLt (indexNode x m .kind) 3)
-      where
-        go : Dec (indexNode x m .kind < 3) → (2 < indexNode x m .kind) × (c < 4)
-        go (yes q) = absurd (omega (arith, k, ap length (operands-none (indexNode x m) q)))
-        go (no q) = (omega (arith, q), omega (arith, k, ap length (operands-two (indexNode x m) (omega (arith, q)))))
+  chooses-of : Chooses (indexNode x m) c
+  chooses-of = omega (arith, k, operands-length (indexNode x m))
 
-    pub operand-low : operand c < always
-    unfolding indexNode
-    operand-low = go c (has .1)
-      where
-        go : (c : ℕ) → c < 4 → operand c < always
-        go zero l = omega (arith, I .table .left m h (has .0), I .few)
-        go (suc zero) l = omega (arith, I .table .left m h (has .0), I .few)
-        go (suc (suc zero)) l = omega (arith, I .table .right m h (has .0), I .few)
-        go (suc (suc (suc zero))) l = omega (arith, I .table .right m h (has .0), I .few)
-        go (suc (suc (suc (suc c)))) l = absurd (omega arith)
+  pub six : c < 6
+  six = choice-few (indexNode x m) c chooses-of
 
-    -- an odd choice is the negation of the number
-    pub operand-chosen : operand c - operand c % 2 + (operand c + c) % 2 ≡ chosen (indexNode x m) c
-    unfolding indexNode chosen
-    operand-chosen = go c (has .1)
-      where
-        go : (c : ℕ) → c < 4 → operand c - operand c % 2 + (operand c + c) % 2 ≡ chosen (indexNode x m) c
-        go zero l = omega arith
-        go (suc zero) l = omega arith
-        go (suc (suc zero)) l = omega arith
-        go (suc (suc (suc zero))) l = omega arith
-        go (suc (suc (suc (suc c)))) l = absurd (omega arith)
+  pub operand-few : operand < mostLiterals
+  operand-few = omega (arith, operand-low x n m (c / 2) (I .table) h chooses-of, I .few)
+
+  pub operand-chosen : operand - operand % 2 + (operand + c) % 2 ≡ chosen (indexNode x m) c
+  operand-chosen = operand-choice x m c chooses-of
 
 -- ---- clause j of a row, by three numbers
 
@@ -110,7 +69,7 @@ choice-has P (m ∷ c) zero a h = a .0
 choice-has P (m ∷ c) (suc i) a h = choice-has P c i (a .1) h
 
 -- so a clause is as long as its numbers say
-ends : (c : List ℕ) (i : ℕ) → All (λ m. m < 4) c → 5 < at c i → length c ≤ i
+ends : (c : List ℕ) (i : ℕ) → All (λ m. m < 6) c → 5 < at c i → length c ≤ i
 ends [] i a h = omega arith
 ends (m ∷ c) zero a h = absurd (omega (arith, a .0))
 ends (m ∷ c) (suc i) a h = omega (arith, ends c i (a .1) h)
@@ -137,7 +96,7 @@ list-three : (c : List ℕ) → 2 < length c → length c ≤ 3 → c ≡ at c 0
 list-three [] h k = absurd (omega arith)
 list-three (a ∷ c) h k = ap (a ∷_) (list-two c (omega arith) (omega arith))
 
-module _ (t : ℕ → Node) (l j : ℕ) (k : j < length (expand t l)) where
+module _ (t : ℕ → Node) (l j : ℕ) (known : t (l / 2) .kind < 9) (k : j < length (expand t l)) where
   abbrev node : Node
   node = t (l / 2)
 
@@ -158,21 +117,21 @@ module _ (t : ℕ → Node) (l j : ℕ) (k : j < length (expand t l)) where
   chosen-clause = List·getD-map (map (chosen node)) (rowOf (node .kind) (l % 2)) j []
 
   chooses : All (Chooses node) choices
-  chooses = all-getD (All (Chooses node)) (rowOf (node .kind) (l % 2)) j [] tt (row-chooses node (l % 2) (omega arith))
+  chooses = all-getD (All (Chooses node)) (rowOf (node .kind) (l % 2)) j [] tt (row-within (node .kind) (l % 2) known (omega arith))
 
   short : Short choices
   unfolding clauses
   short =
       omega (arith, length-map choices (chosen node), ap length chosen-clause, all-getD Short (expand t l) j [] (omega arith) (clauses-short t [] (l ∷ [])))
 
-  low : All (λ m. m < 4) choices
-  low = all-imply (Chooses node) (λ m. m < 4) (λ m h. h .1) choices chooses
+  low : All (λ m. m < 6) choices
+  low = all-imply (Chooses node) (λ m. m < 6) (choice-few node) choices chooses
 
   of-choice : (i a : ℕ) → a ≡ at choices i → (5 < a → ⊥) → a / 2 < length (operands node)
   of-choice i a e h = rw e (of-operand node (at choices i) (choice-has (Chooses node) choices i chooses (omega (arith, h, e))))
 
   -- a number of the row that was read
-  module _ {row : ℕ} (e : (row ≡ 2 * node .kind + l % 2) × (row < 14)) where
+  module _ {row : ℕ} (e : (row ≡ 2 * node .kind + l % 2) × (row < 18)) where
     cell-is : (i column r : ℕ) → i < 3 → column ≡ 3 * j + i → r ≡ cell row column → r ≡ at choices i
     unfolding rows templates
     cell-is i column r h q p =

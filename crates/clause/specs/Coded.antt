@@ -1,16 +1,16 @@
 -- What the code of a literal says: what its clauses come to under the literals held. Assumes nothing.
 use mathlib.Core.Path.{_≡_}
-use mathlib.Core.Bool.{true, cond}
+use mathlib.Core.Bool.{true}
 use mathlib.Core.List.{List, map}
-use Prim.Native.Nat.{ℕ, _+_, _-_, _/_, _%_, _<_}
-use lib.Dec.{ltb}
+use Prim.Native.Nat.{ℕ, _+_, _/_, _%_, _<_}
 use lib.ListN.{length, getD}
 use Rattle.scope.specs.declared.Node.{Node}
+use Rattle.scope.specs.Table.{operands}
 use Rattle.calculus.specs.Expansion.{chosen, expand}
 use Rattle.calculus.specs.Order.{State, stateOf, valueOf, isEmpty, isOne, some, firstOf, literalAt, bit}
 use Rattle.trail.specs.Trail.{held, valueCode}
 pub use Rattle.index.specs.Codes.{isOpen}
-use Rattle.index.specs.Index.{operands, always}
+use Rattle.index.specs.Index.{mostLiterals}
 
 -- ---- the work area, as far as a code is read off it: the trail stands from 4 on, and in it the values of the literals from 6051 on
 
@@ -26,13 +26,9 @@ valueAt r l = r (6051 + l)
 abbrev pub gOf : List ℕ → List ℕ
 gOf w = held (tail w)
 
--- a literal's value as a number, 0 undecided, 1 true, 2 false; `always` is true, and the number after it false
-unfoldable pub wideValue : List ℕ → ℕ → ℕ
-wideValue G l = cond (ltb l always) (valueCode (valueOf G l)) (l + 1 - always)
-
--- the trail has the value of each literal
+-- the trail has the value of each literal as a number, 0 undecided, 1 true, 2 false
 abbrev pub Valued : (ℕ → ℕ) → Type 0
-Valued r = (l : ℕ) → l < always + 2 → valueAt r l ≡ wideValue (held r) l
+Valued r = (l : ℕ) → l < mostLiterals → valueAt r l ≡ valueCode (valueOf (held r) l)
 
 -- ---- what a code says
 

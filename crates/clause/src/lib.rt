@@ -4,12 +4,15 @@ ghost use mathlib.Core.List.{[]};
 ghost use Prim.Native.Nat.{_+_, _*_, _/_, _≤_, _<_};
 ghost use lib.ListN.{length, getD};
 ghost use Rattle.calculus.specs.Expansion.{neg, chosen, expand};
+ghost use Rattle.calculus.specs.Order.{valueOf};
 ghost use Rattle.calculus.specs.Model.{Good};
-ghost use Rattle.index.specs.Index.{mostNodes, always, indexNode, operands};
+ghost use Rattle.scope.specs.Table.{operands};
+ghost use Rattle.trail.specs.Trail.{valueCode};
+ghost use Rattle.index.specs.Index.{mostNodes, mostLiterals, indexNode};
 ghost use Rattle.index.specs.Indexed.{Indexed};
 ghost use Rattle.clause.specs.Templates.{rows, cell};
 ghost use Rattle.clause.specs.Literals.{literals};
-ghost use Rattle.clause.specs.Coded.{tail, gOf, wideValue, Valued, statesOf, Coded};
+ghost use Rattle.clause.specs.Coded.{tail, gOf, Valued, statesOf, Coded};
 
 // A clause: how many literals it has, 0 to 3, and which.
 pub struct Clause {
@@ -20,8 +23,8 @@ pub struct Clause {
 }
 
 // The clauses of a literal, by kind and sign, row 2 * kind + sign: for each of three clauses three choices, 0 is a, 1 is not a, 2 is b,
-// 3 is not b, 6 where the clause has no more; a missing clause is 7 three times.
-const TEMPLATES: [[u8; 9]; 14] = [
+// 3 is not b, 4 is c, 5 is not c, 6 where the clause has no more; a missing clause is 7 three times.
+const TEMPLATES: [[u8; 9]; 18] = [
     // there is no kind 0
     [7, 7, 7, 7, 7, 7, 7, 7, 7],
     [7, 7, 7, 7, 7, 7, 7, 7, 7],
@@ -43,6 +46,12 @@ const TEMPLATES: [[u8; 9]; 14] = [
     // IFF
     [1, 2, 6, 0, 3, 6, 7, 7, 7],
     [0, 2, 6, 1, 3, 6, 7, 7, 7],
+    // AND of three
+    [0, 6, 6, 2, 6, 6, 4, 6, 6],
+    [1, 3, 5, 7, 7, 7, 7, 7, 7],
+    // OR of three
+    [0, 2, 4, 7, 7, 7, 7, 7, 7],
+    [1, 6, 6, 3, 6, 6, 5, 6, 6],
 ];
 
 // A choice above this is of no operand.
@@ -50,6 +59,8 @@ const LAST_CHOICE: u8 = 5;
 
 // Where the index has the codes (crate index), and the work area the trail and in it the values of the literals (crate state).
 const CODES_AT: usize = 18144;
+
+const PAIR_CODES: usize = 126;
 
 const TRAIL: usize = 4;
 
@@ -64,16 +75,16 @@ pub fn negated(l: u16) -> u16
 }
 
 // TEMPLATES, to be lent: an index into a constant copies the constant.
-pub fn templates() -> [[u8; 9]; 14]
+pub fn templates() -> [[u8; 9]; 18]
     ensures { λ r. ⌜ r ≡ rows ⌝ }
 {
     TEMPLATES
 }
 
 // A number of TEMPLATES, which is lent.
-fn template(templates: &[[u8; 9]; 14], row: usize, column: usize) -> u8
+fn template(templates: &[[u8; 9]; 18], row: usize, column: usize) -> u8
     requires { ⌜ now templates ≡ rows ⌝ }
-    requires { ⌜ (row < 14) × (column < 9) ⌝ }
+    requires { ⌜ (row < 18) × (column < 9) ⌝ }
     ensures { λ r. ⌜ r ≡ cell row column ⌝ }
 {
     templates[row][column]
@@ -83,7 +94,7 @@ fn template(templates: &[[u8; 9]; 14], row: usize, column: usize) -> u8
 fn row_of(x: &[u16], n: usize, node: usize, sign: usize) -> usize
     requires { ⌜ Indexed (now x) n ⌝ }
     requires { ⌜ (node < n) × (sign < 2) ⌝ }
-    ensures { λ r. ⌜ (r ≡ 2 * indexNode (now (x .entry)) node .kind + sign) × (r < 14) ⌝ }
+    ensures { λ r. ⌜ (r ≡ 2 * indexNode (now (x .entry)) node .kind + sign) × (r < 18) ⌝ }
 {
     2 * (x[4 * node] as usize) + sign
 }
@@ -99,7 +110,7 @@ pub fn choose(x: &[u16], n: usize, node: usize, c: usize) -> u16
 }
 
 // Clause j of literal l.
-pub fn clause_of(templates: &[[u8; 9]; 14], x: &[u16], n: usize, l: u16, j: usize) -> Clause
+pub fn clause_of(templates: &[[u8; 9]; 18], x: &[u16], n: usize, l: u16, j: usize) -> Clause
     requires { ⌜ now templates ≡ rows ⌝ }
     requires { ⌜ Indexed (now x) n ⌝ }
     requires { ⌜ (l < 2 * n) × (j < length (expand (indexNode (now x)) l)) ⌝ }
@@ -147,13 +158,13 @@ pub fn clause_of(templates: &[[u8; 9]; 14], x: &[u16], n: usize, l: u16, j: usiz
 
 // The value of a literal: 0 undecided, 1 true, 2 false.
 fn value(work: &[u16], l: u16) -> usize
-    requires { ⌜ (l < always + 2) × (32768 ≤ length (now work)) × Valued (tail (now work)) ⌝ }
-    ensures { λ r. ⌜ (r ≡ wideValue (gOf (now (work .entry))) l) × (r < 3) ⌝ }
+    requires { ⌜ (l < mostLiterals) × (32768 ≤ length (now work)) × Valued (tail (now work)) ⌝ }
+    ensures { λ r. ⌜ (r ≡ valueCode (valueOf (gOf (now (work .entry))) l)) × (r < 3) ⌝ }
 {
     work[TRAIL + (VALUES + l as usize)] as usize
 }
 
-// What the clauses of a node's literal of a sign come to.
+// What the clauses of a node's literal of a sign come to: a code of nine by the values of two operands, or of 27 by those of three.
 pub fn code(x: &[u16], n: usize, work: &[u16], node: usize, sign: usize) -> u16
     requires { ⌜ Indexed (now x) n ⌝ }
     requires { ⌜ (node < n) × (sign < 2) ⌝ }
@@ -163,5 +174,10 @@ pub fn code(x: &[u16], n: usize, work: &[u16], node: usize, sign: usize) -> u16
     let a = value(work, x[4 * node + 1]);
     let b = value(work, x[4 * node + 2]);
     let row = row_of(x, n, node, sign);
-    x[CODES_AT + (9 * row + (3 * a + b))]
+    let i = 9 * row + (3 * a + b);
+    if i < PAIR_CODES {
+        return x[CODES_AT + i];
+    }
+    let c = value(work, x[4 * node + 3]);
+    x[CODES_AT + (3 * i + c - 2 * PAIR_CODES)]
 }

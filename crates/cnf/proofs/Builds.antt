@@ -187,7 +187,7 @@ unfolding points
 points-runs zero p t rs h l m = record { rs = rs; holds = rw add-zero h }
 points-runs (suc n) p t rs h l m =
     ends-on Full (PutAt p rs (node 2 p 0)) (Pointed (p + suc n)) (put t 2 p 0) (λ u. points u (suc p) n)
-    (put-runs h (node 2 p 0) (node 2 p 0) (bytes-node (node 2 p 0) (record { kind = omega arith; a = omega arith; b = omega arith })) (point-reads p (length rs) (omega arith)))
+    (put-runs h (node 2 p 0) (node 2 p 0) (bytes-node (node 2 p 0) (record { kind = omega arith; a = omega arith; b = omega arith; c = omega arith })) (point-reads p (length rs) (omega arith)))
     (λ u q.
     let next = point-next p rs u l q in
     let sum : suc p + n ≡ p + suc n = omega arith in

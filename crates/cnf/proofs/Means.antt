@@ -1,17 +1,18 @@
 -- What the records that the reader adds mean: TRUE, points, AND and OR, under every setting. Assumes nothing.
 use mathlib.Core.Path.{_≡_, _∙_, ap, sym, refl}
-use mathlib.Core.List.{List}
+use mathlib.Core.List.{List, [], _∷_, map}
 use mathlib.Core.Bool.{Bool, true, false, not, and-comm, or-comm}
 use Prim.Native.Nat.{ℕ, _+_, _-_, _*_, _/_, _%_, _<_, _≤_}
 use native.Mathlib.Omega.{arith}
 use lib.Dec.{eqb, ltb}
 use lib.ListN.{length, getD}
-use borrow.Author.Tests.{eqb-true, eqb-false, eq-eqb, ltb-true, ltb-false}
+use borrow.Author.Tests.{eqb-true, eqb-false, eq-eqb, ne-eqb, ltb-true, ltb-false}
 use Rattle.scope.specs.declared.Node.{Node}
 use Rattle.scope.specs.Outcome.{answer}
-use Rattle.scope.specs.Table.{nodeBytes}
+use Rattle.scope.specs.Table.{nodeBytes, operands}
 use Rattle.scope.specs.Truth.{classical, truth, joined}
 use Rattle.scope.specs.Calls.{Added, add}
+use Rattle.scope.proofs.Operands.{operands-two}
 use Rattle.codec.specs.Valid.{Bytes}
 use Rattle.codec.proofs.Rows.{by-test}
 use Rattle.codec.proofs.Records.{bytes-node}
@@ -49,7 +50,7 @@ module _ {vars used : ℕ} {bytes : List ℕ} {rs : List Node} (h : Holds vars u
 
   -- TRUE and its negation
   small-true : Bytes (nodeBytes (node 1 0 0))
-  small-true = bytes-node (node 1 0 0) (record { kind = omega arith; a = omega arith; b = omega arith })
+  small-true = bytes-node (node 1 0 0) (record { kind = omega arith; a = omega arith; b = omega arith; c = omega arith })
 
   gives-true : (u : Added) → PutAt vars rs (node 1 0 0) u → Gives vars rs (λ s. true) u
   gives-true u p = record {
@@ -85,12 +86,12 @@ module _ {vars used : ℕ} {bytes : List ℕ} {rs : List Node} (h : Holds vars u
       put-true gives-false
 
 -- AND and OR go either way round
-joined-comm : (kind : ℕ) → 2 < kind → kind < 5 → (x y : Bool) → joined classical kind x y ≡ joined classical kind y x
+joined-comm : (kind : ℕ) → 2 < kind → kind < 5 → (x y : Bool) → joined classical kind (x ∷ y ∷ []) ≡ joined classical kind (y ∷ x ∷ [])
 unfolding joined
 joined-comm kind h i x y =
     by-test (eqb kind 3)
     (λ e. rw e (and-comm x y))
-    (λ e. rw (e, eq-eqb kind 4 (omega (arith, eqb-false kind 3 e))) (or-comm x y))
+    (λ e. rw (e, ne-eqb kind 7 (λ q. omega arith), eq-eqb kind 4 (omega (arith, eqb-false kind 3 e))) (or-comm x y))
 
 -- two literals joined: what it means, and that it is no point
 pub record Joins (vars : ℕ) (rs : List Node) (f : List ℕ → Bool) (u : Added) : Type 0 where
@@ -104,25 +105,26 @@ module _ (kind : ℕ) (above : 2 < kind) (below : kind < 5) {vars used : ℕ} {b
   ordered-kind = by-test (ltb (b / 2) (a / 2)) (λ e. rw e) (λ e. rw e)
 
   -- the operands' truths, in either order
-  either : (s : List ℕ) (qs : List Node) → joined classical kind (truth s qs (ordered kind a b .a)) (truth s qs (ordered kind a b .b)) ≡ joined classical kind (truth s qs a) (truth s qs b)
+  either : (s : List ℕ) (qs : List Node) → joined classical kind (map (truth s qs) (operands (ordered kind a b))) ≡ joined classical kind (truth s qs a ∷ truth s qs b ∷ [])
   unfolding ordered
   either s qs =
       by-test (ltb (b / 2) (a / 2))
-      (λ e. rw e (joined-comm kind above below (truth s qs b) (truth s qs a)))
-      (λ e. rw e)
+      (λ e. rw (e, operands-two (node kind b a) above (omega arith)) (joined-comm kind above below (truth s qs b) (truth s qs a)))
+      (λ e. rw (e, operands-two (node kind a b) above (omega arith)))
 
   module _ (u : Added) (p : PutAt vars rs (ordered kind a b) u) where
     earlier : Low (ordered kind a b) (u .literal / 2)
     earlier = rw (p .node) at (low (p .holds) (u .literal / 2) (p .inside))
 
-    join-truth : (s : List ℕ) → truth s (p .rs′) (u .literal) ≡ joined classical kind (truth s rs a) (truth s rs b)
+    join-truth : (s : List ℕ) → truth s (p .rs′) (u .literal) ≡ joined classical kind (truth s rs a ∷ truth s rs b ∷ [])
     join-truth s =
         let k : 2 < ordered kind a b .kind = rw ordered-kind above in
         ap (truth s (p .rs′)) (p .even)
-        ∙ node-joins s (p .rs′) (u .literal / 2) (ordered kind a b) (p .inside) (p .node) (earlier .left k) (earlier .right k) k
-        ∙ rw ordered-kind (either s (p .rs′))
-        ∙ ap (λ (x : Bool). joined classical kind x (truth s (p .rs′) b)) (extends-truth s a (p .extends) left)
-        ∙ ap (joined classical kind (truth s rs a)) (extends-truth s b (p .extends) right)
+        ∙ node-joins s (p .rs′) (u .literal / 2) (ordered kind a b) (p .inside) (p .node) (earlier .below) k
+        ∙ ap (λ (i : ℕ). joined classical i (map (truth s (p .rs′)) (operands (ordered kind a b)))) ordered-kind
+        ∙ either s (p .rs′)
+        ∙ ap (λ (x : Bool). joined classical kind (x ∷ truth s (p .rs′) b ∷ [])) (extends-truth s a (p .extends) left)
+        ∙ ap (λ (y : Bool). joined classical kind (truth s rs a ∷ y ∷ [])) (extends-truth s b (p .extends) right)
 
     -- it is no point: those are ATOMs
     no-point : vars ≤ u .literal / 2
@@ -133,7 +135,7 @@ module _ (kind : ℕ) (above : 2 < kind) (below : kind < 5) {vars used : ℕ} {b
         absurd (omega (arith, ap (λ (x : Node). x .kind) q, ordered-kind)))
         (λ e. ltb-false (u .literal / 2) vars e)
 
-    gives-join : Joins vars rs (λ s. joined classical kind (truth s rs a) (truth s rs b)) u
+    gives-join : Joins vars rs (λ s. joined classical kind (truth s rs a ∷ truth s rs b ∷ [])) u
     gives-join = record {
       gives = record { rs′ = p .rs′; holds = p .holds; extends = p .extends; inside = p .inside; means = join-truth };
       beyond = no-point;
@@ -142,10 +144,10 @@ module _ (kind : ℕ) (above : 2 < kind) (below : kind < 5) {vars used : ℕ} {b
   small-join : Bytes (nodeBytes (node kind a b))
   small-join =
       let few = most h in
-      bytes-node (node kind a b) (record { kind = omega arith; a = omega arith; b = omega arith })
+      bytes-node (node kind a b) (record { kind = omega arith; a = omega arith; b = omega arith; c = omega arith })
 
-  pub join-runs : Runs (Joins vars rs (λ s. joined classical kind (truth s rs a) (truth s rs b))) (add bytes used (nodeBytes (node kind a b)))
+  pub join-runs : Runs (Joins vars rs (λ s. joined classical kind (truth s rs a ∷ truth s rs b ∷ []))) (add bytes used (nodeBytes (node kind a b)))
   join-runs =
-      ends-as Full (PutAt vars rs (ordered kind a b)) (Joins vars rs (λ s. joined classical kind (truth s rs a) (truth s rs b))) (add bytes used (nodeBytes (node kind a b)))
+      ends-as Full (PutAt vars rs (ordered kind a b)) (Joins vars rs (λ s. joined classical kind (truth s rs a ∷ truth s rs b ∷ []))) (add bytes used (nodeBytes (node kind a b)))
       gives-join
       (put-runs h (node kind a b) (ordered kind a b) small-join (join-reads kind above below a b (length rs) left right apart))

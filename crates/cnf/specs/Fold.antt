@@ -12,7 +12,7 @@ use Rattle.cnf.specs.Text.{File}
 -- A table under way is an `Added`: a literal of it, the used length, and the buffer's bytes.
 
 abbrev pub node : ℕ → ℕ → ℕ → Node
-node kind a b = record { kind = kind; a = a; b = b }
+node kind a b = record { kind = kind; a = a; b = b; c = 0 }
 
 -- one record more, by add
 abbrev pub put : Added → ℕ → ℕ → ℕ → Outcome Added

@@ -5,7 +5,7 @@ use Prim.Native.Nat.{ℕ}
 use lib.ListN.{replicate}
 use Rattle.scope.specs.Outcome.{Outcome, answer, refused, first}
 use Rattle.scope.specs.Block.{weight, weighted, checkOf, checkOk, headOk, zeros, paddingOk, blockTest, seal, blockOf, blocksOf, fileOf as blocksFile, recordAt, recordsIn}
-use Rattle.scope.specs.Table.{nodeBytes, nodeOf, operands, withOperands, formOk, rangeOk, orderOk, readRecord, anyBelow, repeats, recordTest, lengthOk, blockRows, tableTest, listFrom, decode, encode}
+use Rattle.scope.specs.Table.{nodeBytes, nodeOf, arity, operands, withOperands, formOk, rangeOk, orderOk, readRecord, anyBelow, repeats, recordTest, lengthOk, blockRows, tableTest, listFrom, decode, encode}
 use Rattle.scope.specs.Calls.{decodeUsed, placed, sorted, ordered, turned, normalized, indexOf, addNew, addNode, add}
 use Rattle.cnf.specs.Text.{File, behindComments, startsWith, digits, valueFrom, heading, wordsFrom, allDigits, positive, negative, wordOf, clausesFrom, fileOf}
 use Rattle.cnf.specs.Fold.{node, points, yes-literal, no-literal, holds, distinctFrom, bothSigns, orAll, orClause, clause, andJoin, andAll, goalOf, build}
@@ -81,5 +81,5 @@ reads = refl
 builds :
     dimacs (112 ∷ 32 ∷ 99 ∷ 110 ∷ 102 ∷ 32 ∷ 50 ∷ 32 ∷ 51 ∷ 10 ∷ 50 ∷ 32 ∷ 49 ∷ 32 ∷ 50 ∷ 32 ∷ 48 ∷ 32 ∷ 45 ∷ 49 ∷ 32 ∷ 49 ∷ 32 ∷ 48 ∷ 32 ∷ 45 ∷ 50 ∷ 32 ∷ 48 ∷ []) (replicate 512 7)
     ≡ answer (record { literal = 10; used = 512; bytes = encode (node 2 0 0 ∷ node 2 1 0 ∷ node 4 0 2 ∷ node 1 0 0 ∷ node 3 4 6 ∷ node 3 3 8 ∷ []) })
-unfolding behindComments startsWith digits valueFrom heading wordsFrom allDigits positive negative wordOf clausesFrom fileOf points yes-literal no-literal holds distinctFrom bothSigns orAll orClause clause andJoin andAll goalOf build dimacs add addNode addNew decodeUsed operands withOperands placed sorted ordered turned normalized indexOf blocksFile blocksOf nodeBytes mathlib.Core.List.flatMap blockOf seal checkOf weighted weight checkOk headOk zeros paddingOk blockTest recordAt recordsIn nodeOf formOk rangeOk orderOk readRecord anyBelow repeats recordTest lengthOk blockRows tableTest listFrom decode first
+unfolding behindComments startsWith digits valueFrom heading wordsFrom allDigits positive negative wordOf clausesFrom fileOf points yes-literal no-literal holds distinctFrom bothSigns orAll orClause clause andJoin andAll goalOf build dimacs add addNode addNew decodeUsed arity operands withOperands placed sorted ordered turned normalized indexOf blocksFile blocksOf nodeBytes mathlib.Core.List.flatMap blockOf seal checkOf weighted weight checkOk headOk zeros paddingOk blockTest recordAt recordsIn nodeOf formOk rangeOk orderOk readRecord anyBelow repeats recordTest lengthOk blockRows tableTest listFrom decode first
 builds = refl

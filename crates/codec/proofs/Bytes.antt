@@ -1,6 +1,6 @@
 -- Laws of bytes, and of lists by their elements. Assumes nothing.
 use mathlib.Core.Path.{_≡_, _∙_, ap, sym, refl}
-use mathlib.Core.List.{List, [], _∷_, _++_, map}
+use mathlib.Core.List.{List, [], _∷_, _++_}
 use Prim.Native.Nat.{ℕ, zero, suc, _+_, _*_, _/_, _%_, _<_, _≤_}
 use native.Mathlib.Nat.{zero-add, suc-add}
 use native.Mathlib.Omega.{arith}
@@ -67,9 +67,3 @@ bytes-zeros n i = rw (zeros-at n i) (lit< tt)
 
 pub bytes-word : (n : ℕ) → n < 65536 → Bytes (wordBytes n)
 bytes-word n h = bytes-cons (n % 256) (n / 256 ∷ []) (omega arith) (bytes-cons (n / 256) [] (omega arith) bytes-nil)
-
--- bytes picked by their indices
-pub bytes-picked : (r is : List ℕ) → Bytes r → Bytes (map (λ i. getD r i 0) is)
-bytes-picked r [] b k = lit< tt
-bytes-picked r (i ∷ is) b zero = b i
-bytes-picked r (i ∷ is) b (suc k) = bytes-picked r is b k

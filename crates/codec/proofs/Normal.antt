@@ -3,44 +3,65 @@
 use mathlib.Core.Path.{_≡_, _∙_, ap, sym, refl}
 use mathlib.Core.List.{List, [], _∷_, _++_}
 use mathlib.Core.Bool.{Bool, true, false, cond, and-true, or-false}
-use Prim.Native.Nat.{ℕ, _+_, _/_, _<_}
+use Prim.Native.Nat.{ℕ, zero, suc, _+_, _/_, _<_, _≤_}
 use native.Mathlib.Omega.{arith}
 use lib.Dec.{eqb, ltb}
-use lib.ListN.{length, getD}
+use lib.ListN.{length, getD, take}
 use borrow.Author.Tests.{eqb-true, eqb-false, ltb-true, ltb-false, eq-eqb, ne-eqb, lt-ltb, le-ltb}
 use Rattle.scope.specs.declared.Node.{Node}
 use Rattle.scope.specs.Outcome.{answer, require, _>>_, _>>=_}
 use Rattle.scope.specs.Block.{wordAt, wordBytes}
-use Rattle.scope.specs.Table.{nodeBytes, nodeOf, neg, operands, withOperands, formOk, rangeOk, orderOk, readRecord}
+use Rattle.scope.specs.Table.{nodeBytes, nodeOf, neg, arity, operands, withOperands, every, formOk, rangeOk, orderOk, readRecord}
 use Rattle.scope.specs.Calls.{placed, sorted, ordered, turned, normal, normalized}
+use Rattle.scope.proofs.Operands.{arity-most, operands-none, operands-two, operands-three, operands-length}
 use Rattle.codec.specs.Valid.{Bytes}
 use Rattle.codec.specs.Given.{among, apart, readGiven}
 use Rattle.codec.proofs.Rows.{by-test}
-use Rattle.codec.proofs.Bytes.{of-word, bytes-cons, bytes-append, bytes-word, bytes-picked}
-use Rattle.codec.proofs.Records.{nodeOf-bytes}
-use Rattle.codec.proofs.Sorted.{every, lower, rising, every-sorted, rising-sorted}
+use Rattle.codec.proofs.Bytes.{of-word, bytes-cons, bytes-append, bytes-word}
+use Rattle.codec.proofs.Records.{nodeOf-bytes, every-at}
+use Rattle.codec.proofs.Sorted.{every-sorted, up-sorted, length-sorted, sorted-same}
 
-abbrev pub node : ℕ → ℕ → ℕ → Node
-node kind a b = record { kind = kind; a = a; b = b }
+-- ---- a node's operands replaced
 
--- a proof by whether a node has operands, and by whether it is of kind 5
-pub by-operands : {P : Type 0} (x : Node) → (x .kind < 3 → P) → (2 < x .kind → P) → P
-by-operands x f g = by-test (ltb (x .kind) 3) (λ l. f (ltb-true (x .kind) 3 l)) (λ l. g (omega (arith, ltb-false (x .kind) 3 l)))
+fields-taken : (ls : List ℕ) (a b c : ℕ) → length ls ≤ 3 → take (length ls) (getD ls 0 a ∷ getD ls 1 b ∷ getD ls 2 c ∷ []) ≡ ls
+fields-taken [] a b c h = refl
+fields-taken (p ∷ []) a b c h = refl
+fields-taken (p ∷ q ∷ []) a b c h = refl
+fields-taken (p ∷ q ∷ r ∷ []) a b c h = refl
+fields-taken (p ∷ q ∷ r ∷ s ∷ ls) a b c h = absurd (omega arith)
+
+module _ (x : Node) where
+  pub operands-with : (ls : List ℕ) → length ls ≡ arity (x .kind) → operands (withOperands x ls) ≡ ls
+  unfolding operands withOperands
+  operands-with ls e = rw (← e) (fields-taken ls (x .a) (x .b) (x .c) (omega (arith, arity-most (x .kind))))
+
+  pub with-operands : withOperands x (operands x) ≡ x
+  unfolding operands withOperands
+  with-operands = go (arity (x .kind))
+    where
+      go : (k : ℕ) → withOperands x (take k (x .a ∷ x .b ∷ x .c ∷ [])) ≡ x
+      go zero = refl
+      go (suc zero) = refl
+      go (suc (suc zero)) = refl
+      go (suc (suc (suc k))) = refl
+
+-- ---- turned and ordered
 
 pub by-five : {P : Type 0} (x : Node) → (x .kind ≡ 5 → P) → ((x .kind ≡ 5 → ⊥) → P) → P
 by-five x f g = by-test (eqb (x .kind) 5) (λ e. f (eqb-true (x .kind) 5 e)) (λ e. g (eqb-false (x .kind) 5 e))
 
+-- a proof by how many operands a kind has
+pub by-arity : {P : Type 0} (x : Node) → (x .kind < 3 → P) → (2 < x .kind → x .kind < 7 → P) → (7 ≤ x .kind → P) → P
+by-arity x f g h =
+    by-test (ltb (x .kind) 3)
+    (λ l. f (ltb-true (x .kind) 3 l))
+    (λ l. by-test (ltb (x .kind) 7)
+    (λ m. g (omega (arith, ltb-false (x .kind) 3 l)) (ltb-true (x .kind) 7 m))
+    (λ m. h (ltb-false (x .kind) 7 m)))
+
 module _ (x : Node) where
-  pub no-operands : x .kind < 3 → operands x ≡ []
-  unfolding operands
-  no-operands k = rw (lt-ltb (x .kind) 3 k)
-
-  pub two-operands : 2 < x .kind → operands x ≡ x .a ∷ x .b ∷ []
-  unfolding operands
-  two-operands k = rw (le-ltb (x .kind) 3 k)
-
   -- kind 5 is turned, others are not
-  pub turned-five : x .kind ≡ 5 → turned x ≡ node 4 (neg (x .a)) (x .b)
+  pub turned-five : x .kind ≡ 5 → turned x ≡ record { kind = 4; a = neg (x .a); b = x .b; c = x .c }
   unfolding turned
   turned-five k = rw (eq-eqb (x .kind) 5 k)
 
@@ -48,18 +69,39 @@ module _ (x : Node) where
   unfolding turned
   turned-other k = rw (ne-eqb (x .kind) 5 k)
 
-  -- two operands in order
-  pub ordered-none : x .kind < 3 → ordered x ≡ x
-  unfolding ordered withOperands sorted
-  ordered-none k = rw (no-operands k)
-
-  pub ordered-two : 2 < x .kind → ordered x ≡ cond (ltb (x .b / 2) (x .a / 2)) (node (x .kind) (x .b) (x .a)) x
-  unfolding ordered withOperands sorted placed
-  ordered-two k = rw (two-operands k) (by-test (ltb (x .b / 2) (x .a / 2)) (λ e. rw e) (λ e. rw e))
-
   pub ordered-kind : ordered x .kind ≡ x .kind
   unfolding ordered withOperands
   ordered-kind = refl
+
+  -- the operands of a node in order are those that it has, sorted
+  pub ordered-operands : operands (ordered x) ≡ sorted (operands x)
+  unfolding ordered
+  ordered-operands = operands-with x (sorted (operands x)) (length-sorted (operands x) ∙ operands-length x)
+
+  -- none, two or three operands in order
+  pub ordered-none : x .kind < 3 → ordered x ≡ x
+  unfolding ordered withOperands sorted
+  ordered-none k = rw (operands-none x k)
+
+  pub ordered-two : 2 < x .kind → x .kind < 7
+      → ordered x ≡ cond (ltb (x .b / 2) (x .a / 2)) (record { kind = x .kind; a = x .b; b = x .a; c = x .c }) x
+  unfolding ordered withOperands sorted placed
+  ordered-two k l = rw (operands-two x k l) (by-test (ltb (x .b / 2) (x .a / 2)) (λ e. rw e) (λ e. rw e))
+
+  pub ordered-three : 7 ≤ x .kind → ordered x ≡ withOperands x (placed (x .a) (placed (x .b) (x .c ∷ [])))
+  unfolding ordered sorted placed
+  ordered-three k = ap (λ (ls : List ℕ). withOperands x (sorted ls)) (operands-three x k)
+
+  -- .. in two steps, as code has them: b and c, then a among them
+  pub ordered-steps : 7 ≤ x .kind → (y : Node) → y ≡ withOperands x (x .a ∷ placed (x .b) (x .c ∷ []))
+      → ordered x ≡ withOperands y (placed (y .a) (y .b ∷ y .c ∷ []))
+  unfolding placed withOperands
+  ordered-steps k y e =
+      ordered-three k
+      ∙ rw e
+      (by-test (ltb (x .c / 2) (x .b / 2))
+      (λ p. rw p (by-test (ltb (x .c / 2) (x .a / 2)) (λ q. rw q (by-test (ltb (x .b / 2) (x .a / 2)) (λ r. rw r) (λ r. rw r))) (λ q. rw q)))
+      (λ p. rw p (by-test (ltb (x .b / 2) (x .a / 2)) (λ q. rw q (by-test (ltb (x .c / 2) (x .a / 2)) (λ r. rw r) (λ r. rw r))) (λ q. rw q))))
 
 -- the kind that is looked up is never 5
 pub turned-kind : (x : Node) → turned x .kind ≡ 5 → ⊥
@@ -68,38 +110,12 @@ turned-kind x = by-five x (λ f. rw (turned-five x f) (λ q. omega arith)) (λ f
 pub normal-kind : (x : Node) → normal x .kind ≡ 5 → ⊥
 normal-kind x e = turned-kind x (sym (ordered-kind (turned x)) ∙ e)
 
--- the operands of a node in order are those that it has, sorted
-ordered-operands : (x : Node) → operands (ordered x) ≡ sorted (operands x)
-unfolding sorted placed
-ordered-operands x =
-    by-operands x
-    (λ k. rw (ordered-none x k, no-operands x k))
-    (λ k.
-    rw (two-operands (ordered x) (rw (ordered-kind x) k), ordered-two x k, two-operands x k)
-    (by-test (ltb (x .b / 2) (x .a / 2)) (λ e. rw e) (λ e. rw e)))
-
--- rows 15 and 16 over operands
-in-range : (n l : ℕ) → Bool
-in-range n l = ltb (l / 2) n
-
-range-every : (x : Node) (n : ℕ) → 2 < x .kind → rangeOk x n ≡ every (in-range n) (operands x)
-unfolding rangeOk every in-range
-range-every x n k =
-    rw (le-ltb (x .kind) 2 (omega arith), ne-eqb (x .kind) 2 (λ q. omega arith), two-operands x k, and-true)
-
-order-rising : (x : Node) → 2 < x .kind → (x .kind ≡ 5 → ⊥) → orderOk x ≡ rising (operands x)
-unfolding orderOk rising lower
-order-rising x k f = rw (le-ltb (x .kind) 3 k, ne-eqb (x .kind) 5 f, two-operands x k, and-true)
-
 -- a node in order, of another kind, is looked up as it is
 pub normal-same : (x : Node) → (x .kind ≡ 5 → ⊥) → orderOk x ≡ true → normal x ≡ x
-unfolding orderOk
+unfolding orderOk ordered
 normal-same x f o =
-    rw (turned-other x f)
-    (by-operands x (ordered-none x)
-    (λ k.
-    let less = ltb-true (x .a / 2) (x .b / 2) (rw (le-ltb (x .kind) 3 k, ne-eqb (x .kind) 5 f) at o) in
-    ordered-two x k ∙ rw (le-ltb (x .b / 2) (x .a / 2) (omega arith))))
+    let rises = rw (ne-eqb (x .kind) 5 f) at o in
+    rw (turned-other x f, sorted-same (operands x) rises) (with-operands x)
 
 -- ---- its bytes
 
@@ -120,46 +136,71 @@ record Words (x : Node) : Type 0 where
   kind : x .kind < 256
   a : x .a < 65536
   b : x .b < 65536
+  c : x .c < 65536
+
+word : ℕ → Bool
+word l = ltb l 65536
+
+is-word : (l : ℕ) → l < 65536 → word l ≡ true
+unfolding word
+is-word l h = lt-ltb l 65536 h
+
+of-is-word : (l : ℕ) → word l ≡ true → l < 65536
+unfolding word
+of-is-word l h = ltb-true l 65536 h
+
+every-taken : (k : ℕ) (x : Node) → Words x → every word (take k (x .a ∷ x .b ∷ x .c ∷ [])) ≡ true
+every-taken zero x w = refl
+every-taken (suc zero) x w = rw (is-word (x .a) (w .a))
+every-taken (suc (suc zero)) x w = rw (is-word (x .a) (w .a), is-word (x .b) (w .b))
+every-taken (suc (suc (suc k))) x w = rw (is-word (x .a) (w .a), is-word (x .b) (w .b), is-word (x .c) (w .c)) (go k)
+  where
+    go : (k : ℕ) → every word (take k []) ≡ true
+    go zero = refl
+    go (suc k) = refl
 
 ordered-words : (x : Node) → Words x → Words (ordered x)
+unfolding ordered withOperands operands
 ordered-words x w =
-    by-operands x
-    (λ k. rw (ordered-none x k) w)
-    (λ k.
-    rw (ordered-two x k)
-    (by-test (ltb (x .b / 2) (x .a / 2)) (λ e. rw e (record { kind = w .kind; a = w .b; b = w .a })) (λ e. rw e w)))
+    let all : every word (sorted (operands x)) ≡ true = every-sorted word (operands x) ∙ every-taken (arity (x .kind)) x w in
+    let at : (i d : ℕ) → d < 65536 → getD (sorted (operands x)) i d < 65536 =
+    λ i d h. of-is-word (getD (sorted (operands x)) i d) (every-at word (sorted (operands x)) i d all (is-word d h)) in
+    record { kind = w .kind; a = at 0 (x .a) (w .a); b = at 1 (x .b) (w .b); c = at 2 (x .c) (w .c) }
 
 turned-words : (x : Node) → Words x → Words (turned x)
 turned-words x w =
     by-five x
-    (λ f. rw (turned-five x f) (record { kind = omega arith; a = omega (arith, w .a); b = w .b }))
+    (λ f. rw (turned-five x f) (record { kind = omega arith; a = omega (arith, w .a); b = w .b; c = w .c }))
     (λ f. rw (turned-other x f) w)
 
 pub bytes-normalized : (r : List ℕ) → Bytes r → Bytes (normalized r)
 unfolding normalized nodeOf
 bytes-normalized r b =
-    let word : (i : ℕ) → wordAt r i < 65536 = λ i. omega (arith, b i, b (i + 1)) in
-    let w = ordered-words (turned (nodeOf r)) (turned-words (nodeOf r) (record { kind = b 0; a = word 2; b = word 4 })) in
-    let last : List ℕ = getD r 6 0 ∷ getD r 7 0 ∷ [] in
+    let small : (i : ℕ) → wordAt r i < 65536 = λ i. omega (arith, b i, b (i + 1)) in
+    let w = ordered-words (turned (nodeOf r)) (turned-words (nodeOf r) (record { kind = b 0; a = small 2; b = small 4; c = small 6 })) in
     let y : Node = normal (nodeOf r) in
-    bytes-cons (y .kind) (getD r 1 0 ∷ wordBytes (y .a) ++ (wordBytes (y .b) ++ last)) (w .kind)
-    (bytes-cons (getD r 1 0) (wordBytes (y .a) ++ (wordBytes (y .b) ++ last)) (b 1)
-    (bytes-append (wordBytes (y .a)) (wordBytes (y .b) ++ last) (bytes-word (y .a) (w .a))
-    (bytes-append (wordBytes (y .b)) last (bytes-word (y .b) (w .b)) (bytes-picked r (6 ∷ 7 ∷ []) b))))
+    bytes-cons (y .kind) (getD r 1 0 ∷ wordBytes (y .a) ++ (wordBytes (y .b) ++ wordBytes (y .c))) (w .kind)
+    (bytes-cons (getD r 1 0) (wordBytes (y .a) ++ (wordBytes (y .b) ++ wordBytes (y .c))) (b 1)
+    (bytes-append (wordBytes (y .a)) (wordBytes (y .b) ++ wordBytes (y .c)) (bytes-word (y .a) (w .a))
+    (bytes-append (wordBytes (y .b)) (wordBytes (y .c)) (bytes-word (y .b) (w .b)) (bytes-word (y .c) (w .c)))))
 
 -- ---- 14 to 16 are those of the record given
 
 -- turning and ordering keep the form
-turned-form : (x : Node) (one six : ℕ) → formOk (turned x) one six ≡ formOk x one six
+turned-form : (x : Node) (one : ℕ) → formOk (turned x) one ≡ formOk x one
 unfolding formOk
-turned-form x one six = by-five x (λ f. rw (turned-five x f, f)) (λ f. rw (turned-other x f))
+turned-form x one = by-five x (λ f. rw (turned-five x f, f)) (λ f. rw (turned-other x f))
 
-ordered-form : (x : Node) (one six : ℕ) → formOk (ordered x) one six ≡ formOk x one six
+ordered-c : (x : Node) → 2 < x .kind → x .kind < 7 → ordered x .c ≡ x .c
+ordered-c x k l = rw (ordered-two x k l) (by-test (ltb (x .b / 2) (x .a / 2)) (λ e. rw e) (λ e. rw e))
+
+pub ordered-form : (x : Node) (one : ℕ) → formOk (ordered x) one ≡ formOk x one
 unfolding formOk
-ordered-form x one six =
-    by-operands x
+ordered-form x one =
+    by-arity x
     (λ k. rw (ordered-none x k))
-    (λ k. rw (ordered-kind x, ne-eqb (x .kind) 1 (λ q. omega arith), ne-eqb (x .kind) 2 (λ q. omega arith)))
+    (λ k l. rw (ordered-kind x, ordered-c x k l, ne-eqb (x .kind) 1 (λ q. omega arith), ne-eqb (x .kind) 2 (λ q. omega arith), lt-ltb (x .kind) 7 l))
+    (λ k. rw (ordered-kind x, ne-eqb (x .kind) 1 (λ q. omega arith), ne-eqb (x .kind) 2 (λ q. omega arith), le-ltb (x .kind) 7 k))
 
 -- .. and whether the operands are of earlier nodes
 turned-range : (x : Node) (n : ℕ) → rangeOk (turned x) n ≡ rangeOk x n
@@ -168,16 +209,16 @@ turned-range x n =
     by-five x
     (λ f.
     let same : neg (x .a) / 2 ≡ x .a / 2 = omega arith in
-    rw (turned-five x f, f, same))
+    let y : Node = record { kind = 4; a = neg (x .a); b = x .b; c = x .c } in
+    rw (turned-five x f, operands-two y (omega arith) (omega arith), operands-two x (omega arith) (omega arith), same, ne-eqb (x .kind) 2 (λ q. omega arith)))
     (λ f. rw (turned-other x f))
 
 ordered-range : (x : Node) (n : ℕ) → rangeOk (ordered x) n ≡ rangeOk x n
+unfolding rangeOk
 ordered-range x n =
-    by-operands x
-    (λ k. rw (ordered-none x k))
-    (λ k.
-    range-every (ordered x) n (rw (ordered-kind x) k)
-    ∙ rw (ordered-operands x, every-sorted (in-range n) (operands x)) (sym (range-every x n k)))
+    by-test (eqb (x .kind) 2)
+    (λ e. rw (ordered-none x (omega (arith, eqb-true (x .kind) 2 e))))
+    (λ e. rw (ordered-operands x, every-sorted (λ l. ltb (l / 2) n) (operands x), ordered-kind x, e))
 
 -- the order is made, and fails only where one node stands twice
 turned-apart : (x : Node) → apart (operands (turned x)) ≡ apart (operands x)
@@ -186,39 +227,34 @@ turned-apart x =
     by-five x
     (λ f.
     let same : neg (x .a) / 2 ≡ x .a / 2 = omega arith in
-    rw (turned-five x f, two-operands (node 4 (neg (x .a)) (x .b)) (omega arith), two-operands x (omega arith), same))
+    let y : Node = record { kind = 4; a = neg (x .a); b = x .b; c = x .c } in
+    rw (turned-five x f, operands-two y (omega arith) (omega arith), operands-two x (omega arith) (omega arith), same))
     (λ f. rw (turned-other x f))
 
 ordered-order : (x : Node) → (x .kind ≡ 5 → ⊥) → orderOk (ordered x) ≡ apart (operands x)
-unfolding orderOk apart
-ordered-order x f =
-    by-operands x
-    (λ k. rw (ordered-none x k, no-operands x k, lt-ltb (x .kind) 3 k))
-    (λ k.
-    order-rising (ordered x) (rw (ordered-kind x) k) (rw (ordered-kind x) f)
-    ∙ ap rising (ordered-operands x) ∙ rising-sorted (operands x))
+unfolding orderOk
+ordered-order x f = rw (ordered-operands x, ordered-kind x, ne-eqb (x .kind) 5 f) (up-sorted (operands x))
 
 pub normal-order : (x : Node) → orderOk (normal x) ≡ apart (operands x)
 normal-order x = ordered-order (turned x) (turned-kind x) ∙ turned-apart x
 
--- what must be zero is as it was given
-zero-fields : (r : List ℕ) → (getD (normalized r) 1 0 ≡ getD r 1 0) × (wordAt (normalized r) 6 ≡ wordAt r 6)
+-- byte 1 is as it was given
+first-byte : (r : List ℕ) → getD (normalized r) 1 0 ≡ getD r 1 0
 unfolding normalized
-zero-fields r = (refl, refl)
+first-byte r = refl
 
 pub given-rows : (r : List ℕ) (n : ℕ) → readRecord (normalized r) n ≡ readGiven r n
 unfolding readRecord readGiven
 given-rows r n =
     let x : Node = nodeOf r in
-    let zero = zero-fields r in
-    let form = ordered-form (turned x) (getD r 1 0) (wordAt r 6) ∙ turned-form x (getD r 1 0) (wordAt r 6) in
+    let form = ordered-form (turned x) (getD r 1 0) ∙ turned-form x (getD r 1 0) in
     let range = ordered-range (turned x) n ∙ turned-range x n in
-    rw (normalized-node r, zero .0, zero .1, form, range, normal-order x)
+    rw (normalized-node r, first-byte r, form, range, normal-order x)
 
 -- an implication: the rows of reading it
 five-order : (x : Node) → x .kind ≡ 5 → orderOk x ≡ apart (operands x)
 unfolding orderOk apart among
-five-order x f = rw (two-operands x (omega arith), f, or-false, and-true)
+five-order x f = rw (operands-two x (omega arith) (omega arith), f, or-false, and-true)
 
 rows-then : (form range order : Bool) (n : ℕ) (x : Node)
     → ((require form 14 n >> (require range 15 n >> (require order 16 n >> answer x))) >>= λ y. answer (normal y))
@@ -233,4 +269,4 @@ unfolding readRecord readGiven
 turned-rows r n k =
     let x : Node = nodeOf r in
     given-rows r n
-    ∙ sym (rw (rows-then (formOk x (getD r 1 0) (wordAt r 6)) (rangeOk x n) (orderOk x) n x, five-order x k))
+    ∙ sym (rw (rows-then (formOk x (getD r 1 0)) (rangeOk x n) (orderOk x) n x, five-order x k))

@@ -6,7 +6,6 @@ use lib.Dec.{eqb}
 use lib.ListN.{getD}
 use Rattle.scope.specs.declared.Node.{Node}
 use Rattle.scope.specs.Outcome.{Outcome, answer, require, _>>_}
-use Rattle.scope.specs.Block.{wordAt}
 use Rattle.scope.specs.Table.{nodeOf, operands, formOk, rangeOk}
 use Rattle.scope.specs.Calls.{normal}
 
@@ -23,7 +22,7 @@ apart (l ∷ ls) = not (among l ls) && apart ls
 -- Of row 16 'same node twice' is left: the order is made.
 unfoldable pub readGiven : List ℕ → ℕ → Outcome Node
 readGiven r n =
-    require (formOk (nodeOf r) (getD r 1 0) (wordAt r 6)) 14 n
+    require (formOk (nodeOf r) (getD r 1 0)) 14 n
     >> (require (rangeOk (nodeOf r) n) 15 n
     >> (require (apart (operands (nodeOf r))) 16 n
     >> answer (normal (nodeOf r))))

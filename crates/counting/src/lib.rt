@@ -35,7 +35,7 @@ fn capped(s: usize, more: usize, cap: usize) -> usize
 }
 
 // How many literals the clause has that the move looked up is on.
-fn clause_size(templates: &[[u8; 9]; 14], x: &[u16], n: usize, goals: &[u16], work: &[u16]) -> usize
+fn clause_size(templates: &[[u8; 9]; 18], x: &[u16], n: usize, goals: &[u16], work: &[u16]) -> usize
     requires { ⌜ now templates ≡ rows ⌝ }
     requires { ⌜ Indexed (now x) n ⌝ }
     requires { ⌜ Goals n (now goals) ⌝ }
@@ -75,7 +75,7 @@ fn size_in(
 // each but one, and a U. A conflict has one more than its clause's literals.
 fn units(
     version: Version,
-    templates: &[[u8; 9]; 14],
+    templates: &[[u8; 9]; 18],
     x: &[u16],
     n: usize,
     goals: &[u16],
@@ -128,7 +128,7 @@ fn units(
 // The search from the literals held, which stay held, s steps being counted: a model, or the count with that of all its steps.
 pub fn count(
     version: Version,
-    templates: &[[u8; 9]; 14],
+    templates: &[[u8; 9]; 18],
     x: &[u16],
     n: usize,
     goals: &[u16],

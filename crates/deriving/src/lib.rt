@@ -83,7 +83,7 @@ fn produce(
 pub fn derive(version: Version, t: &[u8], goals: &[u16], work: &mut [u16], d: &mut [u8]) -> Derived
     ensures { λ r. ⌜ Derives version (now (t .entry)) (now (goals .entry)) (now (work .entry)) (now (d .entry)) (now (work .exit)) (now (d .exit)) r ⌝ }
 {
-    let mut x = [0u16; 18270];
+    let mut x = [0u16; 18378];
     let a = asking::ask(t, goals, 0, 0, work.len(), &mut x);
     match a {
         Counted::Refused(r) => Derived::Refused(r),

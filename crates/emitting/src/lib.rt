@@ -73,7 +73,7 @@ fn false_bits(n: usize, work: &[u16], c: Clause) -> u8
 // The steps on clause k, that of the move looked up: in version one its removals, and a U or a C.
 fn on_clause(
     version: Version,
-    templates: &[[u8; 9]; 14],
+    templates: &[[u8; 9]; 18],
     x: &[u16],
     n: usize,
     goals: &[u16],
@@ -104,7 +104,7 @@ fn on_clause(
 // The moves up to a conflict or a split, with their steps.
 fn phase(
     version: Version,
-    templates: &[[u8; 9]; 14],
+    templates: &[[u8; 9]; 18],
     x: &[u16],
     n: usize,
     goals: &[u16],
@@ -163,7 +163,7 @@ fn phase(
 // The same, with the block lent.
 fn settle(
     version: Version,
-    templates: &[[u8; 9]; 14],
+    templates: &[[u8; 9]; 18],
     x: &[u16],
     n: usize,
     goals: &[u16],
@@ -203,7 +203,7 @@ fn settle(
 // The steps of a search that closes. The literals held stay held; what joined is taken back only before a right branch.
 fn emit(
     version: Version,
-    templates: &[[u8; 9]; 14],
+    templates: &[[u8; 9]; 18],
     x: &[u16],
     n: usize,
     goals: &[u16],
@@ -239,7 +239,7 @@ fn emit(
 // The goals' names and the steps of a search that closes, in blocks at the start of d.
 pub fn write(
     version: Version,
-    templates: &[[u8; 9]; 14],
+    templates: &[[u8; 9]; 18],
     x: &[u16],
     n: usize,
     goals: &[u16],

@@ -7,22 +7,14 @@ use native.Mathlib.Decide.{ℕ-discrete}
 use lib.ListN.{length, getD, set, length-set}
 use borrow.Author.Count.{below-more}
 use lib.Seq.{getD-set-same, getD-set-other}
-use borrow.Author.Tests.{lt-ltb, le-ltb}
 use Rattle.scope.specs.declared.Node.{Node}
+use Rattle.scope.specs.Table.{operands}
+use Rattle.scope.proofs.Operands.{operands-none, operands-two, operands-three, operands-some}
 use Rattle.index.specs.Codes.{codesSize, codeAt}
-use Rattle.index.specs.Index.{indexSize, mostNodes, headsAt, linksAt, codesAt, indexNode, operands, none, opNode, headOf, nextOf, Linked, Same, Entered, Loaded, Copied, Built}
+use Rattle.index.specs.Index.{indexSize, mostNodes, headsAt, linksAt, codesAt, indexNode, none, opNode, headOf, nextOf, Linked, Same, Entered, Loaded, Copied, Built}
 use Rattle.index.proofs.Nodes.{node-same}
 
 -- ---- the node that a cell names
-
--- TRUE and ATOM have no operands, and the others two
-pub operands-none : (y : Node) → y .kind < 3 → operands y ≡ []
-unfolding operands
-operands-none y h = simp (lt-ltb (y .kind) 3 h)
-
-pub operands-two : (y : Node) → 3 ≤ y .kind → operands y ≡ y .a ∷ y .b ∷ []
-unfolding operands
-operands-two y h = simp (le-ltb (y .kind) 3 h)
 
 -- cell s is cell i of node p, whose operands are ls
 op-at : (t : ℕ → Node) (s p i : ℕ) (ls : List ℕ) → s / 4 ≡ p → s % 4 ≡ i → operands (t p) ≡ ls → opNode t s ≡ getD (none ∷ map (_/ 2) ls) i none
@@ -196,24 +188,41 @@ module _ (n p : ℕ) (x : List ℕ) (few : n ≤ mostNodes) (h : p < n) where
       bare : (s i : ℕ) → s / 4 ≡ p → s % 4 ≡ i → getD (none ∷ []) i none ≡ none → opNode (indexNode x) s ≡ none
       bare s i e f g = op-at (indexNode x) s p i [] e f (operands-none (indexNode x p) k) ∙ g
 
-  -- a node with operands: what its cells name, of which the third names no node
-  module _ (k : 3 ≤ getD x (4 * p) 0) where
-    two : operands (indexNode x p) ≡ getD x (4 * p + 1) 0 ∷ getD x (4 * p + 2) 0 ∷ []
-    unfolding indexNode
-    two = operands-two (indexNode x p) k
-
+  -- a node with operands: what its cells name, and that the third of a node with two names no node
+  module _ (k : 2 < getD x (4 * p) 0) where
     pub names-first : getD x (4 * p + 1) 0 / 2 ≡ opNode (indexNode x) (4 * p + 1)
-    names-first = sym (op-at (indexNode x) (4 * p + 1) p 1 _ (omega arith) (omega arith) two)
+    unfolding indexNode
+    names-first = sym (op-at (indexNode x) (4 * p + 1) p 1 _ (omega arith) (omega arith) (operands-some (indexNode x p) k))
 
     pub names-second : (x′ : List ℕ) → Entered n (4 * p + 1 + 1) x x′ → getD x (4 * p + 2) 0 / 2 ≡ opNode (indexNode x′) (4 * p + 2)
+    unfolding indexNode
     names-second x′ e =
-        sym (op-kept n x x′ few (e .nodes) (4 * p + 2) (omega arith) ∙ op-at (indexNode x) (4 * p + 2) p 2 _ (omega arith) (omega arith) two)
+        sym (op-kept n x x′ few (e .nodes) (4 * p + 2) (omega arith)
+        ∙ op-at (indexNode x) (4 * p + 2) p 2 _ (omega arith) (omega arith) (operands-some (indexNode x p) k))
 
-    pub entered-two : (x′ x″ : List ℕ) → Entered n (4 * p + 1 + 1) x x′ → Entered n (4 * p + 2 + 1) x′ x″ → Entered n (4 * (p + 1)) x x″
-    entered-two x′ x″ e f =
+    -- the first two are linked
+    pub entered-both : (x′ x″ : List ℕ) → Entered n (4 * p + 1 + 1) x x′ → Entered n (4 * p + 2 + 1) x′ x″ → Entered n (4 * p + 3) x x″
+    entered-both x′ x″ e f =
         let q : 4 * p + 2 + 1 ≡ 4 * p + 3 = omega arith in
-        skips (4 * p + 3) (4 * (p + 1)) x″ (omega arith) (omega arith) (op-at (indexNode x) (4 * p + 3) p 3 _ (omega arith) (omega arith) two)
-        (entered-more n (4 * p + 1 + 1) (4 * p + 3) x x′ x″ e (rw q at f))
+        entered-more n (4 * p + 1 + 1) (4 * p + 3) x x′ x″ e (rw q at f)
+
+    pub entered-two : getD x (4 * p) 0 < 7 → (x″ : List ℕ) → Entered n (4 * p + 3) x x″ → Entered n (4 * (p + 1)) x x″
+    unfolding indexNode
+    entered-two l x″ e =
+        skips (4 * p + 3) (4 * (p + 1)) x″ (omega arith) (omega arith)
+        (op-at (indexNode x) (4 * p + 3) p 3 _ (omega arith) (omega arith) (operands-two (indexNode x p) k l)) e
+
+    module _ (l : 7 ≤ getD x (4 * p) 0) where
+      pub names-third : (x″ : List ℕ) → Entered n (4 * p + 3) x x″ → getD x (4 * p + 3) 0 / 2 ≡ opNode (indexNode x″) (4 * p + 3)
+      unfolding indexNode
+      names-third x″ e =
+          sym (op-kept n x x″ few (e .nodes) (4 * p + 3) (omega arith)
+          ∙ op-at (indexNode x) (4 * p + 3) p 3 _ (omega arith) (omega arith) (operands-three (indexNode x p) l))
+
+      pub entered-three : (x″ x‴ : List ℕ) → Entered n (4 * p + 3) x x″ → Entered n (4 * p + 3 + 1) x″ x‴ → Entered n (4 * (p + 1)) x x‴
+      entered-three x″ x‴ e f =
+          let q : 4 * p + 3 + 1 ≡ 4 * (p + 1) = omega arith in
+          entered-more n (4 * p + 3) (4 * (p + 1)) x x″ x‴ e (rw q at f)
 
 -- ---- the codes
 
@@ -235,7 +244,6 @@ copied-more k v x x′ h e c = record {
 pub built : (t : List ℕ) (n : ℕ) (x x′ x″ : List ℕ) → n ≤ mostNodes → Loaded t n x → Entered n (4 * n) x x′ → Copied codesSize x′ x″ → Built t n x″
 built t n x x′ x″ few l e c = record {
   nodes = λ m h. node-same x x″ mostNodes m same (omega arith) ∙ l .nodes m h;
-  fill = λ m h. same (4 * m + 3) (omega arith) ∙ l .fill m h;
   links =
       linked-same (indexNode x′) (indexNode x″) n (4 * n) x′ x″ (op-kept n x′ x″ few (λ i h. c .before i (omega arith)))
       (λ m h. c .before (headsAt + m) (omega arith)) (λ s h. c .before (linksAt + s) (omega arith)) (e .linked);

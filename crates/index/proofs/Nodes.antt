@@ -1,21 +1,29 @@
 -- Laws of the nodes of the index, as they are read from the table one after another. Assumes nothing.
-use mathlib.Core.Path.{_≡_, _∙_}
-use mathlib.Core.List.{List}
-use Prim.Native.Nat.{ℕ, _+_, _*_, _<_, _≤_}
+use mathlib.Core.Path.{_≡_, refl, _∙_}
+use mathlib.Core.List.{List, [], _∷_}
+use mathlib.Core.Bool.{cond}
+use Prim.Native.Nat.{ℕ, zero, suc, _+_, _-_, _*_, _/_, _%_, _<_, _≤_}
 use native.Mathlib.Omega.{arith}
+use native.Mathlib.Decide.{ℕ-discrete}
+use lib.Dec.{eqb}
 use lib.ListN.{length, getD, set, length-set}
 use borrow.Author.Count.{below-more}
 use lib.Seq.{getD-set-same, getD-set-other}
+use borrow.Author.Tests.{eq-eqb, ne-eqb}
 use Rattle.scope.specs.declared.Node.{Node}
-use Rattle.scope.specs.Table.{nodeAt}
-use Rattle.index.specs.Index.{indexSize, mostNodes, headsAt, indexNode, always, Loaded}
+use Rattle.scope.specs.Table.{arity, operands, nodeAt}
+use Rattle.scope.proofs.Operands.{arity-most, operands-length, operand-at}
+use Rattle.calculus.specs.Expansion.{neg, chosen}
+use Rattle.calculus.specs.Model.{Table}
+use Rattle.calculus.proofs.Lists.{all-at}
+use Rattle.index.specs.Index.{indexSize, mostNodes, headsAt, indexNode, Loaded}
 
 -- a node hangs on its own numbers alone
 pub node-same : (x x′ : List ℕ) (b m : ℕ) → ((i : ℕ) → i < 4 * b → getD x′ i 0 ≡ getD x i 0) → m < b → indexNode x′ m ≡ indexNode x m
 unfolding indexNode
-node-same x x′ b m e h = rw (e (4 * m) (omega arith), e (4 * m + 1) (omega arith), e (4 * m + 2) (omega arith))
+node-same x x′ b m e h = rw (e (4 * m) (omega arith), e (4 * m + 1) (omega arith), e (4 * m + 2) (omega arith), e (4 * m + 3) (omega arith))
 
--- ---- node m is written, with no links yet: its kind, a, b, the fill, and its head
+-- ---- node m is written, with no links yet: its kind, its operands' cells, and its head
 
 abbrev withA : List ℕ → ℕ → Node → List ℕ
 withA x m y = set (set x (4 * m) (y .kind)) (4 * m + 1) (y .a)
@@ -23,25 +31,25 @@ withA x m y = set (set x (4 * m) (y .kind)) (4 * m + 1) (y .a)
 abbrev withB : List ℕ → ℕ → Node → List ℕ
 withB x m y = set (withA x m y) (4 * m + 2) (y .b)
 
-abbrev withFill : List ℕ → ℕ → Node → List ℕ
-withFill x m y = set (withB x m y) (4 * m + 3) always
+abbrev withC : List ℕ → ℕ → Node → List ℕ
+withC x m y = set (withB x m y) (4 * m + 3) (y .c)
 
 abbrev written : List ℕ → ℕ → Node → List ℕ
-written x m y = set (withFill x m y) (headsAt + m) 0
+written x m y = set (withC x m y) (headsAt + m) 0
 
 module _ (x : List ℕ) (m : ℕ) (y : Node) (h : m < mostNodes) (z : length x ≡ indexSize) where
   -- a place before or behind the node's, that is not its head
   written-other : (i : ℕ) → (4 * m ≤ i → i < 4 * m + 4 → ⊥) → (i ≡ headsAt + m → ⊥) → getD (written x m y) i 0 ≡ getD x i 0
   written-other i n d =
-      getD-set-other (withFill x m y) (headsAt + m) i 0 0 d
-      ∙ getD-set-other (withB x m y) (4 * m + 3) i always 0 (λ q. n (omega (arith, q)) (omega (arith, q)))
+      getD-set-other (withC x m y) (headsAt + m) i 0 0 d
+      ∙ getD-set-other (withB x m y) (4 * m + 3) i (y .c) 0 (λ q. n (omega (arith, q)) (omega (arith, q)))
       ∙ getD-set-other (withA x m y) (4 * m + 2) i (y .b) 0 (λ q. n (omega (arith, q)) (omega (arith, q)))
       ∙ getD-set-other (set x (4 * m) (y .kind)) (4 * m + 1) i (y .a) 0 (λ q. n (omega (arith, q)) (omega (arith, q)))
       ∙ getD-set-other x (4 * m) i (y .kind) 0 (λ q. n (omega (arith, q)) (omega (arith, q)))
 
-  -- the last two stores are none of the three fields
+  -- the last two stores are none of the first three fields
   after-fields : (i : ℕ) → i < 4 * m + 3 → getD (written x m y) i 0 ≡ getD (withB x m y) i 0
-  after-fields i l = getD-set-other (withFill x m y) (headsAt + m) i 0 0 (λ q. omega (arith, q)) ∙ getD-set-other (withB x m y) (4 * m + 3) i always 0 (λ q. omega (arith, q))
+  after-fields i l = getD-set-other (withC x m y) (headsAt + m) i 0 0 (λ q. omega (arith, q)) ∙ getD-set-other (withB x m y) (4 * m + 3) i (y .c) 0 (λ q. omega (arith, q))
 
   written-b : getD (written x m y) (4 * m + 2) 0 ≡ y .b
   written-b = after-fields (4 * m + 2) (omega arith) ∙ getD-set-same (withA x m y) (4 * m + 2) (y .b) 0 (simp length-set (omega arith))
@@ -59,14 +67,14 @@ module _ (x : List ℕ) (m : ℕ) (y : Node) (h : m < mostNodes) (z : length x �
       ∙ getD-set-other (set x (4 * m) (y .kind)) (4 * m + 1) (4 * m) (y .a) 0 (λ q. omega (arith, q))
       ∙ getD-set-same x (4 * m) (y .kind) 0 (omega arith)
 
+  written-c : getD (written x m y) (4 * m + 3) 0 ≡ y .c
+  written-c =
+      getD-set-other (withC x m y) (headsAt + m) (4 * m + 3) 0 0 (λ q. omega (arith, q))
+      ∙ getD-set-same (withB x m y) (4 * m + 3) (y .c) 0 (simp length-set (omega arith))
+
   written-node : indexNode (written x m y) m ≡ y
   unfolding indexNode
-  written-node = rw (written-kind, written-a, written-b)
-
-  written-fill : getD (written x m y) (4 * m + 3) 0 ≡ always
-  written-fill =
-      getD-set-other (withFill x m y) (headsAt + m) (4 * m + 3) 0 0 (λ q. omega (arith, q))
-      ∙ getD-set-same (withB x m y) (4 * m + 3) always 0 (simp length-set (omega arith))
+  written-node = rw (written-kind, written-a, written-b, written-c)
 
 -- ---- the first nodes
 
@@ -74,7 +82,6 @@ pub loaded-none : (t x : List ℕ) → length x ≡ indexSize → Loaded t 0 x
 loaded-none t x z = record {
   size = z;
   nodes = λ m h. absurd (omega (arith, h));
-  fill = λ m h. absurd (omega (arith, h));
   heads = λ m h. absurd (omega (arith, h));
 }
 
@@ -82,12 +89,42 @@ pub loaded-more : (t x : List ℕ) (m : ℕ) (y : Node) → m < mostNodes → y 
 loaded-more t x m y h e L = record {
   size = simp length-set (L .size);
   nodes = below-more _ m (λ k l. node-same x (written x m y) m k before l ∙ L .nodes k l) (written-node x m y h (L .size) ∙ e);
-  fill = below-more _ m (λ k l. before (4 * k + 3) (omega arith) ∙ L .fill k l) (written-fill x m y h (L .size));
   heads =
       below-more _ m
       (λ k l. written-other x m y h (L .size) (headsAt + k) (λ a b. omega (arith, b)) (λ d. omega (arith, d)) ∙ L .heads k l)
-      (getD-set-same (withFill x m y) (headsAt + m) 0 0 (simp length-set (omega (arith, L .size))));
+      (getD-set-same (withC x m y) (headsAt + m) 0 0 (simp length-set (omega (arith, L .size))));
 }
   where
     before : (j : ℕ) → j < 4 * m → getD (written x m y) j 0 ≡ getD x j 0
     before j l = written-other x m y h (L .size) j (λ a b. omega (arith, a)) (λ d. omega (arith, d))
+
+-- ---- the operands of node m are its cells, in order
+
+pub operand-cell : (x : List ℕ) (m i : ℕ) → i < arity (indexNode x m .kind) → getD (operands (indexNode x m)) i 0 ≡ getD x (4 * m + (1 + i)) 0
+unfolding indexNode
+operand-cell x m i h = operand-at (indexNode x m) i 0 h ∙ go i (omega (arith, h, arity-most (indexNode x m .kind)))
+  where
+    go : (i : ℕ) → i < 3 → getD (getD x (4 * m + 1) 0 ∷ getD x (4 * m + 2) 0 ∷ getD x (4 * m + 3) 0 ∷ []) i 0 ≡ getD x (4 * m + (1 + i)) 0
+    go zero l = refl
+    go (suc zero) l = refl
+    go (suc (suc zero)) l = refl
+    go (suc (suc (suc i))) l = absurd (omega arith)
+
+-- so each is a literal of an earlier node
+pub operand-low : (x : List ℕ) (n m i : ℕ) → Table n (indexNode x) → m < n → i < arity (indexNode x m .kind) → getD x (4 * m + (1 + i)) 0 / 2 < m
+operand-low x n m i T h k =
+    rw (operand-cell x m i k) at
+    (all-at (λ l. l / 2 < m) (operands (indexNode x m)) i 0 (T .earlier m h) (omega (arith, k, operands-length (indexNode x m))))
+
+-- a choice of an operand is its number, or the negation where the choice is odd
+pub operand-choice : (x : List ℕ) (m c : ℕ) → c / 2 < arity (indexNode x m .kind)
+    → getD x (4 * m + (1 + c / 2)) 0 - getD x (4 * m + (1 + c / 2)) 0 % 2 + (getD x (4 * m + (1 + c / 2)) 0 + c) % 2 ≡ chosen (indexNode x m) c
+unfolding chosen
+operand-choice x m c h = rw (operand-cell x m (c / 2) h) (go (ℕ-discrete (c % 2) 0))
+  where
+    l : ℕ
+    l = getD x (4 * m + (1 + c / 2)) 0
+
+    go : Dec (c % 2 ≡ 0) → l - l % 2 + (l + c) % 2 ≡ cond (eqb (c % 2) 0) l (neg l)
+    go (yes e) = rw (eq-eqb (c % 2) 0 e) (omega arith)
+    go (no e) = rw (ne-eqb (c % 2) 0 e) (omega arith)

@@ -1,7 +1,7 @@
 -- What the clauses of a literal come to, by its row of the templates and the values of its node's operands. Assumes nothing.
 use mathlib.Core.Bool.{Bool, cond, _||_}
 use mathlib.Core.List.{List, [], _∷_, map}
-use Prim.Native.Nat.{ℕ, _+_, _*_, _/_, _%_}
+use Prim.Native.Nat.{ℕ, _+_, _-_, _*_, _/_, _%_}
 use lib.Dec.{eqb, ltb}
 use lib.ListN.{length, getD}
 use Rattle.scope.specs.Table.{listFrom}
@@ -17,10 +17,10 @@ opposite holds = fails
 opposite fails = holds
 opposite undecided = undecided
 
--- the value of a choice, where the operands have the values a and b
-unfoldable pub choiceValue : ℕ → ℕ → ℕ → Value
-choiceValue a b c =
-    let v = numbered (cond (ltb c 2) a b) in
+-- the value of a choice, where vs are the operands' values as numbers
+unfoldable pub choiceValue : List ℕ → ℕ → Value
+choiceValue vs c =
+    let v = numbered (getD vs (c / 2) 0) in
     cond (eqb (c % 2) 0) v (opposite v)
 
 -- what a clause of choices is, as `stateOf` says it of a clause of literals
@@ -29,8 +29,8 @@ stateBy f [] = empty
 stateBy f (c ∷ cs) = joined (f c) c (stateBy f cs)
 
 -- what the clauses of a row are
-abbrev pub rowStates : List (List ℕ) → ℕ → ℕ → List State
-rowStates cs a b = map (stateBy (choiceValue a b)) cs
+abbrev pub rowStates : List (List ℕ) → List ℕ → List State
+rowStates cs vs = map (stateBy (choiceValue vs)) cs
 
 -- no literal is true, and one is undecided
 abbrev pub isOpen : State → Bool
@@ -48,13 +48,25 @@ codeOf ss =
     bit (some isOne ss) + 2 * bit (some isEmpty ss) + 4 * bit (some isOpen ss) + 8 * firstIf isOne (λ _ k. k) ss
     + 32 * firstIf isOne literalAt ss + 256 * firstIf isEmpty (λ _ k. k) ss + 1024 * firstIf isOpen literalAt ss + 8192 * length ss
 
--- the codes of each row, that of the values a and b at 3 a + b
-unfoldable pub codeRows : List (List ℕ)
-codeRows = map (λ cs. listFrom (λ v. codeOf (rowStates cs (v / 3) (v % 3))) 0 9) templates
+-- the code of a row, at the values of the operands
+abbrev pub rowCode : ℕ → List ℕ → ℕ
+rowCode row vs = codeOf (rowStates (getD templates row []) vs)
 
--- the codes one after another: 14 rows of nine
+-- the codes one after another: nine for each row of a kind with at most two operands, then 27 for each row of kinds 7 and 8. In a row they
+-- go by the number that the values are to base three, the first value as the highest digit
+abbrev pub pairCodes : ℕ
+pairCodes = 126
+
 abbrev pub codesSize : ℕ
-codesSize = 126
+codesSize = 234
 
-abbrev pub codeAt : ℕ → ℕ
-codeAt i = getD (getD codeRows (i / 9) []) (i % 9) 0
+-- row 14 is the first of kind 7
+unfoldable pub codeAt : ℕ → ℕ
+codeAt i =
+    cond (ltb i pairCodes)
+    (rowCode (i / 9) (i / 3 % 3 ∷ i % 3 ∷ []))
+    (rowCode (14 + (i - pairCodes) / 27) ((i - pairCodes) / 9 % 3 ∷ i / 3 % 3 ∷ i % 3 ∷ []))
+
+-- CODES
+abbrev pub codes : List ℕ
+codes = listFrom codeAt 0 codesSize

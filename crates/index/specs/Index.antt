@@ -1,13 +1,11 @@
--- The index of a table, a slice of 18,270 numbers: four numbers a node, links from each node to the operand cells that name it, and the
+-- The index of a table, a slice of 18,378 numbers: four numbers a node, links from each node to the operand cells that name it, and the
 -- codes. Assumes nothing.
 use mathlib.Core.Path.{_≡_}
-use mathlib.Core.Bool.{cond}
-use mathlib.Core.List.{List, [], _∷_, map}
+use mathlib.Core.List.{List, _∷_, map}
 use Prim.Native.Nat.{ℕ, _+_, _*_, _/_, _%_, _<_, _≤_}
-use lib.Dec.{ltb}
 use lib.ListN.{getD, length}
 use Rattle.scope.specs.declared.Node.{Node}
-use Rattle.scope.specs.Table.{nodeAt}
+use Rattle.scope.specs.Table.{operands, nodeAt}
 use Rattle.index.specs.Codes.{codesSize, codeAt}
 
 abbrev pub mostNodes : ℕ
@@ -25,25 +23,17 @@ abbrev pub codesAt : ℕ
 codesAt = 18144
 
 abbrev pub indexSize : ℕ
-indexSize = 18270
+indexSize = 18378
 
--- a literal of no node, always true: what a cell holds that no operand has
-abbrev pub always : ℕ
-always = 4032
-
--- the third cell of each of the first n nodes holds it: no node has three operands
-abbrev pub Fills : List ℕ → ℕ → Type 0
-Fills x n = (m : ℕ) → m < n → getD x (4 * m + 3) 0 ≡ always
+-- how many literals there can be
+abbrev pub mostLiterals : ℕ
+mostLiterals = 4032
 
 -- node m of the index
 unfoldable pub indexNode : List ℕ → ℕ → Node
-indexNode x m = record { kind = getD x (4 * m) 0; a = getD x (4 * m + 1) 0; b = getD x (4 * m + 2) 0 }
+indexNode x m = record { kind = getD x (4 * m) 0; a = getD x (4 * m + 1) 0; b = getD x (4 * m + 2) 0; c = getD x (4 * m + 3) 0 }
 
 -- ---- operands and links
-
--- 'For 3 to 6, a and b are literals of two different earlier nodes'; TRUE and ATOM have no operands
-unfoldable pub operands : Node → List ℕ
-operands y = cond (ltb (y .kind) 3) [] (y .a ∷ y .b ∷ [])
 
 -- no node
 abbrev pub none : ℕ
@@ -97,7 +87,6 @@ pub record Entered (n b : ℕ) (x x′ : List ℕ) : Type 0 where
 pub record Loaded (t : List ℕ) (b : ℕ) (x : List ℕ) : Type 0 where
   pub size : length x ≡ indexSize
   pub nodes : (m : ℕ) → m < b → indexNode x m ≡ nodeAt t m
-  pub fill : Fills x b
   pub heads : (m : ℕ) → m < b → headOf x m ≡ 0
 
 -- the first k codes stand in x′, and what is before them is as it was
@@ -109,6 +98,5 @@ pub record Copied (k : ℕ) (x x′ : List ℕ) : Type 0 where
 -- the index of the n nodes of the table t
 pub record Built (t : List ℕ) (n : ℕ) (x : List ℕ) : Type 0 where
   pub nodes : (m : ℕ) → m < n → indexNode x m ≡ nodeAt t m
-  pub fill : Fills x n
   pub links : Links x n
   pub codes : Codes x

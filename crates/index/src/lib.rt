@@ -16,85 +16,263 @@ const LINKS: usize = 10080;
 
 const CODES_AT: usize = 18144;
 
-const CODES_SIZE: usize = 126;
+const CODES_SIZE: usize = 234;
 
-// What a cell holds that no operand has: a literal of no node, always true.
-const ALWAYS: u16 = 4032;
+// Kinds below it have no operands; kinds from it on have three.
+const PAIRS: u16 = 3;
 
-// What the clauses of a literal come to, a row for each kind and sign, in it 3 a + b for the values of the operands (0 undecided, 1 true,
-// 2 false). `codeOf` in specs/Codes.antt says what a code is, and computes these.
-const CODES: [[u16; 9]; 14] = [
+const THREES: u16 = 7;
+
+// The code of one clause that is all false, as that of TRUE's negation is at any values.
+const ALL_FALSE: u16 = 8194;
+
+// What the clauses of a literal come to, by the values of its operands (0 undecided, 1 true, 2 false): a row of nine for each kind and sign
+// with at most two operands, in it 3 a + b; three rows of nine for each of kinds 7 and 8 and sign, one for each value of a, in it 3 b + c.
+// `codeOf` in specs/Codes.antt says what a code is, and computes these.
+const CODES: [u16; 234] = [
     // there is no kind 0
-    [0, 0, 0, 0, 0, 0, 0, 0, 0],
-    [0, 0, 0, 0, 0, 0, 0, 0, 0],
+    0,
+    0,
+    0,
+    0,
+    0,
+    0,
+    0,
+    0,
+    0,
+    0,
+    0,
+    0,
+    0,
+    0,
+    0,
+    0,
+    0,
+    0,
     // TRUE
-    [0, 0, 0, 0, 0, 0, 0, 0, 0],
-    [8194, 8194, 8194, 8194, 8194, 8194, 8194, 8194, 8194],
+    0,
+    0,
+    0,
+    0,
+    0,
+    0,
+    0,
+    0,
+    0,
+    ALL_FALSE,
+    ALL_FALSE,
+    ALL_FALSE,
+    ALL_FALSE,
+    ALL_FALSE,
+    ALL_FALSE,
+    ALL_FALSE,
+    ALL_FALSE,
+    ALL_FALSE,
     // ATOM
-    [0, 0, 0, 0, 0, 0, 0, 0, 0],
-    [0, 0, 0, 0, 0, 0, 0, 0, 0],
+    0,
+    0,
+    0,
+    0,
+    0,
+    0,
+    0,
+    0,
+    0,
+    0,
+    0,
+    0,
+    0,
+    0,
+    0,
+    0,
+    0,
+    0,
     // AND
-    [
-        16389,
-        16389,
-        16647,
-        18509,
-        16384,
-        16642,
-        18511,
-        16386,
-        16386,
-    ],
-    [9220, 9253, 8192, 11365, 8194, 8192, 8192, 8192, 8192],
+    16389,
+    16389,
+    16647,
+    18509,
+    16384,
+    16642,
+    18511,
+    16386,
+    16386,
+    9220,
+    9253,
+    8192,
+    11365,
+    8194,
+    8192,
+    8192,
+    8192,
+    8192,
     // OR
-    [8196, 8192, 8197, 8192, 8192, 8192, 10309, 8192, 8194],
-    [
-        17445,
-        17703,
-        17445,
-        19567,
-        16386,
-        16386,
-        19565,
-        16642,
-        16384,
-    ],
+    8196,
+    8192,
+    8197,
+    8192,
+    8192,
+    8192,
+    10309,
+    8192,
+    8194,
+    17445,
+    17703,
+    17445,
+    19567,
+    16386,
+    16386,
+    19565,
+    16642,
+    16384,
     // IMP
-    [9220, 8192, 9253, 10309, 8192, 8194, 8192, 8192, 8192],
-    [
-        16389,
-        16647,
-        16389,
-        19565,
-        16642,
-        16384,
-        19567,
-        16386,
-        16386,
-    ],
+    9220,
+    8192,
+    9253,
+    10309,
+    8192,
+    8194,
+    8192,
+    8192,
+    8192,
+    16389,
+    16647,
+    16389,
+    19565,
+    16642,
+    16384,
+    19567,
+    16386,
+    16386,
     // IFF
-    [
-        17412,
-        16397,
-        17445,
-        18501,
-        16384,
-        16386,
-        19565,
-        16642,
-        16384,
-    ],
-    [
-        16388,
-        17453,
-        16389,
-        19565,
-        16642,
-        16384,
-        18501,
-        16384,
-        16386,
-    ],
+    17412,
+    16397,
+    17445,
+    18501,
+    16384,
+    16386,
+    19565,
+    16642,
+    16384,
+    16388,
+    17453,
+    16389,
+    19565,
+    16642,
+    16384,
+    18501,
+    16384,
+    16386,
+    // AND of three, then its negation, each by the value of a
+    24581,
+    24581,
+    25095,
+    24581,
+    24581,
+    25095,
+    24839,
+    24839,
+    24839,
+    26701,
+    26701,
+    27215,
+    28821,
+    24576,
+    25090,
+    29079,
+    24834,
+    24834,
+    26703,
+    26703,
+    26703,
+    28823,
+    24578,
+    24578,
+    28823,
+    24578,
+    24578,
+    9220,
+    9220,
+    8192,
+    9220,
+    9253,
+    8192,
+    8192,
+    8192,
+    8192,
+    11268,
+    11365,
+    8192,
+    13477,
+    8194,
+    8192,
+    8192,
+    8192,
+    8192,
+    8192,
+    8192,
+    8192,
+    8192,
+    8192,
+    8192,
+    8192,
+    8192,
+    8192,
+    // OR of three, then its negation
+    8196,
+    8192,
+    8196,
+    8192,
+    8192,
+    8192,
+    8196,
+    8192,
+    8197,
+    8192,
+    8192,
+    8192,
+    8192,
+    8192,
+    8192,
+    8192,
+    8192,
+    8192,
+    10244,
+    8192,
+    10309,
+    8192,
+    8192,
+    8192,
+    12421,
+    8192,
+    8194,
+    25637,
+    26151,
+    25637,
+    25895,
+    25895,
+    25895,
+    25637,
+    26151,
+    25637,
+    27759,
+    27759,
+    27759,
+    29879,
+    24578,
+    24578,
+    29879,
+    24578,
+    24578,
+    27757,
+    28271,
+    27757,
+    30135,
+    24834,
+    24834,
+    29877,
+    25090,
+    24576,
 ];
 
 // Cell s, which names node m, is linked: it becomes the last cell of m. A node that the table does not have has no cells.
@@ -110,20 +288,26 @@ fn enter(x: &mut [u16], n: usize, s: usize, m: usize)
     x[HEADS + m] = s as u16;
 }
 
-// The cells of node p are linked. TRUE and ATOM have no operands, and no node has three.
+// The cells of node p are linked: as many as its kind has operands.
 fn enter_node(x: &mut [u16], n: usize, p: usize)
     requires { ⌜ (length (now x) ≡ indexSize) × (n ≤ mostNodes) × (p < n) ⌝ }
     requires { ⌜ Linked (indexNode (now x)) n (4 * p) (now x) ⌝ }
     ensures { λ _. ⌜ Entered n (4 * (p + 1)) (now (x .entry)) (now (x .exit)) ⌝ }
 {
     let s = 4 * p;
-    if x[s] < 3 {
+    let kind = x[s];
+    if kind < PAIRS {
         return;
     }
     let a = x[s + 1] / 2;
     let b = x[s + 2] / 2;
+    let c = x[s + 3] / 2;
     enter(x, n, s + 1, a as usize);
     enter(x, n, s + 2, b as usize);
+    if kind < THREES {
+        return;
+    }
+    enter(x, n, s + 3, c as usize);
 }
 
 // All cells are linked, node by node.
@@ -152,7 +336,7 @@ fn load_node(t: &[u8], x: &mut [u16], m: usize)
     x[s] = node.kind as u16;
     x[s + 1] = node.a;
     x[s + 2] = node.b;
-    x[s + 3] = ALWAYS;
+    x[s + 3] = node.c;
     x[HEADS + m] = 0;
 }
 
@@ -177,7 +361,7 @@ fn copy_codes(x: &mut [u16])
     let codes = &CODES;
     let mut i = 0;
     while i < CODES_SIZE {
-        x[CODES_AT + i] = codes[i / 9][i % 9];
+        x[CODES_AT + i] = codes[i];
         i += 1;
     }
 }

@@ -11,7 +11,7 @@ use Rattle.scope.specs.Table.{sameNode, listFrom}
 use Rattle.scope.specs.Calls.{indexOf}
 use Rattle.scope.proofs.Lists.{listFrom-turn, listFrom-done}
 
--- two nodes differ in a field, or only in b if at all
+-- two nodes differ in a field, or only in c if at all
 module _ (x y : Node) where
   pub other-kind : (x .kind ≡ y .kind → ⊥) → false ≡ sameNode x y
   other-kind h = rw (ne-eqb (x .kind) (y .kind) h)
@@ -19,8 +19,11 @@ module _ (x y : Node) where
   pub other-a : x .kind ≡ y .kind → (x .a ≡ y .a → ⊥) → false ≡ sameNode x y
   other-a e h = rw (eq-eqb (x .kind) (y .kind) e, ne-eqb (x .a) (y .a) h)
 
-  pub only-b : x .kind ≡ y .kind → x .a ≡ y .a → eqb (x .b) (y .b) ≡ sameNode x y
-  only-b e h = rw (eq-eqb (x .kind) (y .kind) e, eq-eqb (x .a) (y .a) h)
+  pub other-b : x .kind ≡ y .kind → x .a ≡ y .a → (x .b ≡ y .b → ⊥) → false ≡ sameNode x y
+  other-b e a h = rw (eq-eqb (x .kind) (y .kind) e, eq-eqb (x .a) (y .a) a, ne-eqb (x .b) (y .b) h)
+
+  pub only-c : x .kind ≡ y .kind → x .a ≡ y .a → x .b ≡ y .b → eqb (x .c) (y .c) ≡ sameNode x y
+  only-c e a b = rw (eq-eqb (x .kind) (y .kind) e, eq-eqb (x .a) (y .a) a, eq-eqb (x .b) (y .b) b)
 
 module _ (f : ℕ → Node) (x : Node) (n e : ℕ) where
   pub found : n < e → sameNode (f n) x ≡ true → n + indexOf x (listFrom f n (e - n)) ≡ n

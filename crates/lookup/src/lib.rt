@@ -1,9 +1,10 @@
 // What add does with a record before any byte changes: turn an implication into an OR, order the operands, and look for the node.
 ghost use mathlib.Core.Path.{_≡_};
+ghost use mathlib.Core.List.{[], _∷_};
 ghost use Prim.Native.Nat.{ℕ, _+_, _<_, _≤_};
 ghost use lib.ListN.{length};
-ghost use Rattle.scope.specs.Table.{neg, sameNode, nodeAt, listFrom};
-ghost use Rattle.scope.specs.Calls.{ordered, turned, normalized, indexOf};
+ghost use Rattle.scope.specs.Table.{neg, withOperands, sameNode, nodeAt, listFrom};
+ghost use Rattle.scope.specs.Calls.{placed, ordered, turned, normalized, indexOf};
 ghost use Rattle.record.specs.Place.{placeOf};
 use scope::Node;
 
@@ -25,6 +26,61 @@ fn turn(x: Node) -> Node
         kind: 4,
         a: negation(x.a),
         b: x.b,
+        c: x.c,
+    }
+}
+
+// Two operands in order of their nodes.
+fn order_two(x: Node) -> Node
+    requires { ⌜ (2 < x .kind) × (x .kind < 7) ⌝ }
+    ensures { λ y. ⌜ y ≡ ordered x ⌝ }
+{
+    if x.a / 2 <= x.b / 2 {
+        return x;
+    }
+    Node {
+        kind: x.kind,
+        a: x.b,
+        b: x.a,
+        c: x.c,
+    }
+}
+
+// The last two of three in order.
+fn order_last(x: Node) -> Node
+    ensures { λ y. ⌜ y ≡ withOperands x (x .a ∷ placed (x .b) (x .c ∷ [])) ⌝ }
+{
+    if x.b / 2 <= x.c / 2 {
+        return x;
+    }
+    Node {
+        kind: x.kind,
+        a: x.a,
+        b: x.c,
+        c: x.b,
+    }
+}
+
+// The first of three among the others, which are in order.
+fn place_first(x: Node) -> Node
+    ensures { λ y. ⌜ y ≡ withOperands x (placed (x .a) (x .b ∷ x .c ∷ [])) ⌝ }
+{
+    if x.a / 2 <= x.b / 2 {
+        return x;
+    }
+    if x.a / 2 <= x.c / 2 {
+        return Node {
+            kind: x.kind,
+            a: x.b,
+            b: x.a,
+            c: x.c,
+        };
+    }
+    Node {
+        kind: x.kind,
+        a: x.b,
+        b: x.c,
+        c: x.a,
     }
 }
 
@@ -35,14 +91,10 @@ fn order(x: Node) -> Node
     if x.kind < 3 {
         return x;
     }
-    if x.a / 2 <= x.b / 2 {
-        return x;
+    if x.kind < 7 {
+        return order_two(x);
     }
-    Node {
-        kind: x.kind,
-        a: x.b,
-        b: x.a,
-    }
+    place_first(order_last(x))
 }
 
 // The record that add looks up for the record given.
@@ -57,8 +109,8 @@ pub fn normalize(r: [u8; 8]) -> [u8; 8]
         (x.a / 256) as u8,
         (x.b % 256) as u8,
         (x.b / 256) as u8,
-        r[6],
-        r[7],
+        (x.c % 256) as u8,
+        (x.c / 256) as u8,
     ]
 }
 
@@ -72,7 +124,10 @@ fn same(x: Node, y: Node) -> bool
     if x.a != y.a {
         return false;
     }
-    x.b == y.b
+    if x.b != y.b {
+        return false;
+    }
+    x.c == y.c
 }
 
 // The first node that is x, or the count where none is.

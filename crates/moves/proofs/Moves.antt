@@ -15,7 +15,8 @@ use Rattle.calculus.specs.Model.{Goals}
 use Rattle.calculus.specs.declared.Move.the-variants.{Conflict, Unit as Single, Done, Split}
 use Rattle.calculus.proofs.Literals.{is-false}
 use Rattle.trail.proofs.Trails.{trail-length}
-use Rattle.index.specs.Index.{operands, mostNodes}
+use Rattle.scope.specs.Table.{operands}
+use Rattle.index.specs.Index.{mostNodes}
 use Rattle.units.specs.Units.{member, Empty, First, positions}
 use Rattle.clause.specs.Coded.{isOpen, Choice, Coded}
 use Rattle.state.specs.Work.{tail, litAt, baseOf, gOf, held, trail, valueCode, cursorAt, cursorOf, conflictOf, waitingOf, placeOf, Numbered, trailAt, literalsAt, basesAt, valuesAt}

@@ -197,7 +197,7 @@ pub fn next_move(x: &[u16], n: usize, goals: &[u16], work: &mut [u16], masks: &[
 }
 
 // The clause that the last move, a conflict or a unit, is on.
-pub fn reason(templates: &[[u8; 9]; 14], x: &[u16], n: usize, goals: &[u16], work: &[u16]) -> Clause
+pub fn reason(templates: &[[u8; 9]; 18], x: &[u16], n: usize, goals: &[u16], work: &[u16]) -> Clause
     requires { ⌜ now templates ≡ rows ⌝ }
     requires { ⌜ Indexed (now x) n ⌝ }
     requires { ⌜ Goals n (now goals) ⌝ }

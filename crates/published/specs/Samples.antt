@@ -4,6 +4,7 @@ use mathlib.Core.List.{List, [], _∷_, map}
 use Prim.Native.Nat.{ℕ}
 use lib.ListN.{getD}
 use Rattle.scope.specs.declared.Node.{Node}
+use Rattle.scope.specs.Table.{arity, operands}
 use Rattle.scope.specs.Calls.{noNode}
 use Rattle.scope.specs.Outcome.{Outcome, answer, refused}
 use Rattle.calculus.specs.Expansion.{chosen, templates, expand}
@@ -17,7 +18,7 @@ use Rattle.published.specs.Reading.{standing, sequentOf, openOf, ruleOf}
 use Rattle.published.specs.Moves.{kept, reduced, searched}
 
 abbrev node : ℕ → ℕ → ℕ → Node
-node kind a b = record { kind = kind; a = a; b = b }
+node kind a b = record { kind = kind; a = a; b = b; c = 0 }
 
 tableA : List Node
 tableA =
@@ -52,11 +53,11 @@ sequents-14 : trace steps-14 (running root [])
     ∷ ((0 ∷ 7 ∷ 4 ∷ 14 ∷ [] ⊢ (2 ∷ []) ∷ [] ∷ (3 ∷ []) ∷ []) ∷ [])
     ∷ []
     ∷ []
-unfolding trace steps-14 clausesA tableA standing unstruck among ruleU ruleR ruleE ruleC ruleS apply advance clauses valueOf mem expand templates chosen
+unfolding trace steps-14 clausesA tableA standing unstruck among ruleU ruleR ruleE ruleC ruleS apply advance clauses valueOf mem expand templates chosen operands arity
 sequents-14 = refl
 
 -- the solver's sequent with nothing held, and with 14 and 4
 searched-14 : searched clausesA (14 ∷ []) [] ∷ searched clausesA (14 ∷ []) (4 ∷ 14 ∷ []) ∷ []
     ≡ ([] ⊢ (14 ∷ []) ∷ []) ∷ (4 ∷ 14 ∷ [] ⊢ (7 ∷ []) ∷ (0 ∷ []) ∷ (2 ∷ []) ∷ []) ∷ []
-unfolding clausesA tableA kept reduced anyHolds clauses valueOf mem expand templates chosen
+unfolding clausesA tableA kept reduced anyHolds clauses valueOf mem expand templates chosen operands arity
 searched-14 = refl

@@ -127,7 +127,7 @@ module _ {A : Type 0} (L : Logic A) (even : Even L) (s : List ℕ) where
       go (no p) (yes k) = atom-truth L s qs i y h e k ∙ sym (rw k)
       go (no p) (no q) =
           let k : 2 < y .kind = omega (arith, b .kinds) in
-          truths-join L s qs i y h e (b .left k) (b .right k) k ∙ sym (operation L even s (truthsFrom L s [] qs) y k)
+          truths-join L s qs i y h e (b .below) k ∙ sym (operation L even s (truthsFrom L s [] qs) y k)
 
   -- v has the truths of the records so far
   pub record Kept (v : List A) (qs : List Node) (m : List ℕ) : Type 0 where
@@ -152,7 +152,7 @@ module _ {A : Type 0} (L : Logic A) (even : Even L) (s : List ℕ) where
     newest =
         let sound = sound-more (length v) qs m x (kept .sound) l in
         node-whole all (indexOf z all) z (with-in qs z) (here qs z) (rw (here qs z) at (sound .low (indexOf z all) (with-in qs z)))
-        ∙ step-means L even s v (truthsFrom L s [] all) m x (l .kinds) (λ h. older (x .a / 2) (l .left h)) (λ h. older (x .b / 2) (l .right h))
+        ∙ step-means L even s v (truthsFrom L s [] all) m x (length v) (l .kinds) (l .below) older
 
     longer-by-one : length (v ++ nodeTruth L s v x ∷ []) ≡ suc (length v)
     longer-by-one = simp length-append (omega arith)

@@ -2,7 +2,7 @@
 -- (`rebuild-refused`), what it leaves in a buffer as long as the table (`rebuild-whole`), and that without kind 5 it is the table byte
 -- for byte (`rebuild-plain`). Assumes nothing.
 use mathlib.Core.Path.{_≡_, refl, sym, ap, _∙_, subst}
-use mathlib.Core.List.{List, [], _∷_, _++_, append-assoc, append-nil}
+use mathlib.Core.List.{List, [], _∷_, _++_, append-assoc, append-nil, map}
 use mathlib.Core.Logic.{_⊎_, inl, inr}
 use mathlib.Core.Bool.{Bool, true, false, cond, false≢true}
 use Prim.Native.Nat.{ℕ, suc, _+_, _*_, _/_, _%_, _<_, _≤_}
@@ -11,10 +11,10 @@ use native.Mathlib.Omega.{arith}
 use lib.Dec.{eqb, ltb, leb}
 use lib.ListN.{length, getD, take, length-append, List·getD-append}
 use lib.Seq.{getD-append-seam}
-use borrow.Author.Tests.{eqb-true, eqb-false, le-leb, lt-ltb, le-ltb}
+use borrow.Author.Tests.{eqb-true, eqb-false, ltb-true, le-leb, lt-ltb, le-ltb}
 use Rattle.scope.specs.declared.Node.{Node}
 use Rattle.scope.specs.Outcome.{Outcome, answer, refused, require, _>>_, _>>=_}
-use Rattle.scope.specs.Table.{nodeBytes, operands, formOk, readRecord, listFrom, decode, encode}
+use Rattle.scope.specs.Table.{nodeBytes, operands, every, formOk, readRecord, listFrom, decode, encode}
 use Rattle.scope.specs.Truth.{Logic, truthsFrom, truthIn, classical}
 use Rattle.scope.specs.Kleene.{kleene}
 use Rattle.scope.specs.Calls.{noNode, decodeUsed, evaluate, normal, indexOf, Added, written, addNode, addNew, add}
@@ -22,13 +22,13 @@ use Rattle.scope.proofs.Tests.{by-test, bound, refused-no}
 use Rattle.scope.proofs.Lists.{listFrom-more, getD-listFrom}
 use Rattle.codec.specs.Valid.{Bytes, Valid, NoImp, withNode, Built}
 use Rattle.codec.specs.Given.{apart}
-use Rattle.codec.proofs.Rows.{row}
+use Rattle.codec.proofs.Rows.{both, row}
 use Rattle.codec.proofs.Bytes.{bytes-take}
 use Rattle.codec.proofs.Records.{length-nodeBytes, reads}
 use Rattle.codec.proofs.Tables.{read-encodes, read-valid, length-encode}
 use Rattle.codec.proofs.Nodes.{index-none, index-last, valid-more, with-found, with-more}
 use Rattle.codec.proofs.Used.{encode-none, table-used, encode-used, written-used, written-length, written-over}
-use Rattle.codec.proofs.Normal.{by-operands, normalized-bytes, normal-same, normal-order}
+use Rattle.codec.proofs.Normal.{with-operands, normalized-bytes, normal-same, normal-order}
 use Rattle.codec.proofs.Adds.{add-reads-back, add-bytes, found, more, by-add}
 use Rattle.truth.specs.Evaluated.{Low}
 use Rattle.truth.proofs.Low.{reads-low}
@@ -36,16 +36,16 @@ use Rattle.truth.proofs.Truths.{length-truths}
 use Rattle.rebuilding.specs.Rebuild.{rebuilt, mapped, rebuildFrom, rebuild, Rebuilt, following, nodesFrom}
 use Rattle.rebuilding.specs.Promised.{Even, Rebuilds}
 use Rattle.rebuilding.proofs.Logics.{classical-even, kleene-even}
-use Rattle.rebuilding.proofs.Means.{mapped-none, mapped-two, rebuilt-means}
+use Rattle.rebuilding.proofs.Means.{rebuilt-means}
 use Rattle.rebuilding.proofs.Steps.{rebuilt-node, mapped-reads, mapped-small, add-mapped}
 use Rattle.rebuilding.proofs.Kept.{by-found, Sound, sound-none, sound-more, Kept, kept-all}
 
 -- records from k on: of known form, with operands of earlier nodes
 pub record Records (k : ℕ) (xs : List Node) : Type 0 where
   pub low : (i : ℕ) → i < length xs → Low (getD xs i noNode) (k + i)
-  pub form : (i : ℕ) → i < length xs → formOk (getD xs i noNode) 0 0 ≡ true
+  pub form : (i : ℕ) → i < length xs → formOk (getD xs i noNode) 0 ≡ true
 
-first-record : {k : ℕ} {x : Node} {xs : List Node} → Records k (x ∷ xs) → Low x k × (formOk x 0 0 ≡ true)
+first-record : {k : ℕ} {x : Node} {xs : List Node} → Records k (x ∷ xs) → Low x k × (formOk x 0 ≡ true)
 first-record {k} g = (rw (add-zero k) at (g .low 0 (omega arith)), g .form 0 (omega arith))
 
 rest-records : {k : ℕ} {x : Node} {xs : List Node} → Records k (x ∷ xs) → Records (suc k) xs
@@ -57,7 +57,7 @@ rest-records {k} g = record {
 }
 
 -- those of a readable table are such
-form-of : (x : Node) (n : ℕ) → readRecord (nodeBytes x) n ≡ answer x → formOk x 0 0 ≡ true
+form-of : (x : Node) (n : ℕ) → readRecord (nodeBytes x) n ≡ answer x → formOk x 0 ≡ true
 unfolding nodeBytes
 form-of x n e = reads (nodeBytes x) n e .form
 
@@ -78,7 +78,7 @@ pub record Read (m : List ℕ) (qs xs : List Node) (b : Built) : Type 0 where
 
 -- one record further
 module _ (m : List ℕ) (buf : List ℕ) (used k : ℕ) (qs : List Node) (x : Node) (out : Added) (all : Bytes buf)
-    (d : decodeUsed (take used buf) ≡ answer qs) (sound : Sound k qs m) (few : k < 2016) (l : Low x k) (form : formOk x 0 0 ≡ true)
+    (d : decodeUsed (take used buf) ≡ answer qs) (sound : Sound k qs m) (few : k < 2016) (l : Low x k) (form : formOk x 0 ≡ true)
     (a : add buf used (nodeBytes (mapped m x)) ≡ answer out) where
   small : Bytes (nodeBytes (mapped m x))
   small = mapped-small m x k (length qs) l (sound .inside) form (omega (arith, sound .fewer))
@@ -238,11 +238,15 @@ literal-same n l h =
     (λ e. rw (e, at) (omega (arith, eqb-true (l % 2) 0 e)))
     (λ e. rw (e, at) (omega (arith, eqb-false (l % 2) 0 e)))
 
+literals-same : (n : ℕ) (ls : List ℕ) → every (λ l. ltb (l / 2) n) ls ≡ true → map (rebuilt (doubles n)) ls ≡ ls
+literals-same n [] e = refl
+literals-same n (l ∷ ls) e =
+    let d = both (ltb (l / 2) n) (every (λ l. ltb (l / 2) n) ls) e in
+    rw (literal-same n l (ltb-true (l / 2) n (d .0)), literals-same n ls (d .1))
+
 mapped-same : (n : ℕ) (x : Node) → Low x n → mapped (doubles n) x ≡ x
-mapped-same n x l =
-    by-operands x
-    (mapped-none (doubles n) x)
-    (λ k. rw (mapped-two (doubles n) x k, literal-same n (x .a) (l .left k), literal-same n (x .b) (l .right k)))
+unfolding mapped
+mapped-same n x l = rw (literals-same n (operands x) (l .below)) (with-operands x)
 
 plain : (xs ps : List Node) → Valid (ps ++ xs) → NoImp xs
     → nodesFrom (doubles (length ps)) ps xs ≡ answer (record { nodes = ps ++ xs; literals = doubles (length (ps ++ xs)) })

@@ -1,26 +1,28 @@
 -- One record of a rebuild, added: of the rows 14 to 16 only 16 can refuse it, where two operands have become one node
 -- (`add-mapped`). Assumes nothing.
-use mathlib.Core.Path.{_≡_, _∙_, refl}
-use mathlib.Core.List.{List}
+use mathlib.Core.Path.{_≡_, _∙_, sym, refl}
+use mathlib.Core.List.{List, [], _∷_, map}
 use mathlib.Core.Bool.{Bool, true, false}
 use Prim.Native.Nat.{ℕ, _/_, _%_, _<_, _≤_}
 use native.Mathlib.Omega.{arith}
-use native.Mathlib.Decide.{ℕ-discrete}
 use lib.Dec.{eqb, ltb}
 use lib.ListN.{length, getD, take}
-use borrow.Author.Tests.{ne-eqb, lt-ltb, le-ltb, le-leb}
+use borrow.Author.Tests.{eqb-true, ne-eqb, ltb-true, lt-ltb, le-ltb, le-leb}
 use Rattle.scope.specs.declared.Node.{Node}
 use Rattle.scope.specs.Outcome.{Outcome, answer, require, _>>_, _>>=_}
-use Rattle.scope.specs.Table.{nodeBytes, operands, formOk, rangeOk, readRecord}
+use Rattle.scope.specs.Table.{nodeBytes, neg, operands, withOperands, every, formOk, rangeOk, readRecord}
 use Rattle.scope.specs.Calls.{decodeUsed, ordered, turned, normal, normalized, addNode, add}
 use Rattle.scope.proofs.Tests.{by-test, and-both}
+use Rattle.scope.proofs.Operands.{operands-two}
 use Rattle.codec.specs.Valid.{Bytes}
 use Rattle.codec.specs.Given.{apart, readGiven}
+use Rattle.codec.proofs.Rows.{both}
 use Rattle.codec.proofs.Records.{nodeOf-bytes, fields-small, bytes-node}
-use Rattle.codec.proofs.Normal.{by-operands, by-five, turned-five, turned-other, ordered-none, ordered-two, given-rows}
+use Rattle.codec.proofs.Sorted.{every-sorted}
+use Rattle.codec.proofs.Normal.{by-five, by-arity, turned-five, turned-other, ordered-kind, ordered-none, ordered-operands, given-rows}
 use Rattle.truth.specs.Evaluated.{Low}
 use Rattle.rebuilding.specs.Rebuild.{rebuilt, mapped}
-use Rattle.rebuilding.proofs.Means.{mapped-none, mapped-two}
+use Rattle.rebuilding.proofs.Means.{mapped-operands, mapped-kind, mapped-none}
 
 -- ---- nodes whose operands are of earlier nodes
 
@@ -28,65 +30,77 @@ use Rattle.rebuilding.proofs.Means.{mapped-none, mapped-two}
 low-range : (x : Node) (n : ℕ) → Low x n → rangeOk x n ≡ true
 unfolding rangeOk
 low-range x n l =
-    by-operands x
-    (λ k. go k (ℕ-discrete (x .kind) 2))
-    (λ k.
-    rw (le-ltb (x .kind) 2 (omega arith), ne-eqb (x .kind) 2 (λ q. omega arith))
-    (and-both (ltb (x .a / 2) n) (ltb (x .b / 2) n) (lt-ltb (x .a / 2) n (l .left k)) (lt-ltb (x .b / 2) n (l .right k))))
-  where
-    go : x .kind < 3 → Dec (x .kind ≡ 2) → rangeOk x n ≡ true
-    go k (yes e) = rw (le-ltb (x .kind) 2 (omega arith), e) (lt-ltb (x .a) 1024 (l .point e))
-    go k (no e) = rw (lt-ltb (x .kind) 2 (omega arith))
+    by-test (eqb (x .kind) 2)
+    (λ e. rw e (lt-ltb (x .a) 1024 (l .point (eqb-true (x .kind) 2 e))))
+    (λ e. rw e (l .below))
 
 -- .. and stay so: turned, ordered, with their operands replaced
 turned-low : (x : Node) (n : ℕ) → Low x n → Low (turned x) n
 turned-low x n l =
     by-five x
     (λ f.
+    let same : neg (x .a) / 2 ≡ x .a / 2 = omega arith in
+    let y : Node = record { kind = 4; a = neg (x .a); b = x .b; c = x .c } in
     rw (turned-five x f)
-    (record { kinds = omega arith; point = λ q. absurd (omega arith); left = λ q. omega (arith, l .left (omega arith)); right = λ q. l .right (omega arith) }))
+    (record {
+      kinds = omega arith;
+      known = omega arith;
+      point = λ q. absurd (omega arith);
+      below = rw (operands-two y (omega arith) (omega arith), same) (rw (operands-two x (omega arith) (omega arith)) at (l .below));
+    }))
     (λ f. rw (turned-other x f) l)
 
 ordered-low : (x : Node) (n : ℕ) → Low x n → Low (ordered x) n
-ordered-low x n l =
-    by-operands x
-    (λ k. rw (ordered-none x k) l)
-    (λ k.
-    rw (ordered-two x k)
-    (by-test (ltb (x .b / 2) (x .a / 2))
-    (λ e. rw e (record { kinds = l .kinds; point = λ q. absurd (omega arith); left = l .right; right = l .left }))
-    (λ e. rw e l)))
+ordered-low x n l = record {
+  kinds = rw (ordered-kind x) (l .kinds);
+  known = rw (ordered-kind x) (l .known);
+  point = λ q.
+      let two : x .kind ≡ 2 = sym (ordered-kind x) ∙ q in
+      rw (ordered-none x (omega arith)) (l .point two);
+  below = rw (ordered-operands x) (every-sorted (λ l. ltb (l / 2) n) (operands x) ∙ l .below);
+}
 
 pub rebuilt-node : (m : List ℕ) (l : ℕ) → rebuilt m l / 2 ≡ getD m (l / 2) 0 / 2
 unfolding rebuilt
 rebuilt-node m l = by-test (eqb (l % 2) 0) (λ e. rw e) (λ e. rw e (omega arith))
 
+-- literals that are replaced by literals of nodes below n
+every-mapped : (m : List ℕ) (k n : ℕ) → ((j : ℕ) → j < k → getD m j 0 / 2 < n) → (ls : List ℕ)
+    → every (λ l. ltb (l / 2) k) ls ≡ true → every (λ l. ltb (l / 2) n) (map (rebuilt m) ls) ≡ true
+every-mapped m k n inside [] e = refl
+every-mapped m k n inside (l ∷ ls) e =
+    let d = both (ltb (l / 2) k) (every (λ l. ltb (l / 2) k) ls) e in
+    let low : rebuilt m l / 2 < n = rw (rebuilt-node m l) (inside (l / 2) (ltb-true (l / 2) k (d .0))) in
+    and-both (ltb (rebuilt m l / 2) n) (every (λ l. ltb (l / 2) n) (map (rebuilt m) ls)) (lt-ltb (rebuilt m l / 2) n low) (every-mapped m k n inside ls (d .1))
+
 module _ (m : List ℕ) (x : Node) (k n : ℕ) (l : Low x k) (inside : (j : ℕ) → j < k → getD m j 0 / 2 < n) where
   mapped-low : Low (mapped m x) n
-  mapped-low =
-      by-operands x
-      (λ h. rw (mapped-none m x h) (record { kinds = l .kinds; point = l .point; left = λ q. absurd (omega arith); right = λ q. absurd (omega arith) }))
-      (λ h.
-      rw (mapped-two m x h)
-      (record {
-        kinds = l .kinds;
-        point = λ q. absurd (omega arith);
-        left = λ q. rw (rebuilt-node m (x .a)) (inside (x .a / 2) (l .left q));
-        right = λ q. rw (rebuilt-node m (x .b)) (inside (x .b / 2) (l .right q));
-      }))
+  mapped-low = record {
+    kinds = rw (mapped-kind m x) (l .kinds);
+    known = rw (mapped-kind m x) (l .known);
+    point = λ q.
+        let two : x .kind ≡ 2 = sym (mapped-kind m x) ∙ q in
+        rw (mapped-none m x (omega arith)) (l .point two);
+    below = rw (mapped-operands m x) (every-mapped m k n inside (operands x) (l .below));
+  }
 
   pub looked-up-low : Low (normal (mapped m x)) n
   looked-up-low = ordered-low (turned (mapped m x)) n (turned-low (mapped m x) n mapped-low)
 
-  mapped-form : formOk (mapped m x) 0 0 ≡ formOk x 0 0
+  mapped-c : 2 < x .kind → x .kind < 7 → mapped m x .c ≡ x .c
+  unfolding mapped withOperands
+  mapped-c h i = rw (operands-two x h i)
+
+  mapped-form : formOk (mapped m x) 0 ≡ formOk x 0
   unfolding formOk
   mapped-form =
-      by-operands x
+      by-arity x
       (λ h. rw (mapped-none m x h))
-      (λ h. rw (mapped-two m x h, ne-eqb (x .kind) 1 (λ q. omega arith), ne-eqb (x .kind) 2 (λ q. omega arith)))
+      (λ h i. rw (mapped-kind m x, mapped-c h i, ne-eqb (x .kind) 1 (λ q. omega arith), ne-eqb (x .kind) 2 (λ q. omega arith), lt-ltb (x .kind) 7 i))
+      (λ h. rw (mapped-kind m x, ne-eqb (x .kind) 1 (λ q. omega arith), ne-eqb (x .kind) 2 (λ q. omega arith), le-ltb (x .kind) 7 h))
 
   -- rows 14 and 15 do not refuse its record
-  module _ (form : formOk x 0 0 ≡ true) where
+  module _ (form : formOk x 0 ≡ true) where
     pub mapped-reads : readRecord (normalized (nodeBytes (mapped m x))) n ≡ (require (apart (operands (mapped m x))) 16 n >> answer (normal (mapped m x)))
     unfolding readGiven nodeBytes
     mapped-reads =
@@ -95,7 +109,7 @@ module _ (m : List ℕ) (x : Node) (k n : ℕ) (l : Low x k) (inside : (j : ℕ)
     -- its fields are small
     pub mapped-small : n ≤ 2016 → Bytes (nodeBytes (mapped m x))
     mapped-small few =
-        bytes-node (mapped m x) (fields-small (mapped m x) 0 0 n few (mapped-form ∙ form) (low-range (mapped m x) n mapped-low))
+        bytes-node (mapped m x) (fields-small (mapped m x) 0 n few (mapped-form ∙ form) (low-range (mapped m x) n mapped-low))
 
 -- a row before what is only handed on
 row-then : {A B : Type 0} (t : Bool) (number place : ℕ) (a : A) (next : A → Outcome B)
@@ -104,7 +118,7 @@ row-then true number place a next = refl
 row-then false number place a next = refl
 
 -- so add goes on to look its node up, or says 16
-module _ (m : List ℕ) (x : Node) (k : ℕ) (qs : List Node) (l : Low x k) (form : formOk x 0 0 ≡ true) (inside : (j : ℕ) → j < k → getD m j 0 / 2 < length qs) where
+module _ (m : List ℕ) (x : Node) (k : ℕ) (qs : List Node) (l : Low x k) (form : formOk x 0 ≡ true) (inside : (j : ℕ) → j < k → getD m j 0 / 2 < length qs) where
   pub add-mapped : (buf : List ℕ) (used : ℕ) → used ≤ length buf → decodeUsed (take used buf) ≡ answer qs
       → add buf used (nodeBytes (mapped m x)) ≡ (require (apart (operands (mapped m x))) 16 (length qs) >> addNode buf used qs (normal (mapped m x)))
   unfolding add

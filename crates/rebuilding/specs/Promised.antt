@@ -1,4 +1,4 @@
--- What is promised of a rebuild, over any logic whose joins do not see the order of two truths. Assumes nothing.
+-- What is promised of a rebuild, over any logic whose joins do not see the order of truths. Assumes nothing.
 use mathlib.Core.Path.{_≡_}
 use mathlib.Core.List.{List}
 use Prim.Native.Nat.{ℕ, _*_, _<_}
@@ -10,12 +10,17 @@ use Rattle.scope.specs.Calls.{decodeUsed, evaluate}
 use Rattle.codec.specs.Valid.{NoImp, Built}
 use Rattle.rebuilding.specs.Rebuild.{rebuilt}
 
+-- a join that does not see the order of what it joins
+pub record Orderless {A : Type 0} (f : A → A → A) : Type 0 where
+  pub two : (x y : A) → f x y ≡ f y x
+  pub three : (x y z : A) → f x (f y z) ≡ f y (f x z)
+
 -- the two logics are such: and, or, if and only if do not see the order, and a negation twice is none
 pub record Even {A : Type 0} (L : Logic A) : Type 0 where
   pub twice : (x : A) → L .opposite (L .opposite x) ≡ x
-  pub both : (x y : A) → L .both x y ≡ L .both y x
-  pub either : (x y : A) → L .either x y ≡ L .either y x
-  pub alike : (x y : A) → L .alike x y ≡ L .alike y x
+  pub both : Orderless (L .both)
+  pub either : Orderless (L .either)
+  pub alike : Orderless (L .alike)
 
 -- the table t of the nodes rs was rebuilt
 pub record Rebuilds (t : List ℕ) (rs : List Node) (b : Built) : Type 1 where

@@ -17,27 +17,32 @@ pub enum NodeRead {
 }
 
 // The kind is known, and each must-be-zero field is 0.
-fn form_ok(x: Node, one: u8, six: u16) -> bool
-    ensures { λ r. ⌜ r ≡ formOk x one six ⌝ }
+fn form_ok(x: Node, one: u8) -> bool
+    ensures { λ r. ⌜ r ≡ formOk x one ⌝ }
 {
     if one != 0 {
         return false;
     }
-    if six != 0 {
+    let kind = x.kind;
+    if 6 < kind {
+        return kind < 9;
+    }
+    if x.c != 0 {
         return false;
     }
-    let kind = x.kind;
-    match kind {
-        1 => {
-            if x.a != 0 {
-                return false;
-            }
-            x.b == 0
-        }
-        2 => x.b == 0,
-        3 | 4 | 5 | 6 => true,
-        _ => false,
+    if 2 < kind {
+        return true;
     }
+    if x.b != 0 {
+        return false;
+    }
+    if kind == 2 {
+        return true;
+    }
+    if x.a != 0 {
+        return false;
+    }
+    kind == 1
 }
 
 // The point is below 1,024, or the operands are literals of nodes before node n.
@@ -53,10 +58,16 @@ fn range_ok(x: Node, n: usize) -> bool
     if n <= (x.a / 2) as usize {
         return false;
     }
-    ((x.b / 2) as usize) < n
+    if n <= (x.b / 2) as usize {
+        return false;
+    }
+    if x.kind < 7 {
+        return true;
+    }
+    ((x.c / 2) as usize) < n
 }
 
-// The operands are of two nodes, the lower first but in an implication.
+// The operands are of different nodes, which rise but in an implication.
 fn order_ok(x: Node) -> bool
     ensures { λ r. ⌜ r ≡ orderOk x ⌝ }
 {
@@ -66,7 +77,13 @@ fn order_ok(x: Node) -> bool
     if x.kind == 5 {
         return x.a / 2 != x.b / 2;
     }
-    x.a / 2 < x.b / 2
+    if x.kind < 7 {
+        return x.a / 2 < x.b / 2;
+    }
+    if x.b / 2 <= x.a / 2 {
+        return false;
+    }
+    x.b / 2 < x.c / 2
 }
 
 // Where the record of node n starts.
@@ -84,7 +101,13 @@ pub fn fields(r: &[u8]) -> Node
 {
     let a = words::word(r, 2);
     let b = words::word(r, 4);
-    Node { kind: r[0], a, b }
+    let c = words::word(r, 6);
+    Node {
+        kind: r[0],
+        a,
+        b,
+        c,
+    }
 }
 
 // Node n of a table: the fields of its record.
@@ -103,8 +126,7 @@ pub fn read_record(r: &[u8], n: usize) -> NodeRead
     ensures { λ v. ⌜ readOf v ≡ readRecord (now (r .entry)) n ⌝ }
 {
     let x = fields(r);
-    let six = words::word(r, 6);
-    if !form_ok(x, r[1], six) {
+    if !form_ok(x, r[1]) {
         return NodeRead::Refused(Refusal {
             number: 14,
             place: n,

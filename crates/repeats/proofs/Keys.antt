@@ -1,8 +1,8 @@
 -- Laws of places and keys: later records stand later, and two records of bytes are the same where their keys are.
 -- Assumes nothing.
-use mathlib.Core.Path.{_≡_, sym, refl}
+use mathlib.Core.Path.{_≡_, ap, sym, refl}
 use mathlib.Core.List.{List}
-use mathlib.Core.Bool.{Bool, true, false, _&&_}
+use mathlib.Core.Bool.{Bool, true, false}
 use Prim.Native.Nat.{ℕ, zero, suc, _≤_, _<_}
 use native.Mathlib.Omega.{arith}
 use lib.Dec.{eqb}
@@ -11,9 +11,9 @@ use borrow.Author.Tests.{eq-eqb, eqb-true}
 use Rattle.scope.specs.declared.Node.{Node}
 use Rattle.scope.specs.Block.{recordAt}
 use Rattle.scope.specs.Table.{nodeOf, nodeAt, sameNode, anyBelow, repeats}
-use Rattle.scope.proofs.Tests.{and-left, and-right}
 use Rattle.codec.specs.Valid.{Bytes}
 use Rattle.codec.proofs.Bytes.{bytes-take, bytes-drop}
+use Rattle.codec.proofs.Records.{same-is}
 use Rattle.record.specs.Place.{placeOf}
 use Rattle.repeats.specs.Chains.{keyOf}
 
@@ -28,16 +28,17 @@ keyAt t n = keyOf (nodeAt t n)
 abbrev pub hasKey : List ℕ → ℕ → ℕ → Bool
 hasKey t k m = eqb (keyAt t m) k
 
--- a byte and a word: a key keeps such a kind and such an a apart
+-- a byte and words: a key keeps such fields apart
 record Small (x : Node) : Type 0 where
   kind-small : x .kind < 256
   a-small : x .a < 65536
+  b-small : x .b < 65536
 
 node-small : (t : List ℕ) (n : ℕ) → Bytes t → Small (nodeAt t n)
 unfolding nodeOf recordAt
 node-small t n b =
     let r : Bytes (take 8 (drop (placeOf n) t)) = bytes-take 8 (drop (placeOf n) t) (bytes-drop (placeOf n) t b) in
-    record { kind-small = r 0; a-small = omega (arith, r 2, r 3) }
+    record { kind-small = r 0; a-small = omega (arith, r 2, r 3); b-small = omega (arith, r 4, r 5) }
 
 -- two tests that imply each other
 agree : (p q : Bool) → (p ≡ true → q ≡ true) → (q ≡ true → p ≡ true) → p ≡ q
@@ -48,15 +49,16 @@ agree false false f g = refl
 -- two nodes whose kinds and first words are small are the same where their keys are
 module _ (x y : Node) (sx : Small x) (sy : Small y) where
   same-key : sameNode x y ≡ true → keyOf x ≡ keyOf y
-  same-key e =
-      let r = and-right (eqb (x .kind) (y .kind)) (eqb (x .a) (y .a) && eqb (x .b) (y .b)) e in
-      let k : x .kind ≡ y .kind = eqb-true (x .kind) (y .kind) (and-left _ _ e) in
-      let a : x .a ≡ y .a = eqb-true (x .a) (y .a) (and-left (eqb (x .a) (y .a)) (eqb (x .b) (y .b)) r) in
-      let b : x .b ≡ y .b = eqb-true (x .b) (y .b) (and-right (eqb (x .a) (y .a)) (eqb (x .b) (y .b)) r) in
-      omega arith
+  same-key e = ap keyOf (same-is x y e)
 
   key-same : keyOf x ≡ keyOf y → sameNode x y ≡ true
-  key-same e = simp (eq-eqb (x .kind) (y .kind) (omega arith), eq-eqb (x .a) (y .a) (omega arith), eq-eqb (x .b) (y .b) (omega arith))
+  key-same e =
+      simp (
+        eq-eqb (x .kind) (y .kind) (omega arith),
+        eq-eqb (x .a) (y .a) (omega arith),
+        eq-eqb (x .b) (y .b) (omega arith),
+        eq-eqb (x .c) (y .c) (omega arith),
+      )
 
   by-key : sameNode x y ≡ eqb (keyOf x) (keyOf y)
   by-key =

@@ -10,7 +10,7 @@ use Rattle.scope.specs.Table.{nodeAt}
 
 -- a node's fields as one number
 abbrev pub keyOf : Node → ℕ
-keyOf x = x .kind + 256 * x .a + 16777216 * x .b
+keyOf x = x .kind + 256 * x .a + 16777216 * x .b + 1099511627776 * x .c
 
 -- the nodes below n whose key's hash is h, the last first
 unfoldable pub withHash : List ℕ → ℕ → ℕ → List ℕ

@@ -11,7 +11,7 @@ use scope::Node;
 fn key(x: Node) -> u64
     ensures { λ r. ⌜ r ≡ keyOf x ⌝ }
 {
-    (x.kind as u64) + 256 * (x.a as u64) + 16777216 * (x.b as u64)
+    (x.kind as u64) + 256 * (x.a as u64) + 16777216 * (x.b as u64) + 1099511627776 * (x.c as u64)
 }
 
 // The key of node n of a table.

@@ -64,10 +64,10 @@ stepOf r = record { rule = getD r 0 0; position = getD r 1 0; value = wordAt r 2
 abbrev pub stepAt : List ℕ → ℕ → Step
 stepAt d k = stepOf (recordAt derivations d k)
 
--- 44: 'unknown rule letter, position over 1 in R or nonzero elsewhere'
+-- 44: 'unknown rule letter, position over 1 in R or nonzero elsewhere'; 'position 2 becomes legal in R'
 unfoldable pub stepOk : Step → Bool
 stepOk s =
-    cond (eqb (s .rule) 82) (leb (s .position) 1)
+    cond (eqb (s .rule) 82) (leb (s .position) 2)
     ((eqb (s .rule) 85 || (eqb (s .rule) 69 || (eqb (s .rule) 67 || (eqb (s .rule) 83 || eqb (s .rule) 71)))) && eqb (s .position) 0)
 
 -- 65: 'an R or E in version two'

@@ -10,7 +10,7 @@ use lib.ListN.{length, getD}
 use borrow.Author.Tests.{lt-ltb, le-ltb, ltb-true, ltb-false, ne-eqb}
 use Rattle.scope.specs.declared.Node.{Node}
 use Rattle.scope.specs.Outcome.{answer}
-use Rattle.scope.specs.Table.{nodeBytes, formOk, rangeOk, orderOk, readRecord, sameNode, listFrom, encode}
+use Rattle.scope.specs.Table.{nodeBytes, formOk, rangeOk, orderOk, readRecord, sameNode, listFrom, encode, arity, operands}
 use Rattle.scope.specs.Calls.{noNode}
 use Rattle.scope.proofs.Lists.{length-listFrom, getD-listFrom}
 use Rattle.scope.proofs.Tests.{and-both}
@@ -43,19 +43,19 @@ module _ (n : ℕ) where
   pair h = rw (le-ltb n 1024 h)
 
   atom-reads : n < 1024 → readRecord (nodeBytes (ATOM n)) n ≡ answer (ATOM n)
-  unfolding formOk rangeOk orderOk nodeBytes
+  unfolding arity operands formOk rangeOk orderOk nodeBytes
   atom-reads h =
       reading (nodeBytes (ATOM n)) n (record { node = nodeOf-bytes (ATOM n); form = refl; range = lt-ltb n 1024 h; order = refl })
 
   pair-reads : (i : ℕ) → i + 1 < n → readRecord (nodeBytes (AND (2 * i) (2 * i + 2))) n ≡ answer (AND (2 * i) (2 * i + 2))
-  unfolding formOk rangeOk orderOk nodeBytes
+  unfolding arity operands formOk rangeOk orderOk nodeBytes
   pair-reads i h =
       reading (nodeBytes (AND (2 * i) (2 * i + 2))) n
       (record {
         node = nodeOf-bytes (AND (2 * i) (2 * i + 2));
         form = refl;
-        range = and-both _ _ (lt-ltb (2 * i / 2) n (omega arith)) (lt-ltb ((2 * i + 2) / 2) n (omega arith));
-        order = lt-ltb (2 * i / 2) ((2 * i + 2) / 2) (omega arith);
+        range = and-both _ _ (lt-ltb (2 * i / 2) n (omega arith)) (and-both _ _ (lt-ltb ((2 * i + 2) / 2) n (omega arith)) refl);
+        order = and-both _ _ (lt-ltb (2 * i / 2) ((2 * i + 2) / 2) (omega arith)) refl;
       })
 
   reads : n < 2016 → readRecord (nodeBytes (nodeFull n)) n ≡ answer (nodeFull n)

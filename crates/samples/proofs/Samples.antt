@@ -11,7 +11,7 @@ use lib.ListN.{length, drop}
 use borrow.Author.Tests.{ltb-true, le-leb, leb-true}
 use Rattle.scope.specs.Outcome.{Outcome, answer, refused, fine, require, first, _>>_}
 use Rattle.scope.specs.Block.{weight, weighted, checkOf, checkOk, headOk, zeros, paddingOk, blockTest, seal, blockOf, blocksOf, fileOf, recordAt, recordsIn}
-use Rattle.scope.specs.Table.{nodeBytes, nodeOf, formOk, rangeOk, orderOk, readRecord, anyBelow, repeats, recordTest, lengthOk, blockRows, tableTest, listFrom, decode, encode}
+use Rattle.scope.specs.Table.{nodeBytes, nodeOf, formOk, rangeOk, orderOk, readRecord, anyBelow, repeats, recordTest, lengthOk, blockRows, tableTest, listFrom, decode, encode, arity, operands}
 use Rattle.codec.proofs.Rows.{both}
 use Rattle.codec.proofs.Tables.{encode-reads}
 use Rattle.calculus.specs.Expansion.{chosen, templates, expand}
@@ -36,7 +36,7 @@ use mathlib.Core.List
 -- ---- table A is read, and its rows of decide, derive and check rest on what is computed over its nodes
 
 reads : decode tableA ≡ answer nodesA
-unfolding nodesA fileOf blocksOf nodeBytes mathlib.Core.List.flatMap blockOf seal checkOf weighted weight checkOk headOk zeros paddingOk blockTest recordAt recordsIn nodeOf formOk rangeOk orderOk readRecord anyBelow repeats recordTest lengthOk blockRows tableTest listFrom decode first
+unfolding nodesA fileOf blocksOf nodeBytes mathlib.Core.List.flatMap blockOf seal checkOf weighted weight checkOk headOk zeros paddingOk blockTest recordAt recordsIn nodeOf arity operands formOk rangeOk orderOk readRecord anyBelow repeats recordTest lengthOk blockRows tableTest listFrom decode first
 reads = refl
 
 -- the search of a goal, its derivation, and what the rules say of steps
@@ -155,7 +155,7 @@ abbrev _also_ : {A B : Type 0} → A → B → A × B
 x also y = (x, y)
 
 facts : All Fact rows
-unfolding nodesA fileOf blocksOf nodeBytes mathlib.Core.List.flatMap blockOf seal checkOf weighted weight checkOk headOk zeros paddingOk blockTest recordAt recordsIn nodeOf formOk rangeOk orderOk readRecord anyBelow repeats recordTest lengthOk blockRows tableTest listFrom decode first atomHeld mem stepOk stepsOf removals tree move clauses moveOf firstOf some stateOf valueOf expand templates chosen answerOf among unstruck anyHolds ruleU ruleR ruleE ruleC ruleS names body equal agreed namesTest apply unitTwo conflictTwo applyTwo ruleIn advance ended run accepts ascii digitsOf heading nodeLine nodeLines
+unfolding nodesA fileOf blocksOf nodeBytes mathlib.Core.List.flatMap blockOf seal checkOf weighted weight checkOk headOk zeros paddingOk blockTest recordAt recordsIn nodeOf arity operands formOk rangeOk orderOk readRecord anyBelow repeats recordTest lengthOk blockRows tableTest listFrom decode first atomHeld mem stepOk stepsOf removals tree move clauses moveOf firstOf some stateOf valueOf expand templates chosen answerOf among unstruck anyHolds ruleU ruleR ruleE ruleC ruleS names body equal agreed namesTest apply unitTwo conflictTwo applyTwo ruleIn advance ended run accepts ascii digitsOf heading nodeLine nodeLines
 facts =
     (refl, refl) also (refl, refl)
     also (refl, refl) also (refl, refl) also (refl, refl) also (refl, refl) also (refl, refl) also (refl, refl)

@@ -20,7 +20,7 @@ use Rattle.text.specs.Listing.{listing}
 
 -- 'Kinds: 1 TRUE, 2 ATOM, 3 AND, 4 OR, 5 IMP, 6 IFF'
 abbrev node : ℕ → ℕ → ℕ → Node
-node kind a b = record { kind = kind; a = a; b = b }
+node kind a b = record { kind = kind; a = a; b = b; c = 0 }
 
 abbrev pub TRUE : Node
 TRUE = node 1 0 0

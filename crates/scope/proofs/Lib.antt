@@ -2,5 +2,6 @@
 pub mod First
 pub mod Tests
 pub mod Lists
+pub mod Operands
 pub mod Records
 pub mod Seals

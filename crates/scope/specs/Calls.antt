@@ -16,7 +16,7 @@ unfoldable pub tableCount : List ℕ → Outcome ℕ
 tableCount t = decode t >>= λ rs. answer (length rs)
 
 abbrev pub noNode : Node
-noNode = record { kind = 0; a = 0; b = 0 }
+noNode = record { kind = 0; a = 0; b = 0; c = 0 }
 
 -- '.. and, for a literal given, the record of its node'; 20: 'not below 2 × nodes'
 unfoldable pub tableRecord : List ℕ → ℕ → Outcome Node
@@ -52,24 +52,24 @@ unfoldable pub sorted : List ℕ → List ℕ
 sorted [] = []
 sorted (l ∷ ls) = placed l (sorted ls)
 
--- 'Operands of 3, 4, 6 in the wrong order are exchanged first.'
+-- 'Operands of 3, 4, 6 in the wrong order are exchanged first.'; of 7 and 8 'add sorts them'
 unfoldable pub ordered : Node → Node
 ordered x = withOperands x (sorted (operands x))
 
 -- 'Add turns kind 5 into OR of ¬a and b'
 unfoldable pub turned : Node → Node
-turned x = cond (eqb (x .kind) 5) (record { kind = 4; a = neg (x .a); b = x .b }) x
+turned x = cond (eqb (x .kind) 5) (record { kind = 4; a = neg (x .a); b = x .b; c = x .c }) x
 
 -- '.. ordered by node, before looking it up'
 abbrev pub normal : Node → Node
 normal x = ordered (turned x)
 
--- the record given with its node so; what must be zero is as it was given
+-- the record given with its node so; byte 1 is as it was given
 unfoldable pub normalized : List ℕ → List ℕ
 normalized r =
     normal (nodeOf r) .kind
     ∷ getD r 1 0
-    ∷ wordBytes (normal (nodeOf r) .a) ++ (wordBytes (normal (nodeOf r) .b) ++ getD r 6 0 ∷ getD r 7 0 ∷ [])
+    ∷ wordBytes (normal (nodeOf r) .a) ++ (wordBytes (normal (nodeOf r) .b) ++ wordBytes (normal (nodeOf r) .c))
 
 -- where a node stands in a list: its index, or the list's length
 unfoldable pub indexOf : Node → List Node → ℕ

@@ -26,6 +26,7 @@ pub struct Node {
     pub kind: u8,
     pub a: u16,
     pub b: u16,
+    pub c: u16,
 }
 
 // A literal's truth under a setting in which points may go either way.

@@ -83,7 +83,7 @@ module _ {x goals w m : List ℕ} {n l : ℕ} (I : Indexed x n) (H : Holds (inde
         let c = P .kept 1 (inl (omega arith)) in
         inl (record { unit = rw z (e .unit); conflict = λ y. omega (arith, c, e .conflict (sym (ap (some isEmpty) z) ∙ y)) }))
         (λ y. inr (rw (lits₁ q i) y))
-        (still-or n t (litAt r q) (held-below (H .ready) q i) (gOf w) l)
+        (still-or n t (I .table) (litAt r q) (held-below (H .ready) q i) (gOf w) l)
 
     -- ---- after its own position is entered
 

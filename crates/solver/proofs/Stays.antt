@@ -3,20 +3,21 @@ use mathlib.Core.Path.{_≡_, refl, sym, ap, _∙_}
 use mathlib.Core.Bool.{Bool, true, false, cond, _||_, false≢true, or-true}
 use mathlib.Core.Logic.{_⊎_, inl, inr, ⊎-elim}
 use mathlib.Core.List.{List, [], _∷_, map}
-use Prim.Native.Nat.{ℕ, _+_, _*_, _/_, _%_, _<_}
+use Prim.Native.Nat.{ℕ, suc, _+_, _*_, _/_, _%_, _<_}
 use native.Mathlib.Omega.{arith}
-use native.Mathlib.Decide.{ℕ-discrete, decLt}
+use native.Mathlib.Decide.{ℕ-discrete}
 use lib.Dec.{eqb}
 use lib.ListN.{getD}
-use borrow.Author.Tests.{ne-eqb, le-ltb}
 use Rattle.scope.specs.declared.Node.{Node}
-use Rattle.calculus.specs.Expansion.{neg, chosen, templates, expand}
+use Rattle.scope.specs.Table.{operands}
+use Rattle.scope.proofs.Operands.{arity-most, operands-length}
+use Rattle.calculus.specs.Expansion.{neg, chosen, expand}
 use Rattle.calculus.specs.Order.{Value, holds, fails, undecided, valueOf, State, met, empty, one, many, joined, stateOf, isEmpty, some}
-use Rattle.calculus.specs.Model.{All}
-use Rattle.calculus.proofs.Lists.{all-map, all-each, all-imply}
+use Rattle.calculus.specs.Model.{All, Table}
+use Rattle.calculus.proofs.Lists.{all-map, all-imply, getD-map}
 use Rattle.calculus.proofs.Literals.{value-other, undecided-neg}
-use Rattle.calculus.proofs.Rows.{bare, row-bare}
-use Rattle.index.specs.Index.{operands, none, opNode}
+use Rattle.calculus.proofs.Rows.{rowOf, Within, row-within}
+use Rattle.index.specs.Index.{none, opNode}
 use Rattle.clause.specs.Coded.{statesOf}
 use Rattle.solver.specs.Changes.{Pending}
 
@@ -101,73 +102,59 @@ states-same : (F G : List ℕ) (cs : List (List ℕ)) → All (λ c. stateOf F c
 states-same F G [] h = refl
 states-same F G (c ∷ cs) h = rw (h .0, states-same F G cs (h .1))
 
-module _ (n : ℕ) (t : ℕ → Node) (m : ℕ) (b : m < 2 * n) where
+module _ (n : ℕ) (t : ℕ → Node) (T : Table n t) (m : ℕ) (b : m < 2 * n) where
   abbrev p : ℕ
   p = m / 2
 
   -- the node of a literal of m's clauses is one that a cell of m's node names
-  cell-names : 2 < t p .kind → (c : ℕ) → Pending t (chosen (t p) c / 2) (4 * n) p
-  unfolding opNode operands chosen
-  cell-names k c = go c
+  cell-names : (c : ℕ) → Within (t p .kind) c → Pending t (chosen (t p) c / 2) (4 * n) p
+  unfolding opNode chosen
+  cell-names c h = (4 * p + (1 + c / 2), omega (arith, b, h, arity-most (t p .kind)), rw (u, v) named, u)
     where
-      first : (4 * p + 1) / 4 ≡ p
-      first = omega arith
+      u : (4 * p + (1 + c / 2)) / 4 ≡ p
+      u = omega (arith, h, arity-most (t p .kind))
 
-      second : (4 * p + 2) / 4 ≡ p
-      second = omega arith
+      v : (4 * p + (1 + c / 2)) % 4 ≡ suc (c / 2)
+      v = omega (arith, h, arity-most (t p .kind))
 
-      one-of : (i : ℕ) → (4 * p + i) % 4 ≡ i → (4 * p + i) / 4 ≡ p → i < 4
-          → getD (none ∷ map (_/ 2) (cond false [] (t p .a ∷ t p .b ∷ []))) i none ≡ chosen (t p) c / 2 → Pending t (chosen (t p) c / 2) (4 * n) p
-      one-of i u v o e = (4 * p + i, omega (arith, b, o), rw (u, v, le-ltb (t p .kind) 3 k) e, v)
+      l : ℕ
+      l = getD (operands (t p)) (c / 2) 0
 
-      go : (c′ : ℕ) → Pending t (chosen (t p) c / 2) (4 * n) p
-      go c′ = at (ℕ-discrete c 0) (ℕ-discrete c 1)
-        where
-          high : (q : Bool) → t p .b / 2 ≡ cond q (t p .b) (neg (t p .b)) / 2
-          high true = refl
-          high false = omega arith
+      sign : (q : Bool) → l / 2 ≡ cond q l (neg l) / 2
+      sign true = refl
+      sign false = omega arith
 
-          at : Dec (c ≡ 0) → Dec (c ≡ 1) → Pending t (chosen (t p) c / 2) (4 * n) p
-          at (yes e) d = one-of 1 (omega arith) first (omega arith) (rw e)
-          at (no e) (yes d) = one-of 1 (omega arith) first (omega arith) (rw d (omega arith))
-          at (no e) (no d) = one-of 2 (omega arith) second (omega arith) (rw (ne-eqb c 0 e, ne-eqb c 1 d) (high (eqb c 2)))
+      named : getD (map (_/ 2) (operands (t p))) (c / 2) none ≡ cond (eqb (c % 2) 0) l (neg l) / 2
+      named = getD-map (_/ 2) (operands (t p)) (c / 2) 0 none (omega (arith, h, operands-length (t p))) ∙ sign (eqb (c % 2) 0)
 
   -- the states of m's clauses stay, or a cell of m's node names l's
   pub still-or : (G : List ℕ) (l : ℕ) → (statesOf t (l ∷ G) m ≡ statesOf t G m) ⊎ Pending t (l / 2) (4 * n) p
-  unfolding expand stateOf
+  unfolding expand
   still-or G l =
       ⊎-elim (λ h. inl (states-same (l ∷ G) G (expand t m) h)) inr
-      (all-or (λ c. stateOf (l ∷ G) c ≡ stateOf G c) Named (expand t m) (all-map Same-or (map (chosen (t p))) row (go (decLt 2 (t p .kind)))))
+      (all-or (λ c. stateOf (l ∷ G) c ≡ stateOf G c) Named (expand t m)
+      (all-map Same-or (map (chosen (t p))) (rowOf (t p .kind) (m % 2))
+      (all-imply (All (Within (t p .kind))) (λ c. Same-or (map (chosen (t p)) c)) clause (rowOf (t p .kind) (m % 2))
+      (row-within (t p .kind) (m % 2) (T .kinds p (omega (arith, b)) .1) (omega arith)))))
     where
       Named : Type 0
       Named = Pending t (l / 2) (4 * n) p
 
-      row : List (List ℕ)
-      row = getD templates (2 * t p .kind + m % 2) []
-
       Same-or : List ℕ → Type 0
       Same-or c = (stateOf (l ∷ G) c ≡ stateOf G c) ⊎ Named
 
-      literal : 2 < t p .kind → (c : ℕ) → (valueOf (l ∷ G) (chosen (t p) c) ≡ valueOf G (chosen (t p) c)) ⊎ Named
-      literal k c = at (ℕ-discrete (chosen (t p) c / 2) (l / 2))
+      Kept-or : ℕ → Type 0
+      Kept-or a = (valueOf (l ∷ G) a ≡ valueOf G a) ⊎ Named
+
+      literal : (c : ℕ) → Within (t p .kind) c → Kept-or (chosen (t p) c)
+      literal c h = at (ℕ-discrete (chosen (t p) c / 2) (l / 2))
         where
-          at : Dec (chosen (t p) c / 2 ≡ l / 2) → (valueOf (l ∷ G) (chosen (t p) c) ≡ valueOf G (chosen (t p) c)) ⊎ Named
-          at (yes e) = inr (rw e at (cell-names k c))
+          at : Dec (chosen (t p) c / 2 ≡ l / 2) → Kept-or (chosen (t p) c)
+          at (yes e) = inr (rw e at (cell-names c h))
           at (no e) = inl (value-other G l (chosen (t p) c) e)
 
-      clause : 2 < t p .kind → (c : List ℕ) → Same-or (map (chosen (t p)) c)
-      clause k c =
+      clause : (c : List ℕ) → All (Within (t p .kind)) c → Same-or (map (chosen (t p)) c)
+      clause c h =
           ⊎-elim (λ h. inl (state-same (l ∷ G) G (map (chosen (t p)) c) h)) inr
           (all-or (λ a. valueOf (l ∷ G) a ≡ valueOf G a) Named (map (chosen (t p)) c)
-          (all-map (λ a. (valueOf (l ∷ G) a ≡ valueOf G a) ⊎ Named) (chosen (t p)) c
-          (all-each (λ a. (valueOf (l ∷ G) (chosen (t p) a) ≡ valueOf G (chosen (t p) a)) ⊎ Named) (literal k) c)))
-
-      nothing : (c : List ℕ) → bare c ≡ true → Same-or (map (chosen (t p)) c)
-      nothing [] e = inl refl
-      nothing (a ∷ c) e = absurd (false≢true e)
-
-      go : Dec (2 < t p .kind) → All (λ c. Same-or (map (chosen (t p)) c)) row
-      go (yes k) = all-each (λ c. Same-or (map (chosen (t p)) c)) (clause k) row
-      go (no k) =
-          all-imply (λ c. bare c ≡ true) (λ c. Same-or (map (chosen (t p)) c)) nothing row
-          (row-bare (t p .kind) (m % 2) (omega (arith, k)) (omega arith))
+          (all-map Kept-or (chosen (t p)) c (all-imply (Within (t p .kind)) (λ a. Kept-or (chosen (t p) a)) literal c h)))

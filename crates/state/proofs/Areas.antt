@@ -11,8 +11,7 @@ use Rattle.calculus.specs.Order.{valueOf}
 use Rattle.calculus.proofs.Sizes.{clauses-few}
 use Rattle.trail.specs.Trail.{side}
 use Rattle.trail.proofs.Trails.{trail-length, trail-same, literal-below, count-most as most-held, room-left as room-held}
-use Rattle.clause.specs.Coded.{wideValue}
-use Rattle.state.specs.Work.{tail, valueAt, litAt, entryOf, baseOf, trail, held, gOf, Goals, Trail, Ready, Numbered, entriesEnd, valuesSize, entriesAt, literalsAt}
+use Rattle.state.specs.Work.{tail, valueAt, valueCode, litAt, entryOf, baseOf, trail, held, gOf, Goals, Trail, Ready, Numbered, entriesEnd, valuesSize, entriesAt, literalsAt}
 
 -- ---- the literals held
 
@@ -79,5 +78,5 @@ pub ready-same : {n : ℕ} {w w′ : List ℕ} → n ≤ mostNodes → Ready n w
 ready-same few h z e f = record {
   size = omega (arith, z, h .size);
   trail = trail-still few (h .trail) e;
-  values = λ l i. f l i ∙ h .values l i ∙ ap (λ (G : List ℕ). wideValue G l) (sym (held-still few (h .trail) e));
+  values = λ l i. f l i ∙ h .values l i ∙ ap (λ (G : List ℕ). valueCode (valueOf G l)) (sym (held-still few (h .trail) e));
 }

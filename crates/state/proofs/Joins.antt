@@ -1,5 +1,5 @@
 -- A literal joins what is held, and the newest leaves. Assumes nothing.
-use Rattle.index.specs.Index.{mostNodes, always}
+use Rattle.index.specs.Index.{mostNodes}
 use mathlib.Core.Path.{_≡_, refl, sym, ap, _∙_, subst}
 use mathlib.Core.Logic.{_⊎_, inl, inr}
 use mathlib.Core.List.{List, _∷_}
@@ -14,11 +14,10 @@ use Rattle.calculus.specs.Model.{Fresh, Good}
 use Rattle.trail.proofs.Trails.{trail-same, empty-trail, empty-held}
 use Rattle.trail.proofs.Joins.{Joins, joins}
 use Rattle.trail.proofs.Leaves.{Leaves, leaves, dropped}
-use Rattle.clause.specs.Coded.{wideValue}
 use Rattle.state.specs.Work.{tail, valueAt, cursorAt, cursorOf, litAt, gOf, held, trail, Ready, trailAt, literalsAt, entriesAt, entriesEnd, basesAt, valuesAt, valuesSize, cursorsAt, area}
 use Rattle.state.specs.Changes.{valuesSet, entrySet, Kept, Pushed, Popped, Wiped, Blank}
 use Rattle.state.proofs.Areas.{count-most, room-left, held-below, trail-still}
-use Rattle.state.proofs.Values.{wide-joined, wide-negated, wide-before, wide-before-neg, wide-other, wide-nil, set-other, set-first, set-second, set-length}
+use Rattle.state.proofs.Values.{number, number-nil, number-joined, number-negated, number-before, number-before-neg, number-other, set-other, set-first, set-second, set-length}
 
 -- ---- a literal joins: its values, the cursor, its entry
 
@@ -26,7 +25,7 @@ module _ {n : ℕ} {w : List ℕ} {l : ℕ} (few : n ≤ mostNodes) (h : Ready n
   H : ℕ
   H = tail w 0
 
-  low : l < always
+  low : l < valuesSize
   low = omega (arith, f .0, few)
 
   room : H < mostNodes
@@ -57,23 +56,23 @@ module _ {n : ℕ} {w : List ℕ} {l : ℕ} (few : n ≤ mostNodes) (h : Ready n
       joins n 4 l w u (omega (arith, u-size, h .size)) few
       (λ i b. u-other (trailAt + i) (λ e. omega (arith, e, b)) (λ e. omega (arith, e, b)) (λ e. omega (arith, e, b))) (h .trail) f
 
-  values : (k : ℕ) → k < valuesSize → valueAt (tail (entrySet u H l)) k ≡ wideValue (held (tail (entrySet u H l))) k
+  values : (k : ℕ) → k < valuesSize → valueAt (tail (entrySet u H l)) k ≡ number (held (tail (entrySet u H l))) k
   unfolding v
   values k i =
       j .else (trailAt + (valuesAt + k)) (inr (omega arith)) ∙ u-value k i ∙ go (ℕ-discrete k l) (ℕ-discrete k (neg l))
-      ∙ ap (λ (G : List ℕ). wideValue G k) (sym (j .list))
+      ∙ ap (λ (G : List ℕ). number G k) (sym (j .list))
     where
       size : trailAt + cursorsAt ≤ length w
       size = omega (arith, h .size)
 
-      go : Dec (k ≡ l) → Dec (k ≡ neg l) → valueAt (tail (valuesSet w l 1 2)) k ≡ wideValue (l ∷ gOf w) k
+      go : Dec (k ≡ l) → Dec (k ≡ neg l) → valueAt (tail (valuesSet w l 1 2)) k ≡ number (l ∷ gOf w) k
       go (yes e) d =
-          ap (valueAt (tail (valuesSet w l 1 2))) e ∙ set-first w l 1 2 low size ∙ sym (wide-joined (gOf w) l low (f .1)) ∙ ap (wideValue (l ∷ gOf w)) (sym e)
+          ap (valueAt (tail (valuesSet w l 1 2))) e ∙ set-first w l 1 2 low size ∙ sym (number-joined (gOf w) l (f .1)) ∙ ap (number (l ∷ gOf w)) (sym e)
       go (no e) (yes d) =
-          ap (valueAt (tail (valuesSet w l 1 2))) d ∙ set-second w l 1 2 low size ∙ sym (wide-negated (gOf w) l low (f .1)) ∙ ap (wideValue (l ∷ gOf w)) (sym d)
+          ap (valueAt (tail (valuesSet w l 1 2))) d ∙ set-second w l 1 2 low size ∙ sym (number-negated (gOf w) l (f .1)) ∙ ap (number (l ∷ gOf w)) (sym d)
       go (no e) (no d) =
           set-other w l 1 2 low size (trailAt + (valuesAt + k)) (λ x. e (omega (arith, x))) (λ x. d (omega (arith, x)))
-          ∙ h .values k i ∙ sym (wide-other (gOf w) l low (f .1) k e d)
+          ∙ h .values k i ∙ sym (number-other (gOf w) l (f .1) k e d)
 
   kept : (i : ℕ) → Kept H i → getD (entrySet u H l) i 0 ≡ getD w i 0
   unfolding H
@@ -116,7 +115,7 @@ module _ {n : ℕ} {w : List ℕ} {l : ℕ} (few : n ≤ mostNodes) (h : Ready n
 -- ---- the newest leaves: its values, its entry
 
 module _ {n : ℕ} {w : List ℕ} {l : ℕ} (few : n ≤ mostNodes) (h : Ready n w) (p : 0 < tail w 0) (top : l ≡ litAt (tail w) (tail w 0 - 1)) where
-  newest-low : l < always
+  newest-low : l < valuesSize
   newest-low = omega (arith, top, held-below h (tail w 0 - 1) (omega arith), few)
 
   o : List ℕ
@@ -156,7 +155,7 @@ module _ {n : ℕ} {w : List ℕ} {l : ℕ} (few : n ≤ mostNodes) (h : Ready n
   fresh : valueOf (held (tail (dropped 4 o l))) l ≡ undecided
   fresh = subst (Good n) list (h .trail .good) .0 .1
 
-  leave-values : (k : ℕ) → k < valuesSize → valueAt (tail (dropped 4 o l)) k ≡ wideValue (held (tail (dropped 4 o l))) k
+  leave-values : (k : ℕ) → k < valuesSize → valueAt (tail (dropped 4 o l)) k ≡ number (held (tail (dropped 4 o l))) k
   unfolding o
   leave-values k i = g .else (trailAt + (valuesAt + k)) (inr (omega arith)) ∙ go (ℕ-discrete k l) (ℕ-discrete k (neg l))
     where
@@ -166,13 +165,13 @@ module _ {n : ℕ} {w : List ℕ} {l : ℕ} (few : n ≤ mostNodes) (h : Ready n
       F : List ℕ
       F = held (tail (dropped 4 (valuesSet w l 0 0) l))
 
-      go : Dec (k ≡ l) → Dec (k ≡ neg l) → valueAt (tail (valuesSet w l 0 0)) k ≡ wideValue F k
-      go (yes e) d = ap (valueAt (tail (valuesSet w l 0 0))) e ∙ set-first w l 0 0 newest-low size ∙ sym (wide-before F l newest-low fresh) ∙ ap (wideValue F) (sym e)
+      go : Dec (k ≡ l) → Dec (k ≡ neg l) → valueAt (tail (valuesSet w l 0 0)) k ≡ number F k
+      go (yes e) d = ap (valueAt (tail (valuesSet w l 0 0))) e ∙ set-first w l 0 0 newest-low size ∙ sym (number-before F l fresh) ∙ ap (number F) (sym e)
       go (no e) (yes d) =
-          ap (valueAt (tail (valuesSet w l 0 0))) d ∙ set-second w l 0 0 newest-low size ∙ sym (wide-before-neg F l newest-low fresh) ∙ ap (wideValue F) (sym d)
+          ap (valueAt (tail (valuesSet w l 0 0))) d ∙ set-second w l 0 0 newest-low size ∙ sym (number-before-neg F l fresh) ∙ ap (number F) (sym d)
       go (no e) (no d) =
           set-other w l 0 0 newest-low size (trailAt + (valuesAt + k)) (λ x. e (omega (arith, x))) (λ x. d (omega (arith, x)))
-          ∙ h .values k i ∙ ap (λ (G : List ℕ). wideValue G k) list ∙ wide-other F l newest-low fresh k e d
+          ∙ h .values k i ∙ ap (λ (G : List ℕ). number G k) list ∙ number-other F l fresh k e d
 
   leave-kept : (i : ℕ) → (i < trailAt) ⊎ (((trailAt < i) × (i < trailAt + entriesAt)) ⊎ (((trailAt + basesAt ≤ i) × (i < trailAt + valuesAt)) ⊎ (trailAt + cursorsAt ≤ i))) → getD (dropped 4 o l) i 0 ≡ getD w i 0
   leave-kept i (inl b) = g .else i (inl b) ∙ o-other i (λ e. omega (arith, e, b)) (λ e. omega (arith, e, b))
@@ -199,15 +198,9 @@ module _ {n : ℕ} {w : List ℕ} {l : ℕ} (few : n ≤ mostNodes) (h : Ready n
 
 -- ---- nothing is held
 
--- the cells of the first base, and of the values of the two literals of no node
+-- the cell of the first base
 abbrev firstBase : ℕ
 firstBase = trailAt + basesAt
-
-abbrev alwaysCell : ℕ
-alwaysCell = trailAt + (valuesAt + always)
-
-abbrev neverCell : ℕ
-neverCell = trailAt + (valuesAt + (always + 1))
 
 pub wiped-starts : (w : List ℕ) → Wiped w 0 w
 wiped-starts w = record { size = refl; zero = λ i b. absurd (omega (arith, b)) }
@@ -220,61 +213,30 @@ wiped-goes {w} {w₁} {k} z b = record { size = length-set w₁ k 0 ∙ z .size;
     go i a (no e) = getD-set-other w₁ k i 0 0 e ∙ z .zero i (omega (arith, a, e))
 
 module _ {n : ℕ} {w w₁ : List ℕ} (more : ℕ) (few : n ≤ mostNodes) (size : area ≤ length w) (z : Wiped w (trailAt + cursorsAt) w₁) where
-  b₁ : List ℕ
-  b₁ = set w₁ firstBase more
+  b : List ℕ
+  b = set w₁ firstBase more
 
-  b₂ : List ℕ
-  b₂ = set b₁ alwaysCell 1
+  b-zero : (i : ℕ) → i < trailAt + cursorsAt → (i ≡ firstBase → ⊥) → getD b i 0 ≡ 0
+  unfolding b
+  b-zero i l d = getD-set-other w₁ firstBase i more 0 d ∙ z .zero i l
 
-  b₃ : List ℕ
-  b₃ = set b₂ neverCell 2
+  none : tail b 0 ≡ 0
+  none = b-zero 4 (omega arith) (λ e. omega (arith, e))
 
-  s₁ : length b₁ ≡ length w
-  unfolding b₁
-  s₁ = length-set w₁ firstBase more ∙ z .size
-
-  s₂ : length b₂ ≡ length w
-  unfolding b₂
-  s₂ = length-set b₁ alwaysCell 1 ∙ s₁
-
-  s₃ : length b₃ ≡ length w
-  unfolding b₃
-  s₃ = length-set b₂ neverCell 2 ∙ s₂
-
-  past : (i : ℕ) → i < alwaysCell → getD b₃ i 0 ≡ getD b₁ i 0
-  unfolding b₃ b₂
-  past i b = getD-set-other b₂ neverCell i 2 0 (λ e. omega (arith, e, b)) ∙ getD-set-other b₁ alwaysCell i 1 0 (λ e. omega (arith, e, b))
-
-  b₃-zero : (i : ℕ) → i < alwaysCell → (i ≡ firstBase → ⊥) → getD b₃ i 0 ≡ 0
-  unfolding b₁
-  b₃-zero i b d = past i b ∙ getD-set-other w₁ firstBase i more 0 d ∙ z .zero i (omega (arith, b))
-
-  none : tail b₃ 0 ≡ 0
-  none = b₃-zero 4 (omega arith) (λ e. omega (arith, e))
-
-  blank-values : (l : ℕ) → l < valuesSize → valueAt (tail b₃) l ≡ wideValue (held (tail b₃)) l
-  unfolding wideValue b₃ b₂
-  blank-values l b = go (ℕ-discrete l always) (ℕ-discrete l (always + 1))
-    where
-      go : Dec (l ≡ always) → Dec (l ≡ always + 1) → valueAt (tail b₃) l ≡ wideValue (held (tail b₃)) l
-      go (yes e) d = rw e (getD-set-other b₂ neverCell alwaysCell 2 0 (λ x. omega (arith, x)) ∙ getD-set-same b₁ alwaysCell 1 0 (omega (arith, s₁, size)))
-      go (no e) (yes d) = rw d (getD-set-same b₂ neverCell 2 0 (omega (arith, s₂, size)))
-      go (no e) (no d) =
-          let i : l < always = omega (arith, b, e, d) in
-          b₃-zero (trailAt + (valuesAt + l)) (omega (arith, i)) (λ x. omega (arith, x)) ∙ sym (wide-nil l i) ∙ ap (λ (G : List ℕ). wideValue G l) (sym (empty-held n (tail b₃) none))
-
-  blanked′ : Blank n more b₃
-  unfolding b₁
+  blanked′ : Blank n more b
+  unfolding b
   blanked′ = record {
     ready = record {
-      size = omega (arith, s₃, size);
-      trail = empty-trail n (tail b₃) none (λ m i. b₃-zero (trailAt + (entriesAt + m)) (omega (arith, i, few)) (λ x. omega (arith, x, i, few)));
-      values = blank-values;
+      size = omega (arith, length-set w₁ firstBase more, z .size, size);
+      trail = empty-trail n (tail b) none (λ m i. b-zero (trailAt + (entriesAt + m)) (omega (arith, i, few)) (λ x. omega (arith, x, i, few)));
+      values = λ l i.
+          b-zero (trailAt + (valuesAt + l)) (omega (arith, i)) (λ x. omega (arith, x)) ∙ sym (number-nil l)
+          ∙ ap (λ (G : List ℕ). number G l) (sym (empty-held n (tail b) none));
     };
     count = none;
-    base = past firstBase (omega arith) ∙ getD-set-same w₁ firstBase more 0 (omega (arith, z .size, size));
+    base = getD-set-same w₁ firstBase more 0 (omega (arith, z .size, size));
   }
 
-  pub blanked : Blank n more (set (set (set w₁ (trailAt + basesAt) more) (trailAt + (valuesAt + always)) 1) (trailAt + (valuesAt + (always + 1))) 2)
-  unfolding b₃ b₂ b₁
+  pub blanked : Blank n more (set w₁ (trailAt + basesAt) more)
+  unfolding b
   blanked = blanked′

@@ -33,12 +33,12 @@ basesAt = 4034
 abbrev pub valuesAt : ℕ
 valuesAt = 6051
 
--- how many values there are: those of the literals of all nodes, and two more
+-- how many values there are: those of the literals of all nodes
 abbrev pub valuesSize : ℕ
-valuesSize = 4034
+valuesSize = 4032
 
 abbrev pub cursorsAt : ℕ
-cursorsAt = 10085
+cursorsAt = 10083
 
 -- what the work area has at least
 abbrev pub area : ℕ

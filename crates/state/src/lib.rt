@@ -23,10 +23,7 @@ const BASES: usize = 4034;
 
 const VALUES: usize = 6051;
 
-const CURSORS: usize = 10085;
-
-// A literal of no node, always true; the number after it is always false.
-const ALWAYS: usize = 4032;
+const CURSORS: usize = 10083;
 
 // How many literals are held.
 pub fn count(work: &[u16]) -> u16
@@ -151,6 +148,4 @@ pub fn blank(n: usize, work: &mut [u16], clauses: u16)
 {
     wipe(work, TRAIL + CURSORS);
     work[TRAIL + BASES] = clauses;
-    work[TRAIL + (VALUES + ALWAYS)] = 1;
-    work[TRAIL + (VALUES + (ALWAYS + 1))] = 2;
 }

@@ -27,7 +27,7 @@ Plain r = (r ≡ 67) ⊎ (r ≡ 69) ⊎ (r ≡ 71) ⊎ (r ≡ 83) ⊎ (r ≡ 85)
 
 -- a step's form by its rule: R; one of the other five; no rule
 module _ (s : Step) where
-  pub ok-removal : s .rule ≡ 82 → leb (s .position) 1 ≡ stepOk s
+  pub ok-removal : s .rule ≡ 82 → leb (s .position) 2 ≡ stepOk s
   unfolding stepOk
   ok-removal e = simp e
 

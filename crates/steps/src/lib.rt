@@ -67,13 +67,13 @@ pub fn size_ok(n: usize) -> bool
     n <= 33554432
 }
 
-// Row 44: R has position 0 or 1, the other rules 0.
+// Row 44: R has position 0 to 2, the other rules 0.
 pub fn step_ok(s: Step) -> bool
     ensures { λ r. ⌜ r ≡ stepOk s ⌝ }
 {
     let rule = s.rule;
     match rule {
-        82 => s.position <= 1,
+        82 => s.position <= 2,
         85 | 69 | 67 | 83 | 71 => s.position == 0,
         _ => false,
     }

@@ -42,6 +42,8 @@ fn show_record(t: &[u8], literal: usize) {
             number(x.a as usize);
             say(b" ");
             number(x.b as usize);
+            say(b" ");
+            number(x.c as usize);
             say(b"\n");
         }
         NodeRead::Refused(f) => refused(f),
@@ -64,7 +66,7 @@ fn show_truth(t: &[u8], literal: usize, s: &[u8]) {
     }
 }
 
-fn node(kind: u8, a: u16, b: u16) -> [u8; 8] {
+fn node3(kind: u8, a: u16, b: u16, c: u16) -> [u8; 8] {
     [
         kind,
         0,
@@ -72,9 +74,13 @@ fn node(kind: u8, a: u16, b: u16) -> [u8; 8] {
         (a / 256) as u8,
         (b % 256) as u8,
         (b / 256) as u8,
-        0,
-        0,
+        (c % 256) as u8,
+        (c / 256) as u8,
     ]
+}
+
+fn node(kind: u8, a: u16, b: u16) -> [u8; 8] {
+    node3(kind, a, b, 0)
 }
 
 // Adds a record and says nothing: the used length, as before where it is refused.
@@ -257,10 +263,18 @@ fn adds() {
     show_add(&mut t, 512, node(5, 3, 1));
     show_add(&mut t, 512, node(5, 4, 5));
     show_add(&mut t, 512, node(5, 99, 0));
+    show_add(&mut t, 512, node3(8, 5, 2, 0));
+    show_add(&mut t, 512, node3(8, 0, 5, 2));
+    show_add(&mut t, 512, node3(7, 0, 2, 5));
+    show_add(&mut t, 512, node3(7, 4, 0, 5));
+    show_add(&mut t, 512, node3(8, 0, 2, 98));
+    show_add(&mut t, 512, node3(6, 0, 2, 5));
     show_records(front(&t, 512));
+    show_record(front(&t, 512), 24);
     show_add(&mut t, 601, node(1, 0, 0));
     show_add(&mut t, 600, node(1, 0, 0));
     show_add(&mut t, 512, node(7, 0, 0));
+    show_add(&mut t, 512, node(9, 0, 0));
     show_add(&mut t, 512, node(2, 1024, 0));
     show_add(&mut t, 512, node(2, 1023, 0));
     show_add(&mut t, 512, node(3, 99, 0));

@@ -2,23 +2,24 @@
 use mathlib.Core.Path.{_≡_, _∙_, ap, sym, refl}
 use mathlib.Core.List.{List, [], _∷_, _++_, map, map-append}
 use mathlib.Core.Bool.{Bool, true, false, cond}
-use Prim.Native.Nat.{ℕ, suc, _+_, _<_, _≤_}
+use Prim.Native.Nat.{ℕ, suc, _+_, _/_, _<_, _≤_}
 use native.Mathlib.Nat.{zero-add}
 use native.Mathlib.Numerals.{add-one}
 use native.Mathlib.Omega.{arith}
 use native.Mathlib.Decide.{ℕ-discrete}
-use lib.Dec.{eqb}
+use lib.Dec.{eqb, ltb}
 use lib.ListN.{length, getD, take, set}
 use lib.Seq.{take-suc-set, getD-set-same, getD-set-other}
-use borrow.Author.Tests.{eqb-false}
+use borrow.Author.Tests.{ltb-true}
 use Rattle.scope.specs.declared.Node.{Node}
 use Rattle.scope.specs.declared.Truth.{Truth}
 use Rattle.scope.specs.Block.{recordAt, recordsIn}
-use Rattle.scope.specs.Table.{tables, nodeAt, listFrom}
+use Rattle.scope.specs.Table.{tables, operands, nodeAt, listFrom}
 use Rattle.scope.specs.Truth.{Logic, litTruth, joined, nodeTruth, truthsFrom}
 use Rattle.scope.specs.Kleene.{kleene}
 use Rattle.scope.proofs.Lists.{listFrom-more}
 use Rattle.codec.specs.Valid.{Bytes}
+use Rattle.codec.proofs.Records.{map-every}
 use Rattle.codec.proofs.Tables.{few-records, record-reads}
 use Rattle.record.specs.Place.{placeOf}
 use Rattle.table.proofs.Rows.{record-within}
@@ -34,16 +35,16 @@ cond-same false x h = h refl
 
 -- truths from n on do not matter for a node whose operands are of nodes below n
 module _ {A : Type 0} (L : Logic A) (s : List ℕ) (v : List A) (n : ℕ) (x : Node) (l : Low x n) where
-  joined-take : 2 < x .kind
-      → joined L (x .kind) (litTruth L (take n v) (x .a)) (litTruth L (take n v) (x .b)) ≡ joined L (x .kind) (litTruth L v (x .a)) (litTruth L v (x .b))
-  joined-take k = simp (lit-take L v n (x .a) (l .left k), lit-take L v n (x .b) (l .right k))
+  operands-take : map (litTruth L (take n v)) (operands x) ≡ map (litTruth L v) (operands x)
+  operands-take =
+      map-every (λ l. ltb (l / 2) n) (litTruth L (take n v)) (litTruth L v) (λ k q. lit-take L v n k (ltb-true (k / 2) n q)) (operands x) (l .below)
 
   node-take : nodeTruth L s (take n v) x ≡ nodeTruth L s v x
   unfolding nodeTruth
   node-take =
       cond-same (eqb (x .kind) 1) (L .yes)
       (λ p. cond-same (eqb (x .kind) 2) (L .point (getD s (x .a) 0))
-      (λ q. joined-take (omega (arith, l .kinds, eqb-false (x .kind) 1 p, eqb-false (x .kind) 2 q))))
+      (λ q. ap (joined L (x .kind)) operands-take))
 
 -- node n's level written: the array has those of the nodes before n + 1
 pub filled-more : (t s v : List ℕ) (n : ℕ) (x : Node) (y : ℕ) → n < length v → Low x n → x ≡ nodeAt t n

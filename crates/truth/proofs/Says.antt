@@ -1,7 +1,7 @@
 -- What an answer says of the two-valued truth: the same where no point is 2 (`two-valued`), and a yes or no is the truth for every way of
 -- filling the 2s (`sure-filled`). One induction gives both: P is what has to hold for an answer to be unknown. Assumes nothing.
 use mathlib.Core.Path.{_≡_, refl}
-use mathlib.Core.List.{List, [], _∷_, _++_}
+use mathlib.Core.List.{List, [], _∷_, _++_, map}
 use mathlib.Core.Bool.{Bool, true, false, cond, not, _&&_, _||_, Bool·beq, and-false, or-true}
 use Prim.Native.Nat.{ℕ, zero, suc, _/_, _%_, _<_}
 use native.Mathlib.Omega.{arith}
@@ -12,7 +12,8 @@ use borrow.Author.Tests.{ne-eqb, eqb-true}
 use Rattle.scope.specs.declared.Node.{Node}
 use Rattle.scope.specs.declared.Truth.{Truth}
 use Rattle.scope.specs.declared.Truth.the-variants.{Yes, No, Unknown}
-use Rattle.scope.specs.Truth.{litTruth, joined, nodeTruth, truthsFrom, truthIn, classical, truth}
+use Rattle.scope.specs.Table.{operands}
+use Rattle.scope.specs.Truth.{chained, litTruth, joined, nodeTruth, truthsFrom, truthIn, classical, truth}
 use Rattle.scope.specs.Calls.{noNode}
 use Rattle.scope.specs.Kleene.{opposite, both, either, alike, pointTruth, kleene, truth₃, sure, NoTwo, Fills}
 
@@ -65,12 +66,20 @@ module _ {P : Type 0} where
   says-cond true p q = p refl
   says-cond false p q = q refl
 
-  says-joined : (kind : ℕ) {x y : Truth} {a b : Bool} → Says P x a → Says P y b → Says P (joined kleene kind x y) (joined classical kind a b)
+  -- several joined, by a join that says of two
+  says-chained : (f : Truth → Truth → Truth) (g : Bool → Bool → Bool)
+      → ((x y : Truth) (a b : Bool) → Says P x a → Says P y b → Says P (f x y) (g a b))
+      → {x : Truth} {a : Bool} {xs : List Truth} {bs : List Bool} → Says P x a → AllSay P xs bs → Says P (chained f x xs) (chained g a bs)
+  says-chained f g h p none = p
+  says-chained f g h p (more q qs) = h _ _ _ _ p (says-chained f g h q qs)
+
+  says-joined : (kind : ℕ) {xs : List Truth} {bs : List Bool} → AllSay P xs bs → Says P (joined kleene kind xs) (joined classical kind bs)
   unfolding joined
-  says-joined kind p q =
-      says-cond (eqb kind 3) (λ e. says-and p q)
-      (λ e. says-cond (eqb kind 4) (λ e. says-or p q)
-      (λ e. says-cond (eqb kind 5) (λ e. says-or (says-not p) q) (λ e. says-beq p q)))
+  says-joined kind none = is-no
+  says-joined kind (more p ps) =
+      says-cond (eqb kind 3 || eqb kind 7) (λ e. says-chained both _&&_ (λ x y a b q r. says-and q r) p ps)
+      (λ e. says-cond (eqb kind 4 || eqb kind 8) (λ e. says-chained either _||_ (λ x y a b q r. says-or q r) p ps)
+      (λ e. says-cond (eqb kind 5) (λ e. says-chained either _||_ (λ x y a b q r. says-or q r) (says-not p) ps) (λ e. says-chained alike Bool·beq (λ x y a b q r. says-beq q r) p ps)))
 
   -- ---- the nodes, one after another
 
@@ -87,13 +96,17 @@ module _ {P : Type 0} where
   unfolding litTruth
   say-lit l a = says-cond (eqb (l % 2) 0) (λ e. say-at (l / 2) a) (λ e. says-not (say-at (l / 2) a))
 
+  say-lits : {u : List Truth} {v : List Bool} (ls : List ℕ) → AllSay P u v → AllSay P (map (litTruth kleene u) ls) (map (litTruth classical v) ls)
+  say-lits [] a = none
+  say-lits (l ∷ ls) a = more (say-lit l a) (say-lits ls a)
+
   module _ (s f : List ℕ) (point : (p : ℕ) → p < 1024 → Says P (pointTruth (getD s p 0)) (eqb (getD f p 0) 1)) where
     say-node : {u : List Truth} {v : List Bool} (x : Node) → (x .kind ≡ 2 → x .a < 1024) → AllSay P u v → Says P (nodeTruth kleene s u x) (nodeTruth classical f v x)
     unfolding nodeTruth
     say-node x h a =
         says-cond (eqb (x .kind) 1) (λ e. is-yes)
         (λ e. says-cond (eqb (x .kind) 2) (λ k. point (x .a) (h (eqb-true (x .kind) 2 k)))
-        (λ e. says-joined (x .kind) (say-lit (x .a) a) (say-lit (x .b) a)))
+        (λ e. says-joined (x .kind) (say-lits (operands x) a)))
 
     say-truths : (rs : List Node) {u : List Truth} {v : List Bool} → Points rs → AllSay P u v → AllSay P (truthsFrom kleene s u rs) (truthsFrom classical f v rs)
     unfolding truthsFrom

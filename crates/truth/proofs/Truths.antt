@@ -1,19 +1,22 @@
 -- Truth under a setting, in any logic: the truths of a list's nodes one after another, and what 01 says of a literal's truth by its
 -- node's kind. Assumes nothing.
 use mathlib.Core.Path.{_≡_, _∙_, ap, sym, refl}
-use mathlib.Core.List.{List, [], _∷_, _++_}
+use mathlib.Core.List.{List, [], _∷_, _++_, map}
 use mathlib.Core.Logic.{⊎-elim}
 use mathlib.Core.Bool.{true, false, not, _&&_, _||_, Bool·beq, Bool·not-not}
 use Prim.Native.Nat.{ℕ, suc, _+_, _-_, _*_, _/_, _%_, _<_, _≤_}
 use native.Mathlib.Nat.{add-zero, zero-add, eq-zero-or-pos}
 use native.Mathlib.Omega.{arith}
-use lib.Dec.{eqb}
+use lib.Dec.{eqb, ltb}
 use lib.ListN.{length, getD, take, drop, length-append, take-append-drop}
 use lib.Seq.{length-take-le, take-take, take-append-seam, take-length, take-suc, getD-take, getD-at}
-use borrow.Author.Tests.{ne-eqb}
+use borrow.Author.Tests.{ne-eqb, ltb-true}
 use Rattle.scope.specs.declared.Node.{Node}
+use Rattle.scope.specs.Table.{operands, every}
 use Rattle.scope.specs.Calls.{noNode}
 use Rattle.scope.specs.Truth.{Logic, litTruth, joined, nodeTruth, truthsFrom, truthIn, classical, truth}
+use Rattle.scope.proofs.Operands.{operands-two, operands-three}
+use Rattle.codec.proofs.Records.{map-every}
 
 module _ {A : Type 0} (L : Logic A) where
   module _ (s : List ℕ) where
@@ -53,6 +56,16 @@ module _ {A : Type 0} (L : Logic A) where
         let q : length w ≡ length v + k = length-truths (take k rs) v ∙ ap (length v +_) (length-take-le k rs h) in
         let e : truthsFrom L s v rs ≡ truthsFrom L s w (drop k rs) = rw take-append-drop at (truths-append (take k rs) (drop k rs) v) in
         rw (← q, e) (truths-keep (drop k rs) w)
+
+  -- an operation's truth, by its operands
+  module _ (s : List ℕ) (v : List A) (x : Node) where
+    pub node-two : 2 < x .kind → x .kind < 7 → nodeTruth L s v x ≡ joined L (x .kind) (litTruth L v (x .a) ∷ litTruth L v (x .b) ∷ [])
+    unfolding nodeTruth
+    node-two h k = rw (operands-two x h k, ne-eqb (x .kind) 1 (λ q. omega arith), ne-eqb (x .kind) 2 (λ q. omega arith))
+
+    pub node-three : 7 ≤ x .kind → nodeTruth L s v x ≡ joined L (x .kind) (litTruth L v (x .a) ∷ litTruth L v (x .b) ∷ litTruth L v (x .c) ∷ [])
+    unfolding nodeTruth
+    node-three k = rw (operands-three x k, ne-eqb (x .kind) 1 (λ q. omega arith), ne-eqb (x .kind) 2 (λ q. omega arith))
 
   -- a literal's truth is that of its node or the opposite
   pub lit-even : (v : List A) (n : ℕ) → litTruth L v (2 * n) ≡ getD v n (L .none)
@@ -106,15 +119,19 @@ module _ {A : Type 0} (L : Logic A) where
     unfolding nodeTruth
     atom-truth k = node-truth ∙ simp k
 
-    -- 'kinds 3 to 6 join their operands' truths', which are of earlier nodes
-    module _ (left : x .a / 2 < n) (right : x .b / 2 < n) where
-      pub truths-join : 2 < x .kind → truthIn L s rs (2 * n) ≡ joined L (x .kind) (truthIn L s rs (x .a)) (truthIn L s rs (x .b))
-      unfolding nodeTruth truthIn
-      truths-join k =
-          let f : eqb (x .kind) 1 ≡ false = ne-eqb (x .kind) 1 (λ q. omega arith) in
-          let g : eqb (x .kind) 2 ≡ false = ne-eqb (x .kind) 2 (λ q. omega arith) in
-          let i : n ≤ length rs = omega arith in
-          node-truth ∙ simp (f, g, lit-prefix s rs n (x .a) i left, lit-prefix s rs n (x .b) i right)
+    -- 'kinds 3 to 6 join their operands' truths', and so do 7 and 8; they are of earlier nodes
+    pub truths-join : every (λ l. ltb (l / 2) n) (operands x) ≡ true → 2 < x .kind
+        → truthIn L s rs (2 * n) ≡ joined L (x .kind) (map (truthIn L s rs) (operands x))
+    unfolding nodeTruth truthIn
+    truths-join below k =
+        let f : eqb (x .kind) 1 ≡ false = ne-eqb (x .kind) 1 (λ q. omega arith) in
+        let g : eqb (x .kind) 2 ≡ false = ne-eqb (x .kind) 2 (λ q. omega arith) in
+        let v : List A = truthsFrom L s [] (take n rs) in
+        let w : List A = truthsFrom L s [] rs in
+        node-truth
+        ∙ simp (f, g)
+        (ap (joined L (x .kind))
+        (map-every (λ l. ltb (l / 2) n) (litTruth L v) (litTruth L w) (λ l q. sym (lit-prefix s rs n l (omega arith) (ltb-true (l / 2) n q))) (operands x) below))
 
 -- ---- 'Truth values are classical'
 
@@ -148,26 +165,36 @@ module _ (s : List ℕ) (rs : List Node) (n : ℕ) (x : Node) (h : n < length rs
   pub atom-point : x .kind ≡ 2 → truth s rs (2 * n) ≡ eqb (getD s (x .a) 0) 1
   atom-point = atom-truth classical s rs n x h e
 
-  module _ (left : x .a / 2 < n) (right : x .b / 2 < n) where
-    pub node-joins : 2 < x .kind → truth s rs (2 * n) ≡ joined classical (x .kind) (truth s rs (x .a)) (truth s rs (x .b))
-    node-joins = truths-join classical s rs n x h e left right
+  module _ (below : every (λ l. ltb (l / 2) n) (operands x) ≡ true) where
+    pub node-joins : 2 < x .kind → truth s rs (2 * n) ≡ joined classical (x .kind) (map (truth s rs) (operands x))
+    node-joins = truths-join classical s rs n x h e below
 
     -- '.. by and'
     pub and-joins : x .kind ≡ 3 → truth s rs (2 * n) ≡ (truth s rs (x .a) && truth s rs (x .b))
     unfolding joined
-    and-joins k = node-joins (omega arith) ∙ simp k
+    and-joins k = node-joins (omega arith) ∙ rw (operands-two x (omega arith) (omega arith), k)
 
     -- '.. or'
     pub or-joins : x .kind ≡ 4 → truth s rs (2 * n) ≡ (truth s rs (x .a) || truth s rs (x .b))
     unfolding joined
-    or-joins k = node-joins (omega arith) ∙ simp k
+    or-joins k = node-joins (omega arith) ∙ rw (operands-two x (omega arith) (omega arith), k)
 
     -- '.. implies'
     pub imp-joins : x .kind ≡ 5 → truth s rs (2 * n) ≡ (not (truth s rs (x .a)) || truth s rs (x .b))
     unfolding joined
-    imp-joins k = node-joins (omega arith) ∙ simp k
+    imp-joins k = node-joins (omega arith) ∙ rw (operands-two x (omega arith) (omega arith), k)
 
     -- '.. if and only if'
     pub iff-joins : x .kind ≡ 6 → truth s rs (2 * n) ≡ Bool·beq (truth s rs (x .a)) (truth s rs (x .b))
     unfolding joined
-    iff-joins k = node-joins (omega arith) ∙ simp k
+    iff-joins k = node-joins (omega arith) ∙ rw (operands-two x (omega arith) (omega arith), k)
+
+    -- 'Kind 7 is AND .. of three literals'
+    pub three-and : x .kind ≡ 7 → truth s rs (2 * n) ≡ (truth s rs (x .a) && (truth s rs (x .b) && truth s rs (x .c)))
+    unfolding joined
+    three-and k = node-joins (omega arith) ∙ rw (operands-three x (omega arith), k)
+
+    -- '.. and kind 8 OR'
+    pub three-or : x .kind ≡ 8 → truth s rs (2 * n) ≡ (truth s rs (x .a) || (truth s rs (x .b) || truth s rs (x .c)))
+    unfolding joined
+    three-or k = node-joins (omega arith) ∙ rw (operands-three x (omega arith), k)

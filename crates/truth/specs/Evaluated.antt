@@ -2,13 +2,15 @@
 use mathlib.Core.Path.{_≡_}
 use mathlib.Core.List.{List}
 use Prim.Native.Nat.{ℕ, zero, suc, _/_, _<_, _≤_}
+use mathlib.Core.Bool.{true}
+use lib.Dec.{ltb}
 use lib.ListN.{length, getD}
 use Rattle.scope.specs.declared.Node.{Node}
 use Rattle.scope.specs.declared.Truth.{Truth}
 use Rattle.scope.specs.declared.Truth.the-variants.{Yes, No, Unknown}
 use Rattle.scope.specs.Outcome.{Outcome, answer, refused, fine}
 use Rattle.scope.specs.Block.{recordsIn}
-use Rattle.scope.specs.Table.{tables, tableTest}
+use Rattle.scope.specs.Table.{tables, operands, every, tableTest}
 use Rattle.truth.specs.declared.Evaluated.{Evaluated}
 use Rattle.truth.specs.declared.Evaluated.the-variants.{Told, Refused}
 
@@ -31,12 +33,12 @@ truthOf (suc (suc n)) = Yes
 abbrev pub Levels : List ℕ → Type 0
 Levels v = (i : ℕ) → getD v i 0 ≤ 2
 
--- kinds count from 1, an ATOM's point is below 1,024, and an operation's operands are literals of nodes below n
+-- kinds count from 1 to 8, an ATOM's point is below 1,024, and operands are literals of nodes below n
 pub record Low (x : Node) (n : ℕ) : Type 0 where
   pub kinds : 0 < x .kind
+  pub known : x .kind < 9
   pub point : x .kind ≡ 2 → x .a < 1024
-  pub left : 2 < x .kind → x .a / 2 < n
-  pub right : 2 < x .kind → x .b / 2 < n
+  pub below : every (λ l. ltb (l / 2) n) (operands x) ≡ true
 
 -- the first nodes of a readable table, a setting for every point, and a place for each level
 pub record Evaluable (t s v : List ℕ) (nodes : ℕ) : Type 0 where

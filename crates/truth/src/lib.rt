@@ -1,7 +1,7 @@
 // Evaluation: the truth of a literal under a setting, each node's truth found once. Truths are levels here, no 0, unknown 1, yes 2: so
 // a negation is what is left of 2, and two are joined by the lower or the higher.
 ghost use mathlib.Core.Path.{_≡_};
-ghost use mathlib.Core.List.{[], map};
+ghost use mathlib.Core.List.{[], _∷_, map};
 ghost use Prim.Native.Nat.{_/_, _<_, _≤_};
 ghost use lib.ListN.{length, take};
 ghost use Rattle.scope.specs.Outcome.{verdictOf};
@@ -60,8 +60,8 @@ fn same(x: u8, y: u8) -> u8
 
 // Two levels joined as kinds 3 to 6 say.
 fn join(kind: u8, x: u8, y: u8) -> u8
-    requires { ⌜ (x ≤ 2) × (y ≤ 2) ⌝ }
-    ensures { λ r. ⌜ r ≡ level (joined kleene kind (truthOf x) (truthOf y)) ⌝ }
+    requires { ⌜ (kind < 7) × (x ≤ 2) × (y ≤ 2) ⌝ }
+    ensures { λ r. ⌜ r ≡ level (joined kleene kind (truthOf x ∷ truthOf y ∷ [])) ⌝ }
 {
     match kind {
         3 => lower(x, y),
@@ -69,6 +69,17 @@ fn join(kind: u8, x: u8, y: u8) -> u8
         5 => higher(2 - x, y),
         _ => same(x, y),
     }
+}
+
+// Three levels joined as kinds 7 and 8 say.
+fn join_three(kind: u8, x: u8, y: u8, z: u8) -> u8
+    requires { ⌜ (7 ≤ kind) × (kind < 9) × (x ≤ 2) × (y ≤ 2) × (z ≤ 2) ⌝ }
+    ensures { λ r. ⌜ r ≡ level (joined kleene kind (truthOf x ∷ truthOf y ∷ truthOf z ∷ [])) ⌝ }
+{
+    if kind == 7 {
+        return lower(x, lower(y, z));
+    }
+    higher(x, higher(y, z))
 }
 
 // The level of a point's byte.
@@ -96,7 +107,11 @@ fn node_level(s: &[u8], v: &[u8], x: Node) -> u8
     }
     let p = lit_level(v, x.a as usize);
     let q = lit_level(v, x.b as usize);
-    join(x.kind, p, q)
+    if x.kind < 7 {
+        return join(x.kind, p, q);
+    }
+    let r = lit_level(v, x.c as usize);
+    join_three(x.kind, p, q, r)
 }
 
 // The truth of a level.

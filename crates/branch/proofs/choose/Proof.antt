@@ -1,7 +1,8 @@
--- `branch::choose` meets its contract. The number that is read is a literal of the table or `always`, and a choice's parity its sign. Assumes nothing.
+-- `branch::choose` meets its contract. The number that is read is a literal of the table, and a choice's parity its sign. Assumes nothing.
 use native.Mathlib.Omega.{arith}
 use borrow.Author.Needs.{needs}
-use Rattle.branch.proofs.Appends.{operand-low, operand-choice}
+use Rattle.index.proofs.Nodes.{operand-choice}
+use Rattle.branch.proofs.Appends.{six, operand-few}
 use Rattle.branch.proofs.choose.Statement.{statement}
 use Rattle.branch.proofs.choose.Tie as tie
 
@@ -18,10 +19,14 @@ add-l-2 : tie.Need-add-l-2
 add-l-2 c = search needs
 
 mul-l-2 : tie.Need-mul-l-2
-mul-l-2 c = search needs
+mul-l-2 c =
+    let s = c in
+    omega (arith, s .pre .0 .few, s .pre .0 .size, six (s .pre .0) (s .args .node) (s .pre .1 .0) (s .args .c) (s .pre .1 .1))
 
 shared-slice-read-l : tie.Need-shared-slice-read-l
-shared-slice-read-l c = search needs
+shared-slice-read-l c =
+    let s = c .before in
+    omega (arith, s .pre .0 .few, s .pre .0 .size, six (s .pre .0) (s .args .node) (s .pre .1 .0) (s .args .c) (s .pre .1 .1))
 
 sub-result : tie.Need-sub-result
 sub-result c = search needs
@@ -29,17 +34,17 @@ sub-result c = search needs
 add-result : tie.Need-add-result
 add-result c =
     let s = c .before in
-    omega (arith, operand-low (s .pre .0) (s .args .node) (s .pre .1 .0) (s .args .c) (s .pre .1 .1) (s .pre .1 .2))
+    omega (arith, six (s .pre .0) (s .args .node) (s .pre .1 .0) (s .args .c) (s .pre .1 .1), operand-few (s .pre .0) (s .args .node) (s .pre .1 .0) (s .args .c) (s .pre .1 .1))
 
 add-result-2 : tie.Need-add-result-2
 add-result-2 c =
     let s = c .before in
-    omega (arith, operand-low (s .pre .0) (s .args .node) (s .pre .1 .0) (s .args .c) (s .pre .1 .1) (s .pre .1 .2))
+    omega (arith, six (s .pre .0) (s .args .node) (s .pre .1 .0) (s .args .c) (s .pre .1 .1), operand-few (s .pre .0) (s .args .node) (s .pre .1 .0) (s .args .c) (s .pre .1 .1))
 
 returns : tie.Need-returns
 returns c =
     let s = c .before in
-    operand-choice (s .pre .0) (s .args .node) (s .pre .1 .0) (s .args .c) (s .pre .1 .1)
+    operand-choice (s .args .x .now) (s .args .node) (s .args .c) (s .pre .1 .1)
 
 pub choose-spec : {M : Type 1} → statement M
 choose-spec =

@@ -7,7 +7,7 @@ use Rattle.index.specs.Index.{indexNode}
 use Rattle.area.specs.Area.{slotsFrom}
 use Rattle.branch.specs.Templates.{cell, choiceColumn}
 use Rattle.branch.specs.Clauses.{Filled}
-use Rattle.branch.proofs.Appends.{filled-none, filled-more, filled-all, row-literals, row-operands, row-choice}
+use Rattle.branch.proofs.Appends.{filled-none, filled-more, filled-all, row-literals, row-choice}
 use Rattle.branch.proofs.put_literals.Statement.{statement}
 use Rattle.branch.proofs.put_literals.Tie as tie
 
@@ -54,9 +54,8 @@ choose-requires c κs =
     let i = c .before .before .loop .i in
     let test = c .before .loop-test .taken in
     let literals = c .before .before .before .template .ensures in
-    let choice = row-choice row h i (omega (arith, test, literals, row-literals row h)) in
-    let operands = row-operands row h {i = i} (omega (arith, test, literals)) in
-    (s .pre .1 .0, (s .pre .1 .1 .0 .2, omega (arith, c .template2 .ensures, choice), omega (arith, s .pre .1 .1 .1, operands)))
+    let choice = row-choice row h i (omega (arith, test, literals)) in
+    (s .pre .1 .0, (s .pre .1 .1 .0 .2, rw (c .template2 .ensures, s .pre .1 .1 .1) choice))
 
 add-work : tie.Need-add-work Inv-loop μ-loop
 add-work c =

@@ -1,4 +1,4 @@
--- `branch::row_of` meets its contract. The row of a literal is below 14, by the kinds of a table. Assumes nothing.
+-- `branch::row_of` meets its contract. The row of a literal is below 18, by the kinds of a table. Assumes nothing.
 use mathlib.Core.Path.{refl}
 use Prim.Native.Nat.{_/_}
 use native.Mathlib.Omega.{arith}

@@ -1,5 +1,5 @@
 -- `clause::choose` meets its contract. The number that is read is a literal of the table, and a choice's parity its sign. Assumes nothing.
-use Rattle.clause.proofs.Rows.{has, operand-low, operand-chosen}
+use Rattle.clause.proofs.Rows.{six, operand-few, operand-chosen}
 use native.Mathlib.Omega.{arith}
 use borrow.Author.Needs.{needs}
 use Rattle.clause.proofs.choose.Statement.{statement}
@@ -17,12 +17,12 @@ add-l-2 c = search needs
 mul-l-2 : tie.Need-mul-l-2
 mul-l-2 c =
     let s = c in
-    omega (arith, s .pre .0 .few, has (s .pre .0) (s .args .node) (s .pre .1 .0) (s .args .c) (s .pre .1 .1) .1)
+    omega (arith, s .pre .0 .few, six (s .pre .0) (s .args .node) (s .pre .1 .0) (s .args .c) (s .pre .1 .1))
 
 shared-slice-read-l : tie.Need-shared-slice-read-l
 shared-slice-read-l c =
     let s = c .before in
-    omega (arith, s .pre .0 .few, s .pre .0 .size, has (s .pre .0) (s .args .node) (s .pre .1 .0) (s .args .c) (s .pre .1 .1) .1)
+    omega (arith, s .pre .0 .few, s .pre .0 .size, six (s .pre .0) (s .args .node) (s .pre .1 .0) (s .args .c) (s .pre .1 .1))
 
 sub-result : tie.Need-sub-result
 sub-result c = search needs
@@ -30,17 +30,17 @@ sub-result c = search needs
 cast-result : tie.Need-cast-result
 cast-result c =
     let s = c .before in
-    omega (arith, has (s .pre .0) (s .args .node) (s .pre .1 .0) (s .args .c) (s .pre .1 .1) .1)
+    omega (arith, six (s .pre .0) (s .args .node) (s .pre .1 .0) (s .args .c) (s .pre .1 .1))
 
 add-result : tie.Need-add-result
 add-result c =
     let s = c .before in
-    omega (arith, has (s .pre .0) (s .args .node) (s .pre .1 .0) (s .args .c) (s .pre .1 .1) .1, operand-low (s .pre .0) (s .args .node) (s .pre .1 .0) (s .args .c) (s .pre .1 .1))
+    omega (arith, six (s .pre .0) (s .args .node) (s .pre .1 .0) (s .args .c) (s .pre .1 .1), operand-few (s .pre .0) (s .args .node) (s .pre .1 .0) (s .args .c) (s .pre .1 .1))
 
 add-result-2 : tie.Need-add-result-2
 add-result-2 c =
     let s = c .before in
-    omega (arith, has (s .pre .0) (s .args .node) (s .pre .1 .0) (s .args .c) (s .pre .1 .1) .1, operand-low (s .pre .0) (s .args .node) (s .pre .1 .0) (s .args .c) (s .pre .1 .1))
+    omega (arith, six (s .pre .0) (s .args .node) (s .pre .1 .0) (s .args .c) (s .pre .1 .1), operand-few (s .pre .0) (s .args .node) (s .pre .1 .0) (s .args .c) (s .pre .1 .1))
 
 returns : tie.Need-returns
 returns c =

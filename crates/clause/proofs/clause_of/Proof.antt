@@ -1,6 +1,6 @@
 -- `clause::clause_of` meets its contract: the choices are read until one is of no operand. Assumes nothing.
 use Rattle.index.specs.Index.{indexNode}
-use Rattle.clause.proofs.Rows.{j-most, first-of, second-of, third-of, clause-none, clause-one, clause-two, clause-three}
+use Rattle.clause.proofs.Rows.{known-kind, j-most, first-of, second-of, third-of, clause-none, clause-one, clause-two, clause-three}
 use native.Mathlib.Omega.{arith}
 use borrow.Author.Needs.{needs}
 use Rattle.clause.proofs.clause_of.Statement.{statement}
@@ -18,17 +18,17 @@ row-of-requires c κs = search needs
 mul-template : tie.Need-mul-template
 mul-template c =
     let s = c .before .before in
-    omega (arith, j-most (indexNode (s .args .x .now)) (s .args .l) (s .args .j) (s .pre .1 .1 .1))
+    omega (arith, j-most (indexNode (s .args .x .now)) (s .args .l) (s .args .j) (known-kind (s .pre .1 .0) (s .args .l) (s .pre .1 .1 .0)) (s .pre .1 .1 .1))
 
 template-requires : tie.Need-template-requires
 template-requires c κs =
     let s = c .before .before in
-    (s .pre .0, (c .row-of .ensures .1, omega (arith, j-most (indexNode (s .args .x .now)) (s .args .l) (s .args .j) (s .pre .1 .1 .1))))
+    (s .pre .0, (c .row-of .ensures .1, omega (arith, j-most (indexNode (s .args .x .now)) (s .args .l) (s .args .j) (known-kind (s .pre .1 .0) (s .args .l) (s .pre .1 .1 .0)) (s .pre .1 .1 .1))))
 
 returns : tie.Need-returns
 returns c =
     let s = c .before .before .before .before in
-    clause-none (indexNode (s .args .x .now)) (s .args .l) (s .args .j) (s .pre .1 .1 .1) (c .before .before .row-of .ensures) (c .before .template .ensures) (c .if1 .taken)
+    clause-none (indexNode (s .args .x .now)) (s .args .l) (s .args .j) (known-kind (s .pre .1 .0) (s .args .l) (s .pre .1 .1 .0)) (s .pre .1 .1 .1) (c .before .before .row-of .ensures) (c .before .template .ensures) (c .if1 .taken)
 
 cast-choose : tie.Need-cast-choose
 cast-choose c = search needs
@@ -40,7 +40,7 @@ choose-requires c κs =
       s .pre .1 .0,
       (
         omega (arith, s .pre .1 .1 .0),
-        first-of (indexNode (s .args .x .now)) (s .args .l) (s .args .j) (s .pre .1 .1 .1)
+        first-of (indexNode (s .args .x .now)) (s .args .l) (s .args .j) (known-kind (s .pre .1 .0) (s .args .l) (s .pre .1 .1 .0)) (s .pre .1 .1 .1)
             (a .before .before .row-of .ensures) (a .before .template .ensures) (λ q. omega (arith, q, a .if1 .left)),
       ),
     )
@@ -48,23 +48,23 @@ choose-requires c κs =
 mul-template-2 : tie.Need-mul-template-2
 mul-template-2 c =
     let s = c .before .before .before .before .before in
-    omega (arith, j-most (indexNode (s .args .x .now)) (s .args .l) (s .args .j) (s .pre .1 .1 .1))
+    omega (arith, j-most (indexNode (s .args .x .now)) (s .args .l) (s .args .j) (known-kind (s .pre .1 .0) (s .args .l) (s .pre .1 .1 .0)) (s .pre .1 .1 .1))
 
 add-template : tie.Need-add-template
 add-template c =
     let s = c .before .before .before .before .before in
-    omega (arith, j-most (indexNode (s .args .x .now)) (s .args .l) (s .args .j) (s .pre .1 .1 .1))
+    omega (arith, j-most (indexNode (s .args .x .now)) (s .args .l) (s .args .j) (known-kind (s .pre .1 .0) (s .args .l) (s .pre .1 .1 .0)) (s .pre .1 .1 .1))
 
 template-requires-2 : tie.Need-template-requires-2
 template-requires-2 c κs =
     let s = c .before .before .before .before .before in
-    (s .pre .0, (c .before .before .before .row-of .ensures .1, omega (arith, j-most (indexNode (s .args .x .now)) (s .args .l) (s .args .j) (s .pre .1 .1 .1))))
+    (s .pre .0, (c .before .before .before .row-of .ensures .1, omega (arith, j-most (indexNode (s .args .x .now)) (s .args .l) (s .args .j) (known-kind (s .pre .1 .0) (s .args .l) (s .pre .1 .1 .0)) (s .pre .1 .1 .1))))
 
 returns-2 : tie.Need-returns-2
 returns-2 c =
     let a = c .before .before .before in
     let s = a .before .before .before .before in
-    clause-one (indexNode (s .args .x .now)) (s .args .l) (s .args .j) (s .pre .1 .1 .1)
+    clause-one (indexNode (s .args .x .now)) (s .args .l) (s .args .j) (known-kind (s .pre .1 .0) (s .args .l) (s .pre .1 .1 .0)) (s .pre .1 .1 .1)
     (a .before .before .row-of .ensures) (a .before .template .ensures) (λ q. omega (arith, q, a .if1 .left))
     (c .before .before .choose .ensures) (c .before .template2 .ensures) (c .if2 .taken)
 
@@ -79,7 +79,7 @@ choose-requires-2 c κs =
       s .pre .1 .0,
       (
         omega (arith, s .pre .1 .1 .0),
-        second-of (indexNode (s .args .x .now)) (s .args .l) (s .args .j) (s .pre .1 .1 .1)
+        second-of (indexNode (s .args .x .now)) (s .args .l) (s .args .j) (known-kind (s .pre .1 .0) (s .args .l) (s .pre .1 .1 .0)) (s .pre .1 .1 .1)
             (a .before .before .row-of .ensures) (a .before .template .ensures) (λ q. omega (arith, q, a .if1 .left))
             (b .before .before .choose .ensures) (b .before .template2 .ensures) (λ q. omega (arith, q, b .if2 .left)),
       ),
@@ -88,24 +88,24 @@ choose-requires-2 c κs =
 mul-template-3 : tie.Need-mul-template-3
 mul-template-3 c =
     let s = c .before .before .before .before .before .before .before .before in
-    omega (arith, j-most (indexNode (s .args .x .now)) (s .args .l) (s .args .j) (s .pre .1 .1 .1))
+    omega (arith, j-most (indexNode (s .args .x .now)) (s .args .l) (s .args .j) (known-kind (s .pre .1 .0) (s .args .l) (s .pre .1 .1 .0)) (s .pre .1 .1 .1))
 
 add-template-2 : tie.Need-add-template-2
 add-template-2 c =
     let s = c .before .before .before .before .before .before .before .before in
-    omega (arith, j-most (indexNode (s .args .x .now)) (s .args .l) (s .args .j) (s .pre .1 .1 .1))
+    omega (arith, j-most (indexNode (s .args .x .now)) (s .args .l) (s .args .j) (known-kind (s .pre .1 .0) (s .args .l) (s .pre .1 .1 .0)) (s .pre .1 .1 .1))
 
 template-requires-3 : tie.Need-template-requires-3
 template-requires-3 c κs =
     let s = c .before .before .before .before .before .before .before .before in
-    (s .pre .0, (c .before .before .before .before .before .before .row-of .ensures .1, omega (arith, j-most (indexNode (s .args .x .now)) (s .args .l) (s .args .j) (s .pre .1 .1 .1))))
+    (s .pre .0, (c .before .before .before .before .before .before .row-of .ensures .1, omega (arith, j-most (indexNode (s .args .x .now)) (s .args .l) (s .args .j) (known-kind (s .pre .1 .0) (s .args .l) (s .pre .1 .1 .0)) (s .pre .1 .1 .1))))
 
 returns-3 : tie.Need-returns-3
 returns-3 c =
     let b = c .before .before .before in
     let a = b .before .before .before in
     let s = a .before .before .before .before in
-    clause-two (indexNode (s .args .x .now)) (s .args .l) (s .args .j) (s .pre .1 .1 .1)
+    clause-two (indexNode (s .args .x .now)) (s .args .l) (s .args .j) (known-kind (s .pre .1 .0) (s .args .l) (s .pre .1 .1 .0)) (s .pre .1 .1 .1)
     (a .before .before .row-of .ensures) (a .before .template .ensures) (λ q. omega (arith, q, a .if1 .left))
     (b .before .before .choose .ensures) (b .before .template2 .ensures) (λ q. omega (arith, q, b .if2 .left))
     (c .before .before .choose2 .ensures) (c .before .template3 .ensures) (c .if3 .taken)
@@ -122,7 +122,7 @@ choose-requires-3 c κs =
       s .pre .1 .0,
       (
         omega (arith, s .pre .1 .1 .0),
-        third-of (indexNode (s .args .x .now)) (s .args .l) (s .args .j) (s .pre .1 .1 .1)
+        third-of (indexNode (s .args .x .now)) (s .args .l) (s .args .j) (known-kind (s .pre .1 .0) (s .args .l) (s .pre .1 .1 .0)) (s .pre .1 .1 .1)
             (a .before .before .row-of .ensures) (a .before .template .ensures) (λ q. omega (arith, q, a .if1 .left))
             (b .before .before .choose .ensures) (b .before .template2 .ensures) (λ q. omega (arith, q, b .if2 .left))
             (d .before .before .choose2 .ensures) (d .before .template3 .ensures) (λ q. omega (arith, q, d .if3 .left)),
@@ -135,7 +135,7 @@ returns-4 c =
     let b = d .before .before .before in
     let a = b .before .before .before in
     let s = a .before .before .before .before in
-    clause-three (indexNode (s .args .x .now)) (s .args .l) (s .args .j) (s .pre .1 .1 .1)
+    clause-three (indexNode (s .args .x .now)) (s .args .l) (s .args .j) (known-kind (s .pre .1 .0) (s .args .l) (s .pre .1 .1 .0)) (s .pre .1 .1 .1)
     (a .before .before .row-of .ensures) (a .before .template .ensures) (λ q. omega (arith, q, a .if1 .left))
     (b .before .before .choose .ensures) (b .before .template2 .ensures) (λ q. omega (arith, q, b .if2 .left))
     (d .before .before .choose2 .ensures) (d .before .template3 .ensures) (λ q. omega (arith, q, d .if3 .left)) (c .choose3 .ensures)

@@ -1,4 +1,4 @@
--- `clause::row_of` meets its contract. The row of a literal is below 14, by the kinds of a table. Assumes nothing.
+-- `clause::row_of` meets its contract. The row of a literal is below 18, by the kinds of a table. Assumes nothing.
 use mathlib.Core.Path.{refl}
 use Rattle.index.specs.Index.{indexNode}
 use native.Mathlib.Omega.{arith}

@@ -1,6 +1,7 @@
 -- `clause::value` meets its contract. Assumes nothing.
+use Rattle.calculus.specs.Order.{valueOf}
 use Rattle.clause.specs.Coded.{gOf}
-use Rattle.clause.proofs.Codes.{wide-most}
+use Rattle.clause.proofs.Codes.{code-low}
 use native.Mathlib.Omega.{arith}
 use borrow.Author.Needs.{needs}
 use Rattle.clause.proofs.value.Statement.{statement}
@@ -21,12 +22,12 @@ shared-slice-read-result c = search needs
 cast-result : tie.Need-cast-result
 cast-result c =
     let s = c .before in
-    omega (arith, s .pre .2 (s .args .l) (s .pre .0), wide-most (gOf (s .args .work .now)) (s .args .l) (s .pre .0))
+    omega (arith, s .pre .2 (s .args .l) (s .pre .0), code-low (valueOf (gOf (s .args .work .now)) (s .args .l)))
 
 returns : tie.Need-returns
 returns c =
     let s = c .before in
-    (s .pre .2 (s .args .l) (s .pre .0), omega (arith, s .pre .2 (s .args .l) (s .pre .0), wide-most (gOf (s .args .work .now)) (s .args .l) (s .pre .0)))
+    (s .pre .2 (s .args .l) (s .pre .0), omega (arith, s .pre .2 (s .args .l) (s .pre .0), code-low (valueOf (gOf (s .args .work .now)) (s .args .l))))
 
 pub value-spec : {M : Type 1} → statement M
 value-spec =

@@ -1,4 +1,5 @@
 -- `cnffold::put` meets its contract: the record's bytes, added. Assumes nothing.
+use native.Mathlib.Omega.{arith}
 use Rattle.codec.proofs.Records.{bytes-node}
 use Rattle.codec.specs.Valid.{Bytes}
 use Rattle.scope.specs.Table.{nodeBytes}
@@ -32,7 +33,7 @@ returns c =
     let a = c .before .before .before .before .before .args in
     let p = c .before .before .before .before .before .pre in
     let all : Bytes (a .buf .now) = λ i. c .before .before .before .before .slice-known .given i .fits in
-    let small : Bytes (nodeBytes (node (a .kind) (a .a) (a .b))) = bytes-node (node (a .kind) (a .a) (a .b)) (record { kind = p .0; a = p .1; b = p .2 }) in
+    let small : Bytes (nodeBytes (node (a .kind) (a .a) (a .b))) = bytes-node (node (a .kind) (a .a) (a .b)) (record { kind = omega (arith, p .0); a = p .1; b = p .2; c = omega arith }) in
     let done = c .before .before .add .ensures in
     built-add (a .buf .now) (a .used) (node (a .kind) (a .a) (a .b)) all small (done .0) (done .1)
 

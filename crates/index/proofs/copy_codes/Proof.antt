@@ -1,10 +1,12 @@
 -- `index::copy_codes` meets its contract. The loop's invariant: the codes passed stand behind the links. That CODES are the codes is computed. Assumes nothing.
-use mathlib.Core.Path.{_≡_, _∙_, refl, sym}
+use mathlib.Core.Path.{_≡_, _∙_, sym, ap}
 use Prim.Native.Nat.{_≤_, _-_}
+use native.Mathlib.Nat.{zero-add}
 use Rattle.scope.specs.Table.{listFrom}
+use Rattle.scope.proofs.Lists.{getD-listFrom}
 use Rattle.calculus.specs.Expansion.{templates}
 use Rattle.calculus.specs.Order.{some, firstOf}
-use Rattle.index.specs.Codes.{codesSize, choiceValue, stateBy, codeOf, codeRows}
+use Rattle.index.specs.Codes.{choiceValue, stateBy, codeOf, codeAt, codesSize}
 use Rattle.index.specs.Index.{Copied}
 use Rattle.index.proofs.Cells.{copied-none, copied-more}
 use native.Mathlib.Omega.{arith}
@@ -24,20 +26,14 @@ loop-holds c = (omega arith, copied-none (c .before .args .x .now) (c .before .p
 mul-x : tie.Need-mul-x Inv-loop μ-loop
 mul-x c = search needs
 
-mul-x-2 : tie.Need-mul-x-2 Inv-loop μ-loop
-mul-x-2 c = search needs
-
-index-1-x : tie.Need-index-1-x Inv-loop μ-loop
-index-1-x c = search needs
-
-index-2-x : tie.Need-index-2-x Inv-loop μ-loop
-index-2-x c = search needs
+element-copy-out-x : tie.Need-element-copy-out-x Inv-loop μ-loop
+element-copy-out-x c = search needs
 
 add-x : tie.Need-add-x Inv-loop μ-loop
 add-x c = search needs
 
-mul-x-3 : tie.Need-mul-x-3 Inv-loop μ-loop
-mul-x-3 c = search needs
+mul-x-2 : tie.Need-mul-x-2 Inv-loop μ-loop
+mul-x-2 c = search needs
 
 slice-write-x : tie.Need-slice-write-x Inv-loop μ-loop
 slice-write-x c = omega (arith, c .before .before .loop .inv .1 .size, c .before .loop-test .taken)
@@ -49,11 +45,10 @@ loop-less : tie.Need-loop-less Inv-loop μ-loop
 loop-less c = search needs
 
 loop-again : tie.Need-loop-again Inv-loop μ-loop
-unfolding listFrom templates some firstOf choiceValue stateBy codeOf codeRows
+unfolding listFrom templates some firstOf choiceValue stateBy codeOf codeAt
 loop-again c =
-    let l = c .before .before .loop in
     let h = c .before .loop-test .taken in
-    (omega (arith, h), copied-more (l .i) _ _ (l .x) h refl (l .inv .1))
+    (omega (arith, h), copied-more (c .before .before .loop .i) _ _ (c .before .before .loop .x) h (getD-listFrom codeAt codesSize 0 (c .before .before .loop .i) 0 h ∙ ap codeAt (zero-add (c .before .before .loop .i))) (c .before .before .loop .inv .1))
 
 same-length : tie.Need-same-length Inv-loop μ-loop
 same-length c = c .before .loop .inv .1 .size ∙ sym (c .before .before .before .pre)
@@ -71,11 +66,9 @@ copy-codes-spec =
     μ-loop
     loop-holds
     mul-x
-    mul-x-2
-    index-1-x
-    index-2-x
+    element-copy-out-x
     add-x
-    mul-x-3
+    mul-x-2
     slice-write-x
     add-i
     loop-less

@@ -32,16 +32,16 @@ cast-t16 c = search needs
 cast-t18 : tie.Need-cast-t18
 cast-t18 c = search needs
 
-array-read-t21 : tie.Need-array-read-t21
-array-read-t21 c = search needs
+cast-t20 : tie.Need-cast-t20
+cast-t20 c = search needs
 
-array-read-t24 : tie.Need-array-read-t24
-array-read-t24 c = search needs
+cast-t22 : tie.Need-cast-t22
+cast-t22 c = search needs
 
 returns : tie.Need-returns
 unfolding normalized
 returns c =
-    let at-order = c .before .before .before .before in
+    let at-order = c .before .before .before .before .before .before in
     let at-turn = at-order .before in
     rw (at-order .order .ensures ∙ ap ordered (at-turn .turn .ensures ∙ ap turned (at-turn .before .fields .ensures)))
 
@@ -58,6 +58,6 @@ normalize-spec =
     cast-t14
     cast-t16
     cast-t18
-    array-read-t21
-    array-read-t24
+    cast-t20
+    cast-t22
     returns)

@@ -9,9 +9,6 @@ use Rattle.record.proofs.read_record.Tie as tie
 fields-requires : tie.Need-fields-requires
 fields-requires c κs = search needs
 
-word-requires : tie.Need-word-requires
-word-requires c κs = search needs
-
 shared-slice-read-form-ok : tie.Need-shared-slice-read-form-ok
 shared-slice-read-form-ok c = search needs
 
@@ -21,8 +18,7 @@ form-ok-requires c κs = search needs
 returns : tie.Need-returns
 returns c =
     row-14 _ _
-    (c .before .before .before .before .fields .ensures)
-    (c .before .before .before .word .ensures)
+    (c .before .before .before .fields .ensures)
     (sym (c .before .form-ok .ensures) ∙ not-true _ (c .if1 .taken))
 
 range-ok-requires : tie.Need-range-ok-requires
@@ -31,8 +27,7 @@ range-ok-requires c κs = search needs
 returns-2 : tie.Need-returns-2
 returns-2 c =
     row-15 _ _
-    (c .before .before .before .before .before .before .fields .ensures)
-    (c .before .before .before .before .before .word .ensures)
+    (c .before .before .before .before .before .fields .ensures)
     (sym (c .before .before .before .form-ok .ensures) ∙ not-false _ (c .before .before .if1 .left))
     (sym (c .before .range-ok .ensures) ∙ not-true _ (c .if2 .taken))
 
@@ -42,8 +37,7 @@ order-ok-requires c κs = search needs
 returns-3 : tie.Need-returns-3
 returns-3 c =
     row-16 _ _
-    (c .before .before .before .before .before .before .before .before .fields .ensures)
-    (c .before .before .before .before .before .before .before .word .ensures)
+    (c .before .before .before .before .before .before .before .fields .ensures)
     (sym (c .before .before .before .before .before .form-ok .ensures) ∙ not-false _ (c .before .before .before .before .if1 .left))
     (sym (c .before .before .before .range-ok .ensures) ∙ not-false _ (c .before .before .if2 .left))
     (sym (c .before .order-ok .ensures) ∙ not-true _ (c .if3 .taken))
@@ -51,8 +45,7 @@ returns-3 c =
 returns-4 : tie.Need-returns-4
 returns-4 c =
     no-row _ _
-    (c .before .before .before .before .before .before .before .before .fields .ensures)
-    (c .before .before .before .before .before .before .before .word .ensures)
+    (c .before .before .before .before .before .before .before .fields .ensures)
     (sym (c .before .before .before .before .before .form-ok .ensures) ∙ not-false _ (c .before .before .before .before .if1 .left))
     (sym (c .before .before .before .range-ok .ensures) ∙ not-false _ (c .before .before .if2 .left))
     (sym (c .before .order-ok .ensures) ∙ not-false _ (c .if3 .left))
@@ -62,7 +55,6 @@ read-record-spec =
     tie.close
     (tie.spec
     fields-requires
-    word-requires
     shared-slice-read-form-ok
     form-ok-requires
     returns

@@ -1,9 +1,4 @@
 -- `state::value` meets its contract. Assumes nothing.
-use Rattle.index.specs.Index.{always}
-use Prim.Native.Nat.{_<_}
-use mathlib.Core.Path.{_∙_}
-use Rattle.state.specs.Work.{gOf}
-use Rattle.state.proofs.Values.{wide-node}
 use native.Mathlib.Omega.{arith}
 use borrow.Author.Needs.{needs}
 use Rattle.state.proofs.value.Statement.{statement}
@@ -24,8 +19,7 @@ shared-slice-read-result c = search needs
 returns : tie.Need-returns
 returns c =
     let s = c .before in
-    let b : s .args .l < always = omega arith in
-    s .pre .0 .values (s .args .l) (omega arith) ∙ wide-node (gOf (s .args .work .now)) (s .args .l) b
+    s .pre .0 .values (s .args .l) (omega arith)
 
 pub value-spec : {M : Type 1} → statement M
 value-spec =

@@ -1,5 +1,6 @@
 -- `truth::join` meets its contract: each way through the code decides the same tests as `joined`. Assumes nothing.
 use mathlib.Core.Path.{_∙_}
+use native.Mathlib.Omega.{arith}
 use borrow.Author.Needs.{needs}
 use borrow.Author.Tests.{ne-eqb}
 use Rattle.scope.specs.Truth.{joined}
@@ -34,13 +35,22 @@ returns-3 : tie.Need-returns-3
 unfolding joined
 returns-3 c =
     let x = c .before .before .args .x in
-    c .higher2 .ensures ∙ simp (c .before .match .keys3, left-of-two x (c .before .before .pre .0), truth-of-level)
+    c .higher2 .ensures ∙ simp (c .before .match .keys3, left-of-two x (c .before .before .pre .1), truth-of-level)
 
 returns-4 : tie.Need-returns-4
 unfolding joined
 returns-4 c =
     let rest = c .before .match .rest in
-    c .same .ensures ∙ simp (ne-eqb _ _ (rest .0 .0 .1), ne-eqb _ _ (rest .0 .1), ne-eqb _ _ (rest .1))
+    let kind = c .before .before .args .kind in
+    let low = c .before .before .pre .0 in
+    c .same .ensures
+    ∙ simp (
+      ne-eqb _ _ (rest .0 .0 .1),
+      ne-eqb _ _ (rest .0 .1),
+      ne-eqb _ _ (rest .1),
+      ne-eqb kind 7 (λ q. omega (arith, low)),
+      ne-eqb kind 8 (λ q. omega (arith, low)),
+    )
 
 pub join-spec : {M : Type 1} → statement M
 join-spec =
