@@ -69,11 +69,12 @@ static void decide_goals(const a_case *c, int side, const p_list *g)
     memset(settings[side], 170, 1024);
     if (side == LIB) {
         bev_decided v = bev_decide(c->table, c->len, g->goal, g->count, settings[LIB], 1024, work, BEV_WORK);
-        say(LIB, v.number, v.place, v.possible, 0);
+        say(LIB, v.number, v.place, v.possible, v.splits);
     } else {
         p_refusal v;
+        p_made = 0;
         int possible = p_decide(c->table, c->len, g, settings[PLAIN], 1024, &v);
-        say(PLAIN, v.number, v.place, (size_t)possible, 0);
+        say(PLAIN, v.number, v.place, (size_t)possible, p_made);
     }
 }
 
@@ -315,6 +316,28 @@ static void in_threes(void)
     }
 }
 
+/* Early splits that have no part in the clash: the splits made and the time, beside the plain order's, as these splits grow in number. */
+static void jumps(void (*make)(a_case *, unsigned), unsigned low, unsigned step, unsigned high, unsigned last)
+{
+    for (unsigned n = low; n <= high; n += step) {
+        make(&now, n);
+        times t = measure(decide, &now, "decide");
+        uint64_t made = p_made;
+        at_least(&worst.decide, ratio(t));
+        printf("%-10s %-18s %5zu nodes %9.0f splits lib %11.1f us  plain %11.1f us  ratio %5.2f", "jumps", now.name, now.nodes, (double)made,
+            1e6 * t.seconds[LIB], 1e6 * t.seconds[PLAIN], ratio(t));
+        if (n <= last) {
+            clock_t from = clock();
+            p_sink s = { 0, NULL };
+            p_read(now.table, now.len);
+            p_search(&now.goals, &s);
+            printf("  without jumps %12.1f us, %9.0f steps", 1e6 * (double)(clock() - from) / CLOCKS_PER_SEC, (double)s.steps);
+        }
+        printf("\n");
+        fflush(stdout);
+    }
+}
+
 /* Not among those that count: a node with 2,013 parents, which are all looked at whenever it joins or leaves; and long stretches of met
  * clauses, which a split looks through. */
 static void wide(void)
@@ -395,7 +418,7 @@ static void reading_grows(void)
 
 static void targets(void)
 {
-    printf("worst, and the target: decide %.2f (1.5) times plain, clash %.2f (1.5) times plain, read %.2f (2) times plain, 2,016 adds %.1f (60) ms, listing %.2f (1) s\n",
+    printf("worst, and the target: decide %.2f (1.3) times plain, clash %.2f (1.5) times plain, read %.2f (2) times plain, 2,016 adds %.1f (60) ms, listing %.2f (1) s\n",
         worst.decide, worst.clash, worst.read, 1e3 * worst.adds, worst.listing);
     printf("worst, and the target: decide in threes %.2f (1.3) times plain, %.2f (1) times the same in pairs\n", worst.threes, worst.gain);
 #ifdef HAVE_DERIVE
@@ -410,6 +433,8 @@ int main(void)
     searches();
     clashes();
     in_threes();
+    jumps(free_points, 0, 4, 24, 12);
+    jumps(two_problems, 2, 1, 8, 6);
     wide();
 #ifdef HAVE_DERIVE
     derives();

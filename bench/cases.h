@@ -111,24 +111,45 @@ static void write_list(a_case *c, const char *name, unsigned n, p_list goals)
 
 static void write_case(a_case *c, const char *name, unsigned n, unsigned goal) { write_list(c, name, n, one(goal)); }
 
-/* n + 1 pigeons do not fit into n holes. */
-static void pigeonhole(a_case *c, unsigned n)
+/* Each of some pigeons has one of n holes, no two the same: clauses behind those of a chain so far. What comes last in a chain splits
+ * first. */
+static unsigned holes(unsigned all, unsigned low, unsigned pigeons, unsigned n)
 {
-    unsigned all = none;
-    for (unsigned i = 0; i <= n; i++)
-        for (unsigned j = 0; j < n; j++)
-            atom(n * i + j);
-    for (unsigned i = 0; i <= n; i++) {
+    for (unsigned i = 0; i < pigeons; i++) {
         unsigned some = none;
         for (unsigned j = 0; j < n; j++)
-            some = chain(OR, some, atom(n * i + j));
+            some = chain(OR, some, atom(low + n * i + j));
         all = chain(AND, all, some);
     }
     for (unsigned j = 0; j < n; j++)
-        for (unsigned i = 0; i <= n; i++)
+        for (unsigned i = 0; i < pigeons; i++)
             for (unsigned k = 0; k < i; k++)
-                all = chain(AND, all, node(OR, no(atom(n * k + j)), no(atom(n * i + j))));
-    write_case(c, "pigeonhole", n, all);
+                all = chain(AND, all, node(OR, no(atom(low + n * k + j)), no(atom(low + n * i + j))));
+    return all;
+}
+
+/* n + 1 pigeons do not fit into n holes. */
+static void pigeonhole(a_case *c, unsigned n)
+{
+    for (unsigned i = 0; i <= n; i++)
+        for (unsigned j = 0; j < n; j++)
+            atom(n * i + j);
+    write_case(c, "pigeonhole", n, holes(none, 0, n + 1, n));
+}
+
+/* 5 pigeons for 4 holes behind free pairs of points, each an OR: these split first, and have no part in the clash. */
+static void free_points(a_case *c, unsigned pairs)
+{
+    unsigned all = holes(none, 0, 5, 4);
+    for (unsigned i = 0; i < pairs; i++)
+        all = chain(AND, all, node(OR, atom(100 + 2 * i), atom(101 + 2 * i)));
+    write_case(c, "free points", pairs, all);
+}
+
+/* Two problems with no point in common under one goal: n pigeons for n holes, which fit, split first; 5 for 4 holes do not. */
+static void two_problems(a_case *c, unsigned n)
+{
+    write_case(c, "two problems", n, holes(holes(none, 0, 5, 4), 100, n, n));
 }
 
 /* If any two neighbours of a ring of 2 n + 1 that are equal make all true, then all are true. */

@@ -530,6 +530,75 @@ static inline int p_search(const p_list *g, p_sink *steps)
 
 #include "threes.h"
 
+/* What the literal at a position rests on, as two words of 64 splits; position 0 rests on nothing. */
+typedef struct { uint64_t w[2]; } p_set;
+static p_set p_rests[P_NODES + 1];
+static uint16_t p_depth[P_NODES]; /* of each open split: how many splits are before it on its branch */
+static uint64_t p_made;           /* splits made */
+
+/* What the clause at a place rests on: the literal that gave it, and its false literals; one that is not held adds nothing. */
+static inline p_set p_why(unsigned place)
+{
+    unsigned pair = (unsigned)(ps.clauses[place / 2] >> 32 * (place & 1)), x = pair & 65535, y = pair >> 16;
+    p_set s = p_rests[place / 2], a = p_rests[x < P_TRUE ? ps.position[x / 2] : 0], b = p_rests[y < P_TRUE ? ps.position[y / 2] : 0];
+    s.w[0] |= a.w[0] | b.w[0];
+    s.w[1] |= a.w[1] | b.w[1];
+    return s;
+}
+
+static inline void p_assume_on(unsigned l, p_set s)
+{
+    p_rests[ps.held + 1] = s;
+    p_assume(l);
+}
+
+/* The same search, jumping over splits on which a conflict does not rest; only those with fewer than 128 before them count. */
+static inline int p_jump(const p_list *g)
+{
+    static const p_set none = { { 0, 0 } };
+    uint64_t moves = 0;
+    size_t depth = 0;
+    p_start(g);
+    p_made = 0;
+    if (!p_join_goals(g, NULL, &moves)) {
+        ps.moves = moves + 1;
+        return 0;
+    }
+    for (size_t q = 0; q <= ps.held; q++)
+        p_rests[q] = none;
+    for (;; moves++) {
+        if (ps.summary[P_CONFLICT]) {
+            p_set why = p_why(p_first(P_CONFLICT));
+            while (ps.levels && p_depth[ps.levels - 1] < 128 && !(why.w[p_depth[ps.levels - 1] / 64] >> p_depth[ps.levels - 1] % 64 & 1))
+                ps.levels--;
+            if (!ps.levels)
+                break;
+            unsigned l = p_back(), d = p_depth[ps.levels];
+            if (d < 128)
+                why.w[d / 64] &= ~((uint64_t)1 << d % 64);
+            depth = d + 1;
+            p_assume_on(l ^ 1, why);
+        } else if (ps.summary[P_UNIT]) {
+            unsigned place = p_first(P_UNIT);
+            p_assume_on(p_literal(place), p_why(place));
+        } else if (ps.summary[P_OPEN]) {
+            unsigned l = p_literal(p_first(P_OPEN));
+            p_set own = none;
+            if (depth < 128)
+                own.w[depth / 64] = (uint64_t)1 << depth % 64;
+            p_made++;
+            ps.level[ps.levels].literal = (uint16_t)l;
+            ps.level[ps.levels].held = (uint16_t)ps.held;
+            p_depth[ps.levels] = (uint16_t)depth++;
+            ps.level[ps.levels++].notes = (uint32_t)ps.notes;
+            p_assume_on(l, own);
+        } else
+            break;
+    }
+    ps.moves = moves + 1;
+    return !ps.summary[P_CONFLICT];
+}
+
 /* The table's rows, then rows 62 and 20. */
 static p_refusal p_asked(const uint8_t *t, size_t len, const p_list *g)
 {
@@ -550,7 +619,7 @@ static int p_decide(const uint8_t *t, size_t len, const p_list *g, uint8_t *sett
     *no = p_asked(t, len, g);
     if (!no->number && points < 1024)
         *no = p_no(21, 0);
-    if (no->number || !(p_table.threes ? p3_search(g, NULL) : p_search(g, NULL)))
+    if (no->number || !(p_table.threes ? p3_search(g, NULL) : p_jump(g)))
         return 0;
     memset(settings, 2, 1024);
     for (size_t q = 1; q <= ps.held; q++) {
@@ -592,6 +661,28 @@ static size_t p_clash(const uint8_t *t, size_t len, const p_list *g, uint8_t kep
     ps.moves = moves;
     *no = p_no(possible ? 63 : 0, 0);
     return possible ? 0 : left.count;
+}
+
+/* Overview: a byte for each goal, or the refusal; the moves are those of all questions. The nodes are linked once. */
+static void p_overview(const uint8_t *t, size_t len, const uint16_t *goals, size_t count, uint8_t *answers, size_t lent, p_refusal *no)
+{
+    uint64_t moves = 0;
+    *no = p_read(t, len);
+    if (no->number)
+        return;
+    *no = p_no(count == 0 || count > 256 || count > lent ? 68 : 0, 0);
+    for (size_t i = 0; i < count && !no->number; i++)
+        if (goals[i] >= 2 * p_table.nodes)
+            *no = p_no(20, i);
+    if (no->number)
+        return;
+    p_link(p_table.nodes);
+    for (size_t i = 0; i < count; i++) {
+        p_list g = { 1, { goals[i] } };
+        answers[i] = (uint8_t)p_put(&g, p_table.nodes, NULL);
+        moves += ps.moves;
+    }
+    ps.moves = moves;
 }
 
 /* Derive: the step count, or the refusal; a first search counts. */

@@ -41,7 +41,8 @@ static const struct command commands[] = {
       "not read.\n",
       run_eval, 3, 3, 0 },
     { "decide", "TABLE GOAL.. [--out FILE]", "whether one setting makes all goals true",
-      "Prints `possible` and the setting, a line for each point that the table names (yes, no, or either: both will do), or `impossible`.\n"
+      "Prints `possible` and the setting, a line for each point that the table names (yes, no, or either: both will do), or `impossible`;\n"
+      "then `splits` and how many the search made, 4294967295 for that many or more.\n"
       "A list has 1 to 64 goals, which are literals; the same one may stand in it again.\n"
       "  --out FILE   the setting as 1,024 bytes, for eval; written where the goals are possible\n",
       run_decide, 2, INT_MAX, TAKES_OUT },

@@ -1,5 +1,6 @@
 /* bev decide, bev derive and bev check: what is asked of a list of goals of a table. */
 #include "bev.h"
+#include <inttypes.h>
 #include <stdlib.h>
 #include <string.h>
 
@@ -64,8 +65,8 @@ static void print_points(const struct nodes *nodes, const uint8_t settings[BEV_P
             printf("%s %zu\n", words[settings[p]], p);
 }
 
-int tell_setting(const struct bytes *table, const uint8_t settings[BEV_POINTS], const char *heading, int told, const struct words *w,
-                 const struct names *of)
+int tell_setting(const struct bytes *table, const uint8_t settings[BEV_POINTS], const char *heading, const char *closing, int told,
+                 const struct words *w, const struct names *of)
 {
     struct output o;
     int status;
@@ -76,24 +77,54 @@ int tell_setting(const struct bytes *table, const uint8_t settings[BEV_POINTS], 
     if (ready) {
         puts(heading);
         print_points(nodes, settings);
+        fputs(closing, stdout);
     }
     free(nodes);
     return !ready ? FAILED : w->out ? commit(&o, told) : told;
 }
 
+/* The one goal within a time. */
+static int decide_in_time(const struct bytes *table, uint16_t goal, const struct words *w, const struct names *of)
+{
+    uint8_t settings[BEV_POINTS];
+    double seconds;
+    if (!parse_seconds(w->seconds, &seconds))
+        return FAILED;
+    bev_turned v = decide_within(table, goal, seconds, settings);
+    if (v.number)
+        return refuse(v.number, v.place, of);
+    if (v.count == 0)
+        return FAILED;
+    if (v.verdicts[0] == 1)
+        return tell_setting(table, settings, "possible", "", POSSIBLE, w, of);
+    puts(v.verdicts[0] ? "unknown" : "impossible");
+    return v.verdicts[0] ? DONE : IMPOSSIBLE;
+}
+
+static int decide_goals(const struct bytes *table, const struct goals *goals, const struct words *w, const struct names *of)
+{
+    uint8_t settings[BEV_POINTS];
+    char splits[32]; /* the splits made; the count stops at 4,294,967,295 */
+    bev_decided d = decide(table, goals->literal, goals->count, settings);
+    if (d.number)
+        return refuse(d.number, d.place, of);
+    snprintf(splits, sizeof splits, "splits %" PRIu32 "\n", d.splits);
+    if (d.possible)
+        return tell_setting(table, settings, "possible", splits, POSSIBLE, w, of);
+    printf("impossible\n%s", splits);
+    return IMPOSSIBLE;
+}
+
 int run_decide(const struct words *w)
 {
     struct bytes table = { .at = NULL };
-    uint8_t settings[BEV_POINTS];
     struct goals goals;
     struct names of = names_of(w, (size_t)w->count - 1, NULL);
     int status = FAILED;
-    if (parse_goals(of.goal, of.goals, &goals) && load_table(of.table, &table)) {
-        bev_decided d = decide(&table, goals.literal, goals.count, settings);
-        status = d.number ? refuse(d.number, d.place, &of) : d.possible ? tell_setting(&table, settings, "possible", POSSIBLE, w, &of) : IMPOSSIBLE;
-    }
-    if (status == IMPOSSIBLE)
-        puts("impossible");
+    if (w->seconds && of.goals > 1)
+        complain("--seconds", "is for one goal");
+    else if (parse_goals(of.goal, of.goals, &goals) && load_table(of.table, &table))
+        status = w->seconds ? decide_in_time(&table, goals.literal[0], w, &of) : decide_goals(&table, &goals, w, &of);
     free(table.at);
     return status;
 }

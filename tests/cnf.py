@@ -205,7 +205,7 @@ def tables(bev, folder):
     """The table and the goal that are named do for derive and check."""
     t, d = os.path.join(folder, "u.tbl"), os.path.join(folder, "u.drv")
     bev.answers(IMPOSSIBLE, f"c 2 variables, 9 nodes\nc goal 16\nc table {t}\ns UNSATISFIABLE\n", "dimacs", sample("unsat.cnf"), "-o", t)
-    bev.answers(IMPOSSIBLE, "impossible\n", "decide", t, 16)
+    bev.answers(IMPOSSIBLE, "impossible\nsplits 1\n", "decide", t, 16)
     if bev.run("derive", t, 16, "-o", d)[0] != ANSWERED:
         bev.wrong(("derive", t), "no derivation", "one")
     bev.answers(ANSWERED, "accepted\n", "check", t, 16, d)

@@ -8,7 +8,7 @@ import re
 import subprocess
 
 from command import ANSWERED, IMPOSSIBLE, POSSIBLE, REFUSED, get, put
-from tables import A, AND, ATOM, IFF, IMP, OR, TRUE, checked, derivation, edited, expansion, full_table, parity, possible_together, search, setting_of, some_goals, some_table, table, truths
+from tables import A, AND, ATOM, IFF, IMP, OR, TRUE, checked, derivation, edited, expansion, full_table, jump, parity, possible_together, search, setting_of, some_goals, some_table, table, truths
 
 def goal_lists(rng, records, count):
     """Each literal by itself, and so many lists."""
@@ -16,16 +16,18 @@ def goal_lists(rng, records, count):
 
 def decision(records, goals, brute=False):
     """Status, output and settings that decide gives."""
-    model, _ = search(records, goals)
+    model, steps = search(records, goals)
+    jumped, made = jump(records, goals)
+    assert jumped == model and (steps is None or made <= sum(s[0] == "S" for s in steps)), "the jumps change the answer"
     if brute:
         assert (model is not None) == possible_together(records, goals), "the order differs from the truth table"
     if model is None:
-        return IMPOSSIBLE, "impossible\n", None
+        return IMPOSSIBLE, f"impossible\nsplits {made}\n", None
     setting = setting_of(records, model)
     v = truths(records, {p for p in range(1024) if setting[p] == 1})
     assert all(v[g // 2] != (g % 2 == 1) for g in goals)
     points = sorted(a for kind, a, *_ in records if kind == ATOM)
-    return POSSIBLE, "possible\n" + "".join(f"{('no', 'yes', 'either')[setting[p]]} {p}\n" for p in points), setting
+    return POSSIBLE, "possible\n" + "".join(f"{('no', 'yes', 'either')[setting[p]]} {p}\n" for p in points) + f"splits {made}\n", setting
 
 def deciding(bev, folder, rounds):
     name, out = os.path.join(folder, "t"), os.path.join(folder, "s")
@@ -162,7 +164,7 @@ def list_rows(bev, folder):
         bev.fails("x", "is no literal", *words(t, *[18] * 70, "x"))
     if os.path.exists(d + "x"):
         bev.wrong(("derive",), "a file", "none from refused goals")
-    bev.answers(IMPOSSIBLE, "impossible\n", "decide", t, *[18] * 64)
+    bev.answers(IMPOSSIBLE, "impossible\nsplits 1\n", "decide", t, *[18] * 64)
 
 def evaluating(bev, folder):
     name, out = os.path.join(folder, "t"), os.path.join(folder, "s")

@@ -143,6 +143,41 @@ def search(records, goals, letter=68):
     model = branch([], [[g] for g in goals])
     return (model, None) if model is not None else (None, steps)
 
+def jump(records, goals, counting=128):
+    """The search that jumps over splits: the final list or None, and the splits made. Each literal held has the set of the splits that it
+    rests on, by how many splits stand before them; only the first `counting` of a branch count."""
+    made = 0
+    def branch(held, clauses, depth):
+        nonlocal made
+        while True:
+            unit = fork = None
+            for clause, origin in clauses:
+                if any(l in held for l in clause):
+                    continue
+                free = [l for l in clause if l ^ 1 not in held]
+                rests = set().union(origin, *(held[l ^ 1] for l in clause if l ^ 1 in held))
+                if not free:
+                    return None, rests
+                if len(free) == 1 and unit is None:
+                    unit = free[0], rests
+                if fork is None:
+                    fork = free[0]
+            def joined(l, rests):
+                return {**held, l: rests}, clauses + [(c, rests) for c in expansion(records, l)]
+            if unit:
+                held, clauses = joined(*unit)
+            elif fork is None:
+                return list(held), None
+            else:
+                made += 1
+                model, rests = branch(*joined(fork, {depth} if depth < counting else set()), depth + 1)
+                if model is not None or depth < counting and depth not in rests:
+                    return model, rests
+                held, clauses = joined(fork ^ 1, rests - {depth})
+                depth += 1
+    model, _ = branch({}, [([g], set()) for g in goals], 0)
+    return model, made
+
 def setting_of(records, model):
     """The settings bytes of a model: 1 and 0 for the held signs of points, 2 for the others."""
     setting = bytearray([2] * 1024)

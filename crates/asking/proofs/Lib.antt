@@ -1,5 +1,4 @@
 -- From a readable table to the search: its nodes and their index, and what the search's answers mean. Assumes nothing.
 pub mod Models
-pub mod Same
 pub mod Nodes
 pub mod Answers

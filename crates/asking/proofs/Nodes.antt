@@ -19,11 +19,11 @@ use Rattle.calculus.specs.Expansion.{expand}
 use Rattle.calculus.specs.Order.{tree}
 use Rattle.calculus.specs.Model.{Table, Below, Goals}
 use Rattle.calculus.specs.Decide.{nodesOf, searchOf, listRow, Admitted}
+use Rattle.calculus.proofs.Same.{table-same, search-same}
 use Rattle.calculus.proofs.Asked.{list-met, by-fine}
 use Rattle.index.specs.Index.{indexSize, mostNodes, mostLiterals, indexNode, Built}
 use Rattle.asking.specs.Asks.{Prepared}
 use Rattle.asking.proofs.Models.{low, table-of, cells-of}
-use Rattle.asking.proofs.Same.{table-same, search-same}
 
 -- the first nodes of a table
 abbrev pub nodesIn : List ℕ → ℕ → List Node

@@ -16,18 +16,19 @@ use Rattle.scope.specs.Table.{decode}
 use Rattle.scope.specs.Truth.{truth}
 use Rattle.scope.specs.Kleene.{sure, Fills}
 use Rattle.scope.specs.Calls.{settingsTest, evaluate}
-use Rattle.scope.proofs.Tests.{refused-no, then-first, then-next}
+use Rattle.scope.proofs.Tests.{refused-no, bound, then-first, then-next}
 use Rattle.codec.specs.Valid.{Bytes}
 use Rattle.codec.proofs.Bytes.{bytes-take}
 use Rattle.calculus.specs.Model.{All}
-use Rattle.calculus.specs.Decide.{decide, Unsatisfiable, _⇔_}
+use Rattle.calculus.specs.Order.{Answer}
+use Rattle.calculus.specs.Decide.{settingsAfter, decide, Unsatisfiable, _⇔_}
 use Rattle.truth.proofs.Says.{two-valued}
 use Rattle.asking.proofs.Models.{points-of, evaluated-filled}
 use Rattle.meaning.proofs.Decisions.{decide-exact}
 use Rattle.meaning.proofs.Numbers.{decide-numbered, derive-numbered, check-numbered}
 use Rattle.deciding.specs.declared.Decided.{Decided}
 use Rattle.deciding.specs.declared.Decided.the-variants.{Possible, Impossible, Refused}
-use Rattle.deciding.specs.Decides.{can, cannot, wordOf, decidedOf, Decides}
+use Rattle.deciding.specs.Decides.{can, cannot, wordOf, Said, saidOf, decidedOf, Decides}
 use Rattle.clashing.specs.declared.Clashed.{Clashed}
 use Rattle.clashing.specs.Clash.{clash}
 use Rattle.clashing.specs.Clashes.{clashedOf, Clashes}
@@ -54,7 +55,7 @@ use Rattle.cnf.specs.Reader.{Means, Turns}
 use Rattle.cnfread.specs.Reads.{Reads}
 use Rattle.bevaridhom.specs.declared.BevClashed.{BevClashed}
 use Rattle.bevaridhom.specs.declared.BevOpened.{BevOpened}
-use Rattle.bevaridhom.specs.Answers.{versionAsked, versionNumber, openAnswer, decideAnswer, HostDecides, clashAnswer, HostClashes, deriveAnswer, HostDerives, checkAnswer, HostChecks, wishesAnswer, HostWishes, markAnswer, Unmet, HostReads}
+use Rattle.bevaridhom.specs.Answers.{versionAsked, versionNumber, openAnswer, wordBit, decideAnswer, HostPlain, HostDecides, clashAnswer, HostClashes, deriveAnswer, HostDerives, checkAnswer, HostChecks, wishesAnswer, HostWishes, markAnswer, Unmet, HostReads}
 
 -- a refusal of what is made of an answer is the answer's
 of-refused : {A B : Type 0} (x : Outcome A) (f : A → B) {number place : ℕ} → refused number place ≡ (x >>= λ a. answer (f a)) → x ≡ refused number place
@@ -66,29 +67,52 @@ of-refused (refused m p) f e = cc
 module _ (t goals s w s′ w′ : List ℕ) where
   -- of the definition, a refusal is one of the answer
   decide-refused : (f : Refusal) → Decides t goals s w s′ w′ (Refused f) → decide t goals s w ≡ refused (f .number) (f .place)
-  decide-refused f h = of-refused (decide t goals s w) (λ d. wordOf (d .verdict)) (h .answered)
+  decide-refused f h = of-refused (decide t goals s w) saidOf (h .answered)
 
   decide-kept : (d : Decided) → Decides t goals s w s′ w′ d → (number place : ℕ) → decide t goals s w ≡ refused number place → w′ ≡ w
-  decide-kept Possible h number place e = refused-no (sym (h .answered ∙ ap (_>>= λ d. answer (wordOf (d .verdict))) e))
-  decide-kept Impossible h number place e = refused-no (sym (h .answered ∙ ap (_>>= λ d. answer (wordOf (d .verdict))) e))
+  decide-kept (Possible n) h number place e = refused-no (sym (h .answered ∙ ap (_>>= λ d. answer (saidOf d)) e))
+  decide-kept (Impossible n) h number place e = refused-no (sym (h .answered ∙ ap (_>>= λ d. answer (saidOf d)) e))
   decide-kept (Refused f) h number place e = h .work f refl
 
   exact-by : (d : Decided) → Decides t goals s w s′ w′ d → decideAnswer (decidedOf d) .number ≡ 0 → (decideAnswer (decidedOf d) .possible ≡ 0) ⇔ Unsatisfiable t goals
-  exact-by Possible h z =
-      (λ e. absurd (omega arith), λ none. absurd (let q : can ≡ cannot = h .exact can refl .1 none in let y : _≡_ {A = ℕ} 0 1 = cc in omega arith))
-  exact-by Impossible h z = (λ e. h .exact cannot refl .0 refl, λ none. refl)
+  exact-by (Possible n) h z =
+      (λ e. absurd (omega arith), λ none. absurd (let q : can ≡ cannot = h .exact _ refl .1 none in let y : _≡_ {A = ℕ} 0 1 = cc in omega arith))
+  exact-by (Impossible n) h z = (λ e. h .exact _ refl .0 refl, λ none. refl)
   exact-by (Refused f) h z = absurd (omega (arith, decide-numbered t goals s w .positive (f .number) (f .place) (decide-refused f h)))
 
   satisfied-by : (d : Decided) → Decides t goals s w s′ w′ d → decideAnswer (decidedOf d) .possible ≡ 1 → All (λ g. evaluate t g s′ ≡ answer Yes) goals
-  satisfied-by Possible h e = h .satisfied refl
-  satisfied-by Impossible h e = absurd (omega arith)
+  satisfied-by (Possible n) h e = h .satisfied n refl
+  satisfied-by (Impossible n) h e = absurd (omega arith)
   satisfied-by (Refused f) h e = absurd (omega arith)
 
   filled-by : (d : Decided) → Decides t goals s w s′ w′ d → decideAnswer (decidedOf d) .possible ≡ 1
       → (rs : List Node) → decode t ≡ answer rs → (f : List ℕ) → Fills s′ f → All (λ g. truth f rs g ≡ true) goals
-  filled-by Possible h e = h .filled refl
-  filled-by Impossible h e = absurd (omega arith)
+  filled-by (Possible n) h e = h .filled n refl
+  filled-by (Impossible n) h e = absurd (omega arith)
   filled-by (Refused f) h e = absurd (omega arith)
+
+  -- what was said is what the plain order says
+  plain-said : {x : Said} (d : Decided) → Decides t goals s w s′ w′ d → decidedOf d ≡ answer x
+      → (rs : List Node) × (decode t ≡ answer rs) × HostPlain rs goals s s′ (decideAnswer (answer x))
+  plain-said {x} d h e =
+      let b = bound (decide t goals s w) (λ d. answer (saidOf d)) (sym (h .answered) ∙ e) in
+      let z : answer (saidOf (b .0)) ≡ answer x = b .2 in
+      let y : saidOf (b .0) ≡ x = cc in
+      let q = h .plain (b .0) (b .1) in (
+        q .0,
+        q .1,
+        record {
+          verdict = ap (λ (a : Said). wordBit (a .word)) (sym y) ∙ ap (λ (a : Answer). wordBit (wordOf a)) (q .2 .verdict);
+          settings = h .settings ∙ ap (settingsAfter s) (b .1) ∙ q .2 .settings;
+          splits = omega (arith, ap (λ (a : Said). a .splits) y, q .2 .splits);
+        },
+      )
+
+  plain-by : (d : Decided) → Decides t goals s w s′ w′ d → decideAnswer (decidedOf d) .number ≡ 0
+      → (rs : List Node) × (decode t ≡ answer rs) × HostPlain rs goals s s′ (decideAnswer (decidedOf d))
+  plain-by (Possible n) h z = plain-said (Possible n) h refl
+  plain-by (Impossible n) h z = plain-said (Impossible n) h refl
+  plain-by (Refused f) h z = absurd (omega (arith, decide-numbered t goals s w .positive (f .number) (f .place) (decide-refused f h)))
 
   pub told : (d : Decided) {d′ : Decided} → Decides t goals s w s′ w′ d → d ≡ d′ → HostDecides t goals s w s′ w′ (decideAnswer (decidedOf d′))
   told d {d′} k e =
@@ -97,6 +121,7 @@ module _ (t goals s w s′ w′ : List ℕ) where
         answered = ap decideAnswer (h .answered);
         settings = h .settings;
         work = decide-kept d′ h;
+        plain = plain-by d′ h;
         exact = exact-by d′ h;
         satisfied = satisfied-by d′ h;
         filled = filled-by d′ h;

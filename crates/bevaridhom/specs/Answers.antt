@@ -16,13 +16,13 @@ use Rattle.scope.specs.Kleene.{NoTwo, Fills}
 use Rattle.scope.specs.Calls.{Added, settingsTest, evaluate}
 use Rattle.calculus.specs.Order.{impossible, answerOf}
 use Rattle.calculus.specs.Model.{All, mostGoals}
-use Rattle.calculus.specs.Decide.{searchOf, Decided, asked, decide, settingsAfter, Satisfies, Unsatisfiable, _⇔_}
+use Rattle.calculus.specs.Decide.{searchOf, Decided, asked, plainly, decide, settingsAfter, Satisfies, Unsatisfiable, _⇔_}
 use Rattle.rules.specs.declared.Version.{Version}
 use Rattle.rules.specs.declared.Version.the-variants.{One, Two}
 use Rattle.rules.specs.Steps.{stepAt, encodeSteps, decodeSteps}
 use Rattle.rules.specs.Derive.{derivationOf, blocks, derive, derivedAfter, check}
 use Rattle.published.specs.Bytes.{PublishedBytes}
-use Rattle.deciding.specs.Decides.{Word, can, cannot, nothing, wordOf}
+use Rattle.deciding.specs.Decides.{Word, can, cannot, nothing, wordOf, Said, saidOf}
 use Rattle.clashing.specs.Clash.{clash}
 use Rattle.clashing.specs.Clashes.{Clashing}
 use Rattle.wishing.specs.Wish.{count}
@@ -78,17 +78,24 @@ wordBit can = 1
 wordBit cannot = 0
 wordBit nothing = 0
 
-abbrev pub decideAnswer : Outcome Word → BevDecided
-decideAnswer (answer x) = record { number = 0; place = 0; possible = wordBit x }
-decideAnswer (refused n p) = record { number = n; place = p; possible = 0 }
+abbrev pub decideAnswer : Outcome Said → BevDecided
+decideAnswer (answer x) = record { number = 0; place = 0; possible = wordBit (x .word); splits = x .splits }
+decideAnswer (refused n p) = record { number = n; place = p; possible = 0; splits = 0 }
 
--- decide for a host: its answer, the settings bytes, a work area that a refusal leaves as it was, and what the answer means: possible 0
--- exactly when no setting makes all goals true, and with 1 bev_evaluate of the settings answers yes of each goal, and all goals are true
--- for every way of filling their 2s
+-- number 0 is said of the nodes rs of the table: verdict and settings are those of the plain order, and the splits are no more
+pub record HostPlain (rs : List Node) (goals s s′ : List ℕ) (r : BevDecided) : Type 0 where
+  pub verdict : r .possible ≡ wordBit (wordOf (plainly rs goals s .verdict))
+  pub settings : s′ ≡ plainly rs goals s .settings
+  pub splits : r .splits ≤ plainly rs goals s .splits
+
+-- decide for a host: its answer with the splits made, the settings bytes, a work area that a refusal leaves as it was, that the plain order
+-- gives the same with no fewer splits, and what the answer means: possible 0 exactly when no setting makes all goals true, and with 1
+-- bev_evaluate of the settings answers yes of each goal, and all goals are true for every way of filling their 2s
 pub record HostDecides (t goals s w s′ w′ : List ℕ) (r : BevDecided) : Type 0 where
-  pub answered : r ≡ decideAnswer (decide t goals s w >>= λ d. answer (wordOf (d .verdict)))
+  pub answered : r ≡ decideAnswer (decide t goals s w >>= λ d. answer (saidOf d))
   pub settings : s′ ≡ settingsAfter s (decide t goals s w)
   pub work : (number place : ℕ) → decide t goals s w ≡ refused number place → w′ ≡ w
+  pub plain : r .number ≡ 0 → (rs : List Node) × (decode t ≡ answer rs) × HostPlain rs goals s s′ r
   pub exact : r .number ≡ 0 → (r .possible ≡ 0) ⇔ Unsatisfiable t goals
   pub satisfied : r .possible ≡ 1 → All (λ g. evaluate t g s′ ≡ answer Yes) goals
   pub filled : r .possible ≡ 1 → (rs : List Node) → decode t ≡ answer rs → (f : List ℕ) → Fills s′ f → All (λ g. truth f rs g ≡ true) goals

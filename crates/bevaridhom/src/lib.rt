@@ -156,6 +156,7 @@ pub struct BevDecided {
     pub number: u16,
     pub place: usize,
     pub possible: u8,
+    pub splits: u32,
 }
 
 // Whether one setting makes all goals true, 1 possible and 0 impossible; if so, the settings become such a one.
@@ -165,20 +166,23 @@ pub extern "C" fn bev_decide(t: &[u8], goals: &[u16], s: &mut [u8], w: &mut [u16
 {
     let c = deciding::decide(t, goals, s, w);
     match c {
-        Decided::Possible => BevDecided {
+        Decided::Possible(splits) => BevDecided {
             number: 0,
             place: 0,
             possible: 1,
+            splits,
         },
-        Decided::Impossible => BevDecided {
+        Decided::Impossible(splits) => BevDecided {
             number: 0,
             place: 0,
             possible: 0,
+            splits,
         },
         Decided::Refused(f) => BevDecided {
             number: f.number,
             place: f.place,
             possible: 0,
+            splits: 0,
         },
     }
 }

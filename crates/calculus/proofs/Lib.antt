@@ -2,12 +2,14 @@
 pub mod Lists
 pub mod Literals
 pub mod Tally
+pub mod Limits
 pub mod Count
 pub mod Sizes
 pub mod Moves
 pub mod Rows
 pub mod Fresh
 pub mod Search
+pub mod Same
 pub mod Truth
 pub mod Sound
 pub mod Complete

@@ -8,17 +8,17 @@ use lib.ListN.{getD}
 use Rattle.scope.specs.declared.Node.{Node}
 use Rattle.scope.specs.Truth.{classical}
 use Rattle.calculus.specs.Expansion.{neg, expand}
-use Rattle.calculus.specs.Order.{Value, holds, fails, undecided, valueOf, State, met, empty, one, many, opened, joined, stateOf, clauses, tree, Tree, Answer, possible, impossible, unfinished, orElse, answerOf}
+use Rattle.calculus.specs.Order.{mem, Value, holds, fails, undecided, valueOf, State, met, empty, one, many, opened, joined, stateOf, clauses, tree, Tree, Answer, possible, impossible, unfinished, orElse, answerOf}
 use Rattle.calculus.specs.Model.{All, Table, litTrue, Model, AllTrue, Below, Good}
-use Rattle.calculus.proofs.Lists.{all-append, all-at, all-imply, all-map}
+use Rattle.calculus.proofs.Lists.{all-append, all-at, all-each, all-imply, all-map}
 use Rattle.calculus.proofs.Literals.{all-member, fails-mem}
 use Rattle.calculus.proofs.Moves.{ClauseIs, conflict-clause, unit-clause}
 use Rattle.calculus.proofs.Search.{Grown, closes, joins, ends, parts, grown-whole, possible-closed, closed-cut}
 use Rattle.calculus.proofs.Truth.{clauseTrue, neg-true, expand-true}
 
 module _ (v : ℕ → Bool) where
-  -- what a state says of a clause that is true, where all of G is
-  abbrev StateSays : State → Type 0
+  -- what a state says of a clause that is true, where those of its literals that G makes false are
+  abbrev pub StateSays : State → Type 0
   StateSays met = Unit {0}
   StateSays empty = ⊥
   StateSays (one l) = litTrue v l ≡ true
@@ -40,15 +40,18 @@ module _ (v : ℕ → Bool) where
   says-joined fails l s b q e f = f (rw (q refl) at e)
   says-joined undecided l s b q e f = says-opened l s b e f
 
-  -- a literal whose negation is in G is false
-  fails-false : (G : List ℕ) (l : ℕ) → AllTrue v G → valueOf G l ≡ fails → litTrue v l ≡ false
-  fails-false G l h e =
-      not-true (litTrue v l) (sym (neg-true v l) ∙ all-member (λ m. litTrue v m ≡ true) G (neg l) h (fails-mem G l e .1))
+  -- where G makes it false, it is
+  abbrev pub FailsFalse : List ℕ → ℕ → Type 0
+  FailsFalse G l = valueOf G l ≡ fails → litTrue v l ≡ false
 
-  says-state : (G c : List ℕ) → AllTrue v G → clauseTrue v c ≡ true → StateSays (stateOf G c)
+  pub says-state : (G c : List ℕ) → All (FailsFalse G) c → clauseTrue v c ≡ true → StateSays (stateOf G c)
   unfolding stateOf
   says-state G [] h e = false≢true e
-  says-state G (l ∷ c) h e = says-joined (valueOf G l) l (stateOf G c) (clauseTrue v c) (fails-false G l h) e (says-state G c h)
+  says-state G (l ∷ c) h e = says-joined (valueOf G l) l (stateOf G c) (clauseTrue v c) (h .0) e (says-state G c (h .1))
+
+  -- a literal whose negation is true is false
+  pub fails-false : (G : List ℕ) (l : ℕ) → (mem (neg l) G ≡ true → litTrue v (neg l) ≡ true) → FailsFalse G l
+  fails-false G l h e = not-true (litTrue v l) (sym (neg-true v l) ∙ h (fails-mem G l e .1))
 
 -- both branches of a closed split are closed
 pub or-closed : (a b : Answer) → orElse a b ≡ impossible → (a ≡ impossible) × (b ≡ impossible)
@@ -69,7 +72,8 @@ module _ (n : ℕ) (t : ℕ → Node) (goals : List ℕ) (T : Table n t) (v : �
   says-clause : (G : List ℕ) (k : ℕ) (s : State) → Good n G → AllTrue v G → ClauseIs (expand t) goals G k s → StateSays v s
   says-clause G k s g h q =
       subst (StateSays v) (q .1)
-      (says-state v G (getD (clauses (expand t) goals G) k []) h
+      (says-state v G (getD (clauses (expand t) goals G) k [])
+      (all-each (FailsFalse v G) (λ l. fails-false v G l (all-member (λ m. litTrue v m ≡ true) G (neg l) h)) (getD (clauses (expand t) goals G) k []))
       (all-at (λ c. clauseTrue v c ≡ true) (clauses (expand t) goals G) k [] (clauses-true G g h) (q .0)))
 
   -- a tree from a list of true literals has an open branch

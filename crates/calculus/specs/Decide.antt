@@ -15,6 +15,7 @@ use Rattle.scope.specs.Calls.{noNode, evaluate}
 use Rattle.calculus.specs.Expansion.{expand}
 use Rattle.calculus.specs.Order.{Tree, tree, Answer, possible, impossible, unfinished, answerOf, settingOf}
 use Rattle.calculus.specs.Model.{All, mostGoals, Below}
+use Rattle.calculus.specs.Jump.{Jumped, jump, endAnswer, splitsOf, stopped}
 
 -- the nodes of a table as a function
 abbrev pub nodesOf : List Node → ℕ → Node
@@ -24,16 +25,21 @@ nodesOf rs n = getD rs n noNode
 abbrev pub searchOf : List Node → List ℕ → Tree
 searchOf rs goals = tree (expand (nodesOf rs)) goals (length rs) []
 
+-- the same, jumping over splits: 'only a split with fewer than 128 earlier splits on its branch .. counts'
+abbrev pub jumpOf : List Node → List ℕ → Jumped
+jumpOf rs goals = jump 128 (expand (nodesOf rs)) goals (length rs) 0 []
+
 -- the settings bytes after an answer: 'Decide writes the settings only when possible', the first 1,024
 abbrev pub settingsOn : List Node → List ℕ → Answer → List ℕ
 settingsOn rs s (possible G) = settingOf rs G ++ drop 1024 s
 settingsOn rs s impossible = s
 settingsOn rs s unfinished = s
 
--- what decide answers: what the search ends on; and the settings bytes afterwards
+-- what decide answers: what the search ends on; the settings bytes afterwards; 'the splits made, stopping at 4,294,967,295'
 pub record Decided : Type 0 where
   pub verdict : Answer
   pub settings : List ℕ
+  pub splits : ℕ
 
 -- 62: 'list empty or over 64'
 abbrev pub listRow : List ℕ → Outcome (Unit {0})
@@ -70,9 +76,23 @@ askedBy listed t goals needed points area = decode t >>= λ rs. rowsTest listed 
 abbrev pub asked : List ℕ → List ℕ → ℕ → ℕ → ℕ → Outcome (List Node)
 asked t goals needed points area = askedBy (listRow goals) t goals needed points area
 
--- what decide answers of the nodes of a table
+-- what decide answers where a search of a table's nodes ends on an answer and makes so many splits
+abbrev pub decidedBy : List Node → List ℕ → Answer → ℕ → Decided
+decidedBy rs s a made = record { verdict = a; settings = settingsOn rs s a; splits = stopped made }
+
+-- what decide answers of the nodes of a table: by the search that jumps
 abbrev pub decided : List Node → List ℕ → List ℕ → Decided
-decided rs goals s = record { verdict = answerOf (searchOf rs goals); settings = settingsOn rs s (answerOf (searchOf rs goals)) }
+decided rs goals s = decidedBy rs s (endAnswer (jumpOf rs goals .end)) (jumpOf rs goals .splits)
+
+-- what it would answer by the plain order
+abbrev pub plainly : List Node → List ℕ → List ℕ → Decided
+plainly rs goals s = decidedBy rs s (answerOf (searchOf rs goals)) (splitsOf (searchOf rs goals))
+
+-- 'Verdict and settings equal those of the plain order'; the splits are 'never more than the plain order makes under the same stop'
+pub record AsPlain (d p : Decided) : Type 0 where
+  pub verdict : d .verdict ≡ p .verdict
+  pub settings : d .settings ≡ p .settings
+  pub splits : d .splits ≤ p .splits
 
 -- rows 10 to 17, 62, 20, 21, 23
 unfoldable pub decide : List ℕ → List ℕ → List ℕ → List ℕ → Outcome Decided

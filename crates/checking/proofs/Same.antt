@@ -22,7 +22,7 @@ use Rattle.rules.specs.declared.Version.the-variants.{One, Two}
 use Rattle.rules.specs.Rules.{among, Branch, root, isFails, isUndecided, unstruck, anyHolds, Progress, running, complete, turn, only, clauseAt, stands, left, ruleU, ruleR, ruleE, ruleC, ruleS, unitTwo, conflictTwo, inList, names, body, namesTest, apply, applyTwo, applyIn, advance, ended, run, accepts}
 use Rattle.rules.proofs.Laws.{place, After, after-given, after-only, after-one, after-apply, after-two, after-advance}
 use Rattle.seen.proofs.States.{one-says}
-use Rattle.asking.proofs.Same.{clauses-same}
+use Rattle.calculus.proofs.Same.{clauses-same}
 
 -- ---- the one literal that a clause has left is one of its literals
 

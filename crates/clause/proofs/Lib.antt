@@ -1,4 +1,5 @@
 -- Laws of the clauses of a literal and of its code. Assumes nothing.
+pub mod Lengths
 pub mod Rows
 pub mod States
 pub mod Codes

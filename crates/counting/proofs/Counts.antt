@@ -4,10 +4,9 @@ use mathlib.Core.Bool.{cond}
 use mathlib.Core.List.{List, [], _∷_}
 use Prim.Native.Nat.{ℕ, zero, suc, _+_, _-_, _<_, _≤_}
 use native.Mathlib.Omega.{arith}
-use native.Mathlib.Decide.{decLt}
 use lib.Dec.{eqb}
 use lib.ListN.{length, getD, length-append}
-use borrow.Author.Tests.{ne-eqb, lt-ltb, le-ltb}
+use borrow.Author.Tests.{ne-eqb}
 use Rattle.scope.specs.declared.Node.{Node}
 use Rattle.calculus.specs.Expansion.{neg, expand}
 use Rattle.calculus.specs.Order.{Value, holds, fails, undecided, valueOf, State, met, empty, one, many, opened, joined, stateOf, clauses, move, tree}
@@ -15,6 +14,7 @@ use Rattle.calculus.specs.Model.{Table, Below}
 use Rattle.calculus.specs.declared.Move.the-variants.{Conflict, Unit as Single, Done, Split}
 use Rattle.calculus.proofs.Count.{room}
 use Rattle.calculus.proofs.Fresh.{split-fresh}
+use Rattle.calculus.proofs.Limits.{most-low, most-more}
 use Rattle.calculus.proofs.Moves.{ClauseIs, conflict-clause, unit-clause}
 use Rattle.rules.specs.declared.Step.{Step}
 use Rattle.rules.specs.declared.Version.{Version}
@@ -35,32 +35,6 @@ use Rattle.counting.specs.Count.{atMost, stepCount, sizeIn, Sized, Sized
 use Rattle.counting.specs.declared.Told.{Told}
 use Rattle.counting.specs.declared.Tally.{Tally}
 use Rattle.counting.specs.declared.Tally.the-variants.{Open, Closed}
-
--- ---- the limit
-
-module _ (cap s : ℕ) where
-  pub most-under : s < cap → s ≡ atMost cap s
-  most-under h = simp (lt-ltb s cap h)
-
-  pub most-over : cap ≤ s → cap ≡ atMost cap s
-  most-over h = simp (le-ltb s cap h)
-
-pub most-low : (cap s : ℕ) → atMost cap s ≤ cap
-most-low cap s = go (decLt s cap)
-  where
-    go : Dec (s < cap) → atMost cap s ≤ cap
-    go (yes h) = omega (arith, most-under cap s h)
-    go (no h) = omega (arith, most-over cap s (omega (arith, h)))
-
--- a limit that was met is met later
-pub most-more : (cap a b : ℕ) → atMost cap (atMost cap a + b) ≡ atMost cap (a + b)
-most-more cap a b = go (decLt a cap)
-  where
-    go : Dec (a < cap) → atMost cap (atMost cap a + b) ≡ atMost cap (a + b)
-    go (yes h) = ap (λ (m : ℕ). atMost cap (m + b)) (sym (most-under cap a h))
-    go (no h) =
-        let e = most-over cap a (omega (arith, h)) in
-        sym (most-over cap (atMost cap a + b) (omega (arith, e))) ∙ most-over cap (a + b) (omega (arith, h))
 
 -- ---- the R of a clause: one for each literal, at a conflict; for each but one, at a unit
 
@@ -172,9 +146,6 @@ sized-two free e h = rw e (record { size = refl; low = omega arith })
 pub sized-on : {v : Version} {t : ℕ → Node} {goals w : List ℕ} {k free r : ℕ} → Placed t goals w k → SizedIn v t goals (gOf w) (placeNumber w) free r
     → SizedIn v t goals (gOf w) k free r
 sized-on p z = rw (p .number) at z
-
-pub placed-there : {t : ℕ → Node} {goals w : List ℕ} {k : ℕ} → Placed t goals w k → Placed t goals w (placeNumber w)
-placed-there p = rw (p .number) p
 
 -- ---- the units
 

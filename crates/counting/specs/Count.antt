@@ -1,14 +1,14 @@
 -- How many steps the derivation in the solver's order has, up to a limit, and what counting them leaves of the work area: what the
 -- search would. Assumes nothing.
 use mathlib.Core.Path.{_≡_}
-use mathlib.Core.Bool.{cond}
 use mathlib.Core.List.{List, [], _∷_}
 use Prim.Native.Nat.{ℕ, _+_, _-_, _≤_}
-use lib.Dec.{ltb}
 use lib.ListN.{length, getD}
 use Rattle.scope.specs.declared.Node.{Node}
 use Rattle.calculus.specs.Expansion.{neg, expand}
 use Rattle.calculus.specs.Order.{clauses, tree}
+-- the count stops at its limit; the search goes on, since 30, 'goal possible', is checked before 31, 'more bytes needed'
+pub use Rattle.calculus.specs.Count.{atMost}
 use Rattle.rules.specs.declared.Step.{Step}
 use Rattle.rules.specs.declared.Version.{Version}
 use Rattle.rules.specs.declared.Version.the-variants.{One, Two}
@@ -21,10 +21,6 @@ use Rattle.searching.specs.declared.Found.the-variants.{Model, Closed as AllClo
 use Rattle.counting.specs.declared.Told.{Told}
 use Rattle.counting.specs.declared.Tally.{Tally}
 use Rattle.counting.specs.declared.Tally.the-variants.{Open, Closed}
-
--- a count that stops at its limit; the search goes on, since 30, 'goal possible', is checked before 31, 'more bytes needed'
-abbrev pub atMost : ℕ → ℕ → ℕ
-atMost cap s = cond (ltb s cap) s cap
 
 -- 'a U, C or S for each UNIT, CONFLICT and SPLIT of its search, .. an R for each false literal of the clause': the steps of the
 -- search from G, with as much fuel as there are undecided nodes; and how many

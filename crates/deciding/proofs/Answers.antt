@@ -1,24 +1,28 @@
 -- Where decide ends: at the first row's refusal, or with what the search came to. Assumes nothing.
-use mathlib.Core.Path.{_≡_, refl, sym, ap, _∙_}
-use mathlib.Core.List.{List}
+use mathlib.Core.Path.{_≡_, refl, sym, ap, ap₂, _∙_}
+use mathlib.Core.List.{List, []}
 use Prim.Native.Nat.{ℕ}
 use native.Mathlib.Omega.{arith}
 use lib.ListN.{length}
+use Rattle.scope.specs.declared.Node.{Node}
 use Rattle.scope.specs.declared.Refusal.{Refusal}
 use Rattle.scope.specs.declared.Truth.the-variants.{Yes}
 use Rattle.scope.specs.Outcome.{answer, refused, _>>=_}
 use Rattle.scope.specs.Calls.{evaluate}
 use Rattle.scope.proofs.Tests.{refused-no, bound}
 use Rattle.codec.specs.Valid.{Bytes}
-use Rattle.calculus.specs.Order.{Answer, possible, impossible, unfinished, answerOf}
+use Rattle.calculus.specs.Expansion.{expand}
+use Rattle.calculus.specs.Order.{Answer, possible, impossible, unfinished}
 use Rattle.calculus.specs.Model.{All}
-use Rattle.calculus.specs.Decide.{Decided as Given, listRow, asked, decided, decide, settingsAfter, _⇔_}
+use Rattle.calculus.specs.Jump.{Jumped, jump, endAnswer}
+use Rattle.calculus.specs.Decide.{nodesOf, jumpOf, Decided as Given, listRow, asked, decidedBy, decided, decide, settingsAfter, _⇔_}
+use Rattle.jumping.proofs.Same.{jump-same}
 use Rattle.index.specs.Index.{indexNode}
 use Rattle.asking.specs.Asks.{Prepared}
 use Rattle.asking.proofs.Models.{all-filled}
-use Rattle.asking.proofs.Nodes.{search-in, listed}
-use Rattle.meaning.proofs.Decisions.{decide-exact, decide-evaluates}
-use Rattle.deciding.specs.Decides.{Word, can, cannot, wordOf, decidedOf, Room, Solved, Decides}
+use Rattle.asking.proofs.Nodes.{listed}
+use Rattle.meaning.proofs.Decisions.{decide-plain, decide-exact, decide-evaluates}
+use Rattle.deciding.specs.Decides.{can, cannot, wordOf, Said, saidOf, decidedOf, Room, givenBy, Solved, Decides}
 use Rattle.deciding.specs.declared.Decided.{Decided}
 use Rattle.deciding.specs.declared.Decided.the-variants.{Possible, Refused}
 
@@ -35,16 +39,17 @@ word-possible impossible e f = absurd (let z : _≡_ {A = ℕ} 0 1 = cc in omega
 word-possible unfinished e f = absurd (let z : _≡_ {A = ℕ} 0 1 = cc in omega arith)
 
 module _ (t goals s w : List ℕ) (all : Bytes t) (r : Decided) {s′ : List ℕ}
-    (answers : decidedOf r ≡ (decide t goals s w >>= λ d. answer (wordOf (d .verdict)))) (bytes : s′ ≡ settingsAfter s (decide t goals s w)) where
+    (answers : decidedOf r ≡ (decide t goals s w >>= λ d. answer (saidOf d))) (bytes : s′ ≡ settingsAfter s (decide t goals s w)) where
   -- what was said is what the definition's answer says
-  said-by : {said : Word} → decidedOf r ≡ answer said → (d : Given) × (decide t goals s w ≡ answer d) × (answer (wordOf (d .verdict)) ≡ answer said)
-  said-by q = bound (decide t goals s w) (λ d. answer (wordOf (d .verdict))) (sym answers ∙ q)
+  said-by : {said : Said} → decidedOf r ≡ answer said → (d : Given) × (decide t goals s w ≡ answer d) × (answer (saidOf d) ≡ answer said)
+  said-by q = bound (decide t goals s w) (λ d. answer (saidOf d)) (sym answers ∙ q)
 
-  satisfies : r ≡ Possible → All (λ g. evaluate t g s′ ≡ answer Yes) goals
-  satisfies q =
+  satisfies : (n : ℕ) → r ≡ Possible n → All (λ g. evaluate t g s′ ≡ answer Yes) goals
+  satisfies n q =
       let b = said-by (ap decidedOf q) in
-      let z : answer (wordOf (b .0 .verdict)) ≡ answer can = b .2 in
-      let v : wordOf (b .0 .verdict) ≡ can = cc in
+      let z : answer (saidOf (b .0)) ≡ answer (record { word = can; splits = n }) = b .2 in
+      let y : saidOf (b .0) ≡ record { word = can; splits = n } = cc in
+      let v : wordOf (b .0 .verdict) ≡ can = ap (λ (x : Said). x .word) y in
       word-possible (b .0 .verdict) v
       (λ G g. rw (bytes ∙ ap (settingsAfter s) (b .1)) (decide-evaluates t goals s w all (b .1) g))
 
@@ -53,18 +58,29 @@ module _ (t goals s w : List ℕ) (all : Bytes t) (r : Decided) {s′ : List ℕ
     answered = answers;
     settings = bytes;
     work = kept;
+    plain = λ d e. decide-plain t goals s w all e;
     exact = λ said q.
         let b = said-by q in
-        let z : answer (wordOf (b .0 .verdict)) ≡ answer said = b .2 in
-        let v : wordOf (b .0 .verdict) ≡ said = cc in
+        let z : answer (saidOf (b .0)) ≡ answer said = b .2 in
+        let y : saidOf (b .0) ≡ said = cc in
+        let v : wordOf (b .0 .verdict) ≡ said .word = ap (λ (x : Said). x .word) y in
         let i = word-impossible (b .0 .verdict) in
         let x = decide-exact t goals s w all (b .1) in
         (λ c. x .0 (i .0 (v ∙ c)), λ none. sym v ∙ i .1 (x .1 none));
     satisfied = satisfies;
-    filled = λ q rs e. all-filled t rs all e goals s′ (satisfies q);
+    filled = λ n q rs e. all-filled t rs all e goals s′ (satisfies n q);
   }
 
 -- ---- where decide ends
+
+-- the search over the index is that over the nodes
+given-in : {t goals : List ℕ} {needed lent area : ℕ} {x : List ℕ} {n : ℕ} (p : Prepared t goals needed lent area x n) (s : List ℕ)
+    → givenBy (indexNode x) n goals s ≡ decided (p .nodes) goals s
+given-in {goals = goals} {x = x} {n = n} p s =
+    let e : jump 128 (expand (indexNode x)) goals n 0 [] ≡ jumpOf (p .nodes) goals =
+    jump-same 128 n (indexNode x) (nodesOf (p .nodes)) (p .same) goals (p .indexed .table) (p .admitted .below) n 0 [] tt
+    ∙ ap (λ (k : ℕ). jump 128 (expand (nodesOf (p .nodes))) goals k 0 []) (sym (p .count)) in
+    ap₂ (λ (rs : List Node) (j : Jumped). decidedBy rs s (endAnswer (j .end)) (j .splits)) (listed p) e
 
 module _ (t goals s w : List ℕ) (all : Bytes t) where
   refused-by : {number place : ℕ} → asked t goals 1024 (length s) (length w) ≡ refused number place → decide t goals s w ≡ refused number place
@@ -86,8 +102,8 @@ module _ (t goals s w : List ℕ) (all : Bytes t) where
 
     pub ends : {s′ w′ : List ℕ} (r : Decided) → Solved (indexNode x) n goals s s′ r → Decides t goals s w s′ w′ r
     ends r h =
-        let a = ap answerOf (search-in p) in
+        let g = given-in p s in
         decides t goals s w all r
-        (h .verdict ∙ ap (λ (y : Answer). answer (wordOf y)) a ∙ ap (_>>= λ d. answer (wordOf (d .verdict))) (sym ends-on))
-        (h .settings ∙ rw (listed p, a) (ap (settingsAfter s) (sym ends-on)))
+        (h .verdict ∙ ap (λ (d : Given). answer (saidOf d)) g ∙ ap (_>>= λ d. answer (saidOf d)) (sym ends-on))
+        (h .settings ∙ ap (λ (d : Given). d .settings) g ∙ ap (settingsAfter s) (sym ends-on))
         (λ f q. refused-no (sym (ap decidedOf q) ∙ h .verdict))

@@ -1,6 +1,6 @@
 // Decide: whether one setting makes all goals true, and such a setting.
 use scope::Refusal;
-use searching::Found;
+use searching::Ended;
 use table::Counted;
 ghost use mathlib.Core.Path.{_≡_};
 ghost use mathlib.Core.List.{_++_};
@@ -17,8 +17,8 @@ ghost use Rattle.deciding.specs.Decides.{Room, Solved, Decides};
 
 // What decide answers.
 pub enum Decided {
-    Possible,
-    Impossible,
+    Possible(u32),
+    Impossible(u32),
     Refused(Refusal),
 }
 
@@ -70,12 +70,12 @@ fn solve(x: &[u16], n: usize, goals: &[u16], settings: &mut [u8], work: &mut [u1
     requires { ⌜ Room (now x) n (now settings) (now work) ⌝ }
     ensures { λ r. ⌜ Solved (indexNode (now (x .entry))) n (now (goals .entry)) (now (settings .entry)) (now (settings .exit)) r ⌝ }
 {
-    let found = searching::solve(x, n, goals, work);
+    let found = searching::solve_counted(x, n, goals, work);
     match found {
-        Found::Closed => Decided::Impossible,
-        Found::Model => {
+        Ended::Closed(splits) => Decided::Impossible(splits),
+        Ended::Model(splits) => {
             set_points(x, n, work, settings);
-            Decided::Possible
+            Decided::Possible(splits)
         }
     }
 }

@@ -20,7 +20,7 @@ use Rattle.searching.specs.Search.{foundOf}
 use Rattle.counting.specs.Count.{atMost, stepsFrom, foundBy, Tallied}
 use Rattle.counting.specs.declared.Tally.{Tally}
 use Rattle.counting.specs.declared.Tally.the-variants.{Open, Closed as Shut}
-use Rattle.counting.proofs.Counts.{most-under, most-over, most-low}
+use Rattle.calculus.proofs.Limits.{most-under, most-over, most-low}
 use Rattle.emitting.specs.Trace.{Fits, written}
 use Rattle.deriving.specs.Derives.{given, row31, produced, Produced}
 use Rattle.deriving.specs.declared.Derived.the-variants.{Steps, Refused}

@@ -12,7 +12,7 @@ use Rattle.rules.specs.declared.Step.{Step}
 use Rattle.rules.specs.declared.Version.{Version}
 use Rattle.rules.specs.Steps.{U, C, S, G as name}
 use Rattle.rules.specs.Derivation.{removals, inOne, removed, stepsOf, namedSteps}
-use Rattle.asking.proofs.Same.{clauses-same, search-same}
+use Rattle.calculus.proofs.Same.{clauses-same, search-same}
 
 module _ (v : Version) (n : ℕ) (t u : ℕ → Node) (same : (i : ℕ) → i < n → t i ≡ u i) (goals : List ℕ) where
   removed-same : (G : List ℕ) → Good n G → (k : ℕ) → removed v (expand t) goals G k ≡ removed v (expand u) goals G k

@@ -4,14 +4,12 @@ use mathlib.Core.Bool.{Bool, true, false, cond}
 use mathlib.Core.List.{List, [], _∷_, _++_}
 use Prim.Native.Nat.{ℕ, zero, suc, _+_, _-_, _*_, _/_, _%_, _<_, _≤_}
 use native.Mathlib.Omega.{arith}
-use native.Mathlib.Decide.{ℕ-discrete}
 use lib.Dec.{ltb}
 use lib.ListN.{length, getD}
-use borrow.Author.Tests.{ne-eqb, lt-ltb}
+use borrow.Author.Tests.{lt-ltb}
 use Rattle.scope.specs.declared.Node.{Node}
 use Rattle.calculus.specs.Expansion.{neg, expand}
 use Rattle.calculus.specs.Order.{Value, holds, fails, undecided, valueOf, clauses, move}
-use Rattle.calculus.specs.Model.{Below}
 use Rattle.calculus.specs.declared.Move.the-variants.{Conflict, Unit as Single, Split}
 use Rattle.rules.specs.declared.Version.{Version}
 use Rattle.rules.specs.declared.Version.the-variants.{One, Two}
@@ -20,6 +18,7 @@ use Rattle.rules.specs.Rules.{isFails}
 use Rattle.rules.specs.Derivation.{removals, removed, stepsOf}
 use Rattle.clause.specs.declared.Clause.{Clause}
 use Rattle.clause.specs.Literals.{literals}
+use Rattle.clause.proofs.Lengths.{by-length}
 use Rattle.state.specs.Work.{gOf, valueCode}
 use Rattle.moves.specs.Place.{Placed, Reasoned}
 use Rattle.gather.specs.Kept.{positions, removalIf, removalsAt}
@@ -62,35 +61,8 @@ bit-low true G l = go (isFails (valueOf G l))
     go true = omega arith
     go false = omega arith
 
--- a clause by its length
-by-length : (c : Clause) (P : ℕ → List ℕ → Type 0) → P 0 [] → P 1 (c .first ∷ []) → P 2 (c .first ∷ c .second ∷ [])
-    → ((m : ℕ) → 2 < m → P m (c .first ∷ c .second ∷ c .third ∷ [])) → P (c .len) (literals c)
-by-length c P none one two three = go (ℕ-discrete (c .len) 0) (ℕ-discrete (c .len) 1) (ℕ-discrete (c .len) 2)
-  where
-    go : Dec (c .len ≡ 0) → Dec (c .len ≡ 1) → Dec (c .len ≡ 2) → P (c .len) (literals c)
-    go (yes e) y z = rw e none
-    go (no a) (yes e) z = rw e one
-    go (no a) (no b) (yes e) = rw e two
-    go (no a) (no b) (no d) = rw (ne-eqb (c .len) 0 a, ne-eqb (c .len) 1 b, ne-eqb (c .len) 2 d) (three (c .len) (omega (arith, a, b, d)))
-
 pub few-literals : (c : Clause) → length (literals c) ≤ positions
 few-literals c = by-length c (λ (m : ℕ) (ls : List ℕ). length ls ≤ positions) (omega arith) (omega arith) (omega arith) (λ m h. omega arith)
-
--- the literals that it has are of its own
-module _ (n : ℕ) (c : Clause) where
-  pub first-below : Below n (literals c) → 0 < c .len → c .first < 2 * n
-  first-below =
-      by-length c (λ (m : ℕ) (ls : List ℕ). Below n ls → 0 < m → c .first < 2 * n) (λ b h. absurd (omega arith)) (λ b h. b .0) (λ b h. b .0) (λ m k b h. b .0)
-
-  pub second-below : Below n (literals c) → 1 < c .len → c .second < 2 * n
-  second-below =
-      by-length c (λ (m : ℕ) (ls : List ℕ). Below n ls → 1 < m → c .second < 2 * n) (λ b h. absurd (omega arith)) (λ b h. absurd (omega arith))
-      (λ b h. b .1 .0) (λ m k b h. b .1 .0)
-
-  pub third-below : Below n (literals c) → 2 < c .len → c .third < 2 * n
-  third-below =
-      by-length c (λ (m : ℕ) (ls : List ℕ). Below n ls → 2 < m → c .third < 2 * n) (λ b h. absurd (omega arith)) (λ b h. absurd (omega arith))
-      (λ b h. absurd (omega arith)) (λ m k b h. b .1 .1 .0)
 
 -- its bits, position by position
 pub bits-of : (G : List ℕ) (c : Clause) {a b d : ℕ} → a ≡ cond (ltb 0 (c .len)) (falseBit G (c .first)) 0 → b ≡ cond (ltb 1 (c .len)) (falseBit G (c .second)) 0

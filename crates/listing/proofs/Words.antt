@@ -1,5 +1,5 @@
 -- A goal's word is that of decide's answer, a node's line has its words, and a table's listing its lines. Assumes nothing.
-use mathlib.Core.Path.{_≡_, _∙_, refl, sym}
+use mathlib.Core.Path.{_≡_, _∙_, refl, sym, ap}
 use mathlib.Core.List.{List, [], _∷_, _++_}
 use Prim.Native.Nat.{ℕ, _+_, _*_, _≤_}
 use native.Mathlib.Omega.{arith}
@@ -10,31 +10,38 @@ use Rattle.scope.specs.Table.{decode}
 use Rattle.scope.specs.Calls.{tableCount}
 use Rattle.scope.proofs.Tests.{refused-no, bound}
 use Rattle.calculus.specs.Order.{Answer, possible, impossible, unfinished, answerOf}
-use Rattle.calculus.specs.Decide.{searchOf, decide}
+use Rattle.calculus.specs.Decide.{searchOf, decided, decide}
 use Rattle.calculus.proofs.Asked.{list-fine, asked-fine}
 use Rattle.deciding.specs.declared.Decided.{Decided}
 use Rattle.deciding.specs.declared.Decided.the-variants.{Possible, Impossible, Refused}
-use Rattle.deciding.specs.Decides.{decidedOf, wordOf}
+use Rattle.deciding.specs.Decides.{wordOf, saidOf, decidedOf, Decides}
 use Rattle.text.specs.Text.{ascii, decimal, refusedLine}
 use Rattle.text.specs.Listing.{wordFor, answerWord, heading, nodeLine, nodeLines, listed, listing}
 use Rattle.listing.specs.Lines.{decidedWord, Judged}
 
-same-word : (r : Decided) (a : Answer) → decidedOf r ≡ answer (wordOf a) → decidedWord r ≡ wordFor a
-same-word Possible (possible G) e = refl
-same-word Possible impossible e = absurd (let z : _≡_ {A = ℕ} 0 1 = cc in omega arith)
-same-word Possible unfinished e = absurd (let z : _≡_ {A = ℕ} 0 1 = cc in omega arith)
-same-word Impossible (possible G) e = absurd (let z : _≡_ {A = ℕ} 0 1 = cc in omega arith)
-same-word Impossible impossible e = refl
-same-word Impossible unfinished e = absurd (let z : _≡_ {A = ℕ} 0 1 = cc in omega arith)
+same-word : (r : Decided) (a : Answer) → (decidedOf r >>= λ x. answer (x .word)) ≡ answer (wordOf a) → decidedWord r ≡ wordFor a
+same-word (Possible n) (possible G) e = refl
+same-word (Possible n) impossible e = absurd (let z : _≡_ {A = ℕ} 0 1 = cc in omega arith)
+same-word (Possible n) unfinished e = absurd (let z : _≡_ {A = ℕ} 0 1 = cc in omega arith)
+same-word (Impossible n) (possible G) e = absurd (let z : _≡_ {A = ℕ} 0 1 = cc in omega arith)
+same-word (Impossible n) impossible e = refl
+same-word (Impossible n) unfinished e = absurd (let z : _≡_ {A = ℕ} 0 1 = cc in omega arith)
 same-word (Refused f) a e = absurd (let z : _≡_ {A = ℕ} 0 1 = cc in omega arith)
 
 -- buffers that are long enough
-pub judged : (t : List ℕ) {goal l : ℕ} → l ≡ goal → (s w : List ℕ) (r : Decided) → 1024 ≤ length s → 32768 ≤ length w
-    → decidedOf r ≡ (decide t (l ∷ []) s w >>= λ d. answer (wordOf (d .verdict))) → Judged t goal r
+pub judged : (t : List ℕ) {goal l : ℕ} → l ≡ goal → (s w s′ w′ : List ℕ) (r : Decided) → 1024 ≤ length s → 32768 ≤ length w
+    → Decides t (l ∷ []) s w s′ w′ r → Judged t goal r
 unfolding decide
-judged t {goal} z s w r points area e rs reads inside =
-    same-word r (answerOf (searchOf rs (goal ∷ [])))
-    (e ∙ rw (z, asked-fine t (goal ∷ []) 1024 (length s) (length w) reads (record { list = list-fine (goal ∷ []) (omega arith) (omega arith); below = (inside, tt); settings = points; work = area })))
+judged t {goal} {l} z s w s′ w′ r points area h rs reads inside =
+    let e : decide t (l ∷ []) s w ≡ answer (decided rs (l ∷ []) s) =
+    rw (z, asked-fine t (goal ∷ []) 1024 (length s) (length w) reads (record { list = list-fine (goal ∷ []) (omega arith) (omega arith); below = (inside, tt); settings = points; work = area })) in
+    let q = h .plain (decided rs (l ∷ []) s) e in
+    let read : decode t ≡ answer (q .0) = q .1 in
+    let same : q .0 ≡ rs = cc in
+    let v : decided rs (l ∷ []) s .verdict ≡ answerOf (searchOf rs (goal ∷ [])) = q .2 .verdict ∙ rw (same, z) in
+    let said : decidedOf r ≡ answer (saidOf (decided rs (l ∷ []) s)) = h .answered ∙ rw e in
+    same-word r (decided rs (l ∷ []) s .verdict) (ap (_>>= λ x. answer (x .word)) said)
+    ∙ ap wordFor v
 
 -- a node's line, of the words of its two literals
 pub line-of : (rs : List Node) (n : ℕ) {yes no : List ℕ} → yes ≡ answerWord rs (2 * n) → no ≡ answerWord rs (2 * n + 1)

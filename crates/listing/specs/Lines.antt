@@ -13,8 +13,8 @@ use Rattle.text.specs.Listing.{answerWord, nodeLine, nodeLines}
 
 -- the word of what decide answers; a refusal has none
 abbrev pub decidedWord : Decided → List ℕ
-decidedWord Possible = ascii "possible"
-decidedWord Impossible = ascii "impossible"
+decidedWord (Possible n) = ascii "possible"
+decidedWord (Impossible n) = ascii "impossible"
 decidedWord (Refused f) = []
 
 -- a goal of a readable table has its answer's word

@@ -47,8 +47,8 @@ fn word(out: &mut [u8], at: usize, d: Decided) -> usize
     ensures { λ r. ⌜ Worded (now (out .entry)) at (decidedWord d) (now (out .exit)) r ⌝ }
 {
     match d {
-        Decided::Possible => text::put(out, at, b"possible"),
-        Decided::Impossible => text::put(out, at, b"impossible"),
+        Decided::Possible(_) => text::put(out, at, b"possible"),
+        Decided::Impossible(_) => text::put(out, at, b"impossible"),
         Decided::Refused(_) => at,
     }
 }

@@ -1,8 +1,10 @@
 -- 01, 'Samples': each item as a row of one table, and what a row claims of the definitions. Assumes nothing.
 use mathlib.Core.Path.{_≡_}
+use mathlib.Core.Bool.{cond}
 use mathlib.Core.List.{List, [], _∷_, _++_}
-use Prim.Native.Nat.{ℕ, _≤_}
+use Prim.Native.Nat.{ℕ, suc, _≤_}
 use Prim.Native.String.{String}
+use lib.Dec.{eqb}
 use lib.ListN.{length, getD, drop}
 use Rattle.scope.specs.declared.Node.{Node}
 use Rattle.scope.specs.Outcome.{Outcome, answer, refused, fine}
@@ -82,10 +84,15 @@ abbrev pub Finds : ℕ → ℕ → Outcome Decided → Type 0
 Finds p q (refused number place) = ⊥
 Finds p q (answer d) = (G : List ℕ) × (d .verdict ≡ found G) × (getD (d .settings) 0 0 ≡ p) × (getD (d .settings) 1 0 ≡ q)
 
--- the work area and the other buffers are any that are long enough
+-- the splits of a derivation: 'S for each .. SPLIT'
+abbrev pub splitsIn : List Step → ℕ
+splitsIn [] = 0
+splitsIn (s ∷ ss) = cond (eqb (s .rule) 83) (suc (splitsIn ss)) (splitsIn ss)
+
+-- the work area and the other buffers are any that are long enough; decide makes the splits of the plain order, none of which is skipped
 pub record Derived (v : Version) (goal : ℕ) (ss : List Step) : Type 0 where
   pub verdict : (s w : List ℕ) → 1024 ≤ length s → 32768 ≤ length w
-      → decide tableA (goal ∷ []) s w ≡ answer (record { verdict = impossible; settings = s })
+      → decide tableA (goal ∷ []) s w ≡ answer (record { verdict = impossible; settings = s; splits = splitsIn ss })
   pub derivation : (w d : List ℕ) → 32768 ≤ length w → 512 ≤ length d
       → derive v tableA (goal ∷ []) w d ≡ answer (record { steps = length ss; bytes = encodeSteps v ss ++ drop 512 d })
   pub accepted : (w : List ℕ) → 32768 ≤ length w → check tableA (goal ∷ []) w (encodeSteps v ss) ≡ fine

@@ -1,6 +1,6 @@
 -- What the search's contracts come to at each return, over the lists of literals held. Assumes nothing.
 use mathlib.Core.Path.{_≡_, refl, sym, ap, _∙_}
-use mathlib.Core.List.{List, [], _∷_}
+use mathlib.Core.List.{List, _∷_}
 use Prim.Native.Nat.{ℕ, zero, suc, _+_, _-_, _<_}
 use native.Mathlib.Omega.{arith}
 use lib.ListN.{length, drop}
@@ -16,7 +16,8 @@ use Rattle.calculus.proofs.Count.{room}
 use Rattle.calculus.proofs.Fresh.{unit-fresh, split-fresh}
 use Rattle.state.specs.Work.{gOf}
 use Rattle.state.specs.Holds.{Holds, Splits}
-use Rattle.searching.specs.Search.{result, Extends, foundOf, Settled, Searched, Solved}
+use Rattle.moves.specs.Place.{placeNumber, Placed}
+use Rattle.searching.specs.Search.{result, Extends, foundOf, Settled, Searched}
 use Rattle.searching.specs.declared.Stop.{Stop}
 use Rattle.searching.specs.declared.Stop.the-variants.{Closed as Shut, Model as Open, Fork}
 use Rattle.searching.specs.declared.Found.{Found}
@@ -87,6 +88,10 @@ module _ (t : ℕ → Node) (goals G : List ℕ) where
       pub result-split : {l : ℕ} → move (expand t) goals G ≡ Split l → result t n goals G ≡ orElse (result t n goals (l ∷ G)) (result t n goals (neg l ∷ G))
       unfolding answerOf
       result-split e = rw (fuel, tree-split (n - suc (length G)) e)
+
+-- the place that is kept is that of its own number
+pub placed-there : {t : ℕ → Node} {goals w : List ℕ} {k : ℕ} → Placed t goals w k → Placed t goals w (placeNumber w)
+placed-there p = rw (p .number) p
 
 -- ---- cases that are apart
 
@@ -249,12 +254,3 @@ module _ {t : ℕ → Node} {n : ℕ} {goals w w₁ m₁ : List ℕ} {r : Stop} 
         grows = fork-grows forked d (b .grows);
         answered = b .answered ∙ ap (result t n goals) d ∙ rw p at branches;
       }
-
--- from nothing held, with as much fuel as there are nodes
-pub solved : {t : ℕ → Node} {n : ℕ} {goals w w′ m′ : List ℕ} {r : Found} → gOf w ≡ [] → Searched t n goals w w′ m′ r → Solved t n goals w′ r
-solved {t} {n} {goals} z f =
-    let n0 : n - 0 ≡ n = omega arith in
-    record {
-      ready = f .holds .ready;
-      answered = f .answered ∙ ap (result t n goals) z ∙ ap (λ (k : ℕ). answerOf (tree (expand t) goals k [])) n0;
-    }

@@ -1,2 +1,3 @@
 -- What the search's functions leave. Assumes nothing.
 pub mod Search
+pub mod Jumps

@@ -1,14 +1,20 @@
 // The search: recursive, a call for each branch of a split, so the number of undecided nodes falls at each call. The work area is carried
-// along, and taken back to a split before its right branch.
+// along, and taken back to a split before its right branch. Each literal held, and the last conflict, has the set of the splits that it
+// rests on: a right branch is skipped where the left one's conflict does not rest on the split.
 use calculus::Move;
-ghost use Prim.Native.Nat.{_≤_};
+ghost use mathlib.Core.Path.{_≡_};
+ghost use Prim.Native.Nat.{suc, _+_, _≤_};
 ghost use lib.ListN.{length};
 ghost use Rattle.calculus.specs.Model.{Goals};
+ghost use Rattle.calculus.specs.Jump.{stopped};
 ghost use Rattle.index.specs.Index.{indexNode};
 ghost use Rattle.index.specs.Indexed.{Indexed};
-ghost use Rattle.state.specs.Work.{area};
+ghost use Rattle.clause.specs.Templates.{rows};
+ghost use Rattle.state.specs.Work.{area, gOf};
 ghost use Rattle.state.specs.Holds.{Holds};
-ghost use Rattle.searching.specs.Search.{Settled, Searched, Solved};
+ghost use Rattle.rests.specs.Words.{Sets};
+ghost use Rattle.searching.specs.Search.{Solved};
+ghost use Rattle.searching.specs.Jumps.{Propagated, withLeft, Jumps, Counted};
 
 // Where the units end: at a conflict, at a model, or at a split on a literal.
 pub enum Stop {
@@ -23,20 +29,45 @@ pub enum Found {
     Closed,
 }
 
+// The same, with the splits made.
+pub enum Ended {
+    Model(u32),
+    Closed(u32),
+}
+
+// The slot of what the last conflict rests on.
+const CONFLICT: usize = 2017;
+
+// The count of splits stops here.
+const MOST: u64 = 4294967295;
+
 // The units join, one after another, up to another move.
-fn propagate(x: &[u16], n: usize, goals: &[u16], work: &mut [u16], masks: &mut [u64]) -> Stop
+fn propagate(
+    templates: &[[u8; 9]; 14],
+    x: &[u16],
+    n: usize,
+    goals: &[u16],
+    work: &mut [u16],
+    masks: &mut [u64],
+    rests: &mut [u64],
+) -> Stop
+    requires { ⌜ now templates ≡ rows ⌝ }
     requires { ⌜ Indexed (now x) n ⌝ }
     requires { ⌜ Goals n (now goals) ⌝ }
     requires { ⌜ Holds (indexNode (now x)) n (now goals) (now work) (now masks) ⌝ }
-    ensures { λ r. ⌜ Settled (indexNode (now (x .entry))) n (now (goals .entry)) (now (work .entry)) (now (work .exit)) (now (masks .exit)) r ⌝ }
+    requires { ⌜ Sets (now rests) ⌝ }
+    ensures { λ r. ⌜ Propagated (indexNode (now (x .entry))) n (now (goals .entry)) (now (work .entry)) (now (rests .entry)) (now (work .exit)) (now (masks .exit)) (now (rests .exit)) r ⌝ }
 {
     loop {
         let m = moves::next_move(x, n, goals, work, masks);
         match m {
             Move::Conflict(_) => {
+                grounds::put_clause(templates, x, n, goals, work, rests, CONFLICT);
                 return Stop::Closed;
             }
             Move::Unit(_, l) => {
+                let slot = state::count(work) as usize + 1;
+                grounds::put_clause(templates, x, n, goals, work, rests, slot);
                 solver::assume(x, n, goals, work, masks, l);
             }
             Move::Done => {
@@ -49,32 +80,86 @@ fn propagate(x: &[u16], n: usize, goals: &[u16], work: &mut [u16], masks: &mut [
     }
 }
 
-// The search from the literals held, which stay held: a model, or every branch closes. What joined is taken back only before a right
-// branch.
-pub fn search(x: &[u16], n: usize, goals: &[u16], work: &mut [u16], masks: &mut [u64]) -> Found
+// The split itself with those of both sides, stopping at the most.
+fn one_more(left: u32, right: u32) -> u32
+    ensures { λ r. ⌜ r ≡ stopped (suc (left + right)) ⌝ }
+{
+    let made = left as u64 + right as u64 + 1;
+    if made < MOST {
+        made as u32
+    } else {
+        MOST as u32
+    }
+}
+
+// How the right side ended, with the splits of both sides.
+fn with_left(left: u32, right: Ended) -> Ended
+    ensures { λ r. ⌜ r ≡ withLeft left right ⌝ }
+{
+    match right {
+        Ended::Model(s) => Ended::Model(one_more(left, s)),
+        Ended::Closed(s) => Ended::Closed(one_more(left, s)),
+    }
+}
+
+// The search from the literals held, which stay held, with d splits on the branch: a model, or every branch closes, and the last
+// conflict's slot has what that rests on. What joined is taken back only before a right branch.
+fn search(
+    templates: &[[u8; 9]; 14],
+    x: &[u16],
+    n: usize,
+    goals: &[u16],
+    work: &mut [u16],
+    masks: &mut [u64],
+    rests: &mut [u64],
+    d: usize,
+) -> Ended
+    requires { ⌜ now templates ≡ rows ⌝ }
     requires { ⌜ Indexed (now x) n ⌝ }
     requires { ⌜ Goals n (now goals) ⌝ }
     requires { ⌜ Holds (indexNode (now x)) n (now goals) (now work) (now masks) ⌝ }
-    ensures { λ r. ⌜ Searched (indexNode (now (x .entry))) n (now (goals .entry)) (now (work .entry)) (now (work .exit)) (now (masks .exit)) r ⌝ }
+    requires { ⌜ Sets (now rests) × (d ≤ length (gOf (now work))) ⌝ }
+    ensures { λ r. ⌜ Jumps (indexNode (now (x .entry))) n (now (goals .entry)) d (now (work .entry)) (now (rests .entry)) (now (work .exit)) (now (masks .exit)) (now (rests .exit)) r ⌝ }
 {
-    let stop = propagate(x, n, goals, work, masks);
+    let stop = propagate(templates, x, n, goals, work, masks, rests);
     match stop {
-        Stop::Closed => Found::Closed,
-        Stop::Model => Found::Model,
+        Stop::Closed => Ended::Closed(0),
+        Stop::Model => Ended::Model(0),
         Stop::Fork(l) => {
             let held = state::count(work);
+            let slot = held as usize + 1;
+            rests::put_only(rests, slot, d);
             solver::assume(x, n, goals, work, masks, l);
-            let left = search(x, n, goals, work, masks);
+            let left = search(templates, x, n, goals, work, masks, rests, d + 1);
             match left {
-                Found::Model => Found::Model,
-                Found::Closed => {
+                Ended::Model(s) => Ended::Model(one_more(s, 0)),
+                Ended::Closed(s) => {
+                    if rests::without(rests, CONFLICT, d) {
+                        return Ended::Closed(one_more(s, 0));
+                    }
                     solver::undo_to(x, n, goals, work, masks, held);
+                    rests::put_less(rests, slot, CONFLICT, d);
                     solver::assume(x, n, goals, work, masks, clause::negated(l));
-                    search(x, n, goals, work, masks)
+                    let right = search(templates, x, n, goals, work, masks, rests, d + 1);
+                    with_left(s, right)
                 }
             }
         }
     }
+}
+
+// A question put from the start: whether the goals have a model, which the work area then holds, and the splits made.
+pub fn solve_counted(x: &[u16], n: usize, goals: &[u16], work: &mut [u16]) -> Ended
+    requires { ⌜ Indexed (now x) n ⌝ }
+    requires { ⌜ Goals n (now goals) ⌝ }
+    requires { ⌜ area ≤ length (now work) ⌝ }
+    ensures { λ r. ⌜ Counted (indexNode (now (x .entry))) n (now (goals .entry)) (now (work .exit)) r ⌝ }
+{
+    let mut masks = [0u64; 33];
+    solver::start(x, n, goals, work, &mut masks);
+    let templates = clause::templates();
+    let mut rests = [0u64; 4036];
+    search(&templates, x, n, goals, work, &mut masks, &mut rests, 0)
 }
 
 // A question put from the start: whether the goals have a model, which the work area then holds.
@@ -84,7 +169,9 @@ pub fn solve(x: &[u16], n: usize, goals: &[u16], work: &mut [u16]) -> Found
     requires { ⌜ area ≤ length (now work) ⌝ }
     ensures { λ r. ⌜ Solved (indexNode (now (x .entry))) n (now (goals .entry)) (now (work .exit)) r ⌝ }
 {
-    let mut masks = [0u64; 33];
-    solver::start(x, n, goals, work, &mut masks);
-    search(x, n, goals, work, &mut masks)
+    let e = solve_counted(x, n, goals, work);
+    match e {
+        Ended::Model(_) => Found::Model,
+        Ended::Closed(_) => Found::Closed,
+    }
 }

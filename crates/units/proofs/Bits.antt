@@ -10,11 +10,11 @@ use Rattle.units.specs.Units.{bit}
 
 -- ---- the lowest bit, and the others as bits of the half
 
-bit-zero : (x : ℕ) → bit x 0 ≡ x % 2
+pub bit-zero : (x : ℕ) → bit x 0 ≡ x % 2
 unfolding bit
 bit-zero x = ap (λ (y : ℕ). y % 2) (div-one x)
 
-bit-suc : (x j : ℕ) → bit x (suc j) ≡ bit (x / 2) j
+pub bit-suc : (x j : ℕ) → bit x (suc j) ≡ bit (x / 2) j
 unfolding bit
 bit-suc x j = ap (λ (y : ℕ). x / 2 ^ y % 2) (sym (one-add j)) ∙ sym (ap (λ (y : ℕ). y % 2) (shr-shr x 1 j))
 

@@ -2,7 +2,7 @@
 use Prim.Native.Nat.{_+_}
 use native.Mathlib.Omega.{arith}
 use borrow.Author.Needs.{needs}
-use Rattle.counting.proofs.Counts.{most-under, most-over}
+use Rattle.calculus.proofs.Limits.{most-under, most-over}
 use Rattle.counting.proofs.capped.Statement.{statement}
 use Rattle.counting.proofs.capped.Tie as tie
 

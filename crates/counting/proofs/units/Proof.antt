@@ -7,8 +7,8 @@ use lib.ListN.{length}
 use borrow.Author.Needs.{needs}
 use Rattle.index.specs.Index.{indexNode}
 use Rattle.state.specs.Work.{gOf}
-use Rattle.searching.proofs.Searches.{looked, run-fresh, run-room}
-use Rattle.counting.proofs.Counts.{sized-on, placed-there, Counting, counting-starts, counting-looked, counting-conflict, counting-done, counting-split, counting-unit}
+use Rattle.searching.proofs.Searches.{placed-there, looked, run-fresh, run-room}
+use Rattle.counting.proofs.Counts.{sized-on, Counting, counting-starts, counting-looked, counting-conflict, counting-done, counting-split, counting-unit}
 use Rattle.counting.proofs.units.Statement.{statement}
 use Rattle.counting.proofs.units.Tie as tie
 

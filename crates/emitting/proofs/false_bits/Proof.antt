@@ -2,7 +2,8 @@
 use native.Mathlib.Omega.{arith}
 use lib.Dec.{ltb}
 use Rattle.state.specs.Work.{gOf}
-use Rattle.emitting.proofs.Steps.{bit-low, first-below, second-below, third-below, bits-of}
+use Rattle.clause.proofs.Lengths.{first-below, second-below, third-below}
+use Rattle.emitting.proofs.Steps.{bit-low, bits-of}
 use Rattle.emitting.proofs.false_bits.Statement.{statement}
 use Rattle.emitting.proofs.false_bits.Tie as tie
 

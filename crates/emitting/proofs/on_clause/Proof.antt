@@ -3,7 +3,7 @@
 use borrow.Author.Needs.{needs}
 use Rattle.index.specs.Index.{indexNode}
 use Rattle.state.specs.Work.{gOf}
-use Rattle.counting.proofs.Counts.{placed-there}
+use Rattle.searching.proofs.Searches.{placed-there}
 use Rattle.emitting.proofs.Steps.{removed-is, removed-none}
 use Rattle.emitting.proofs.on_clause.Statement.{statement}
 use Rattle.emitting.proofs.on_clause.Tie as tie

@@ -21,7 +21,7 @@ decide-requires c κs = search needs
 
 returns : tie.Need-returns
 returns c =
-    judged _ (c .before .before .before .before .before .before .literal .ensures) _ _ (c .before .before .decide .result) (search needs) (search needs) (c .before .before .decide .ensures .answered)
+    judged _ (c .before .before .before .before .before .before .literal .ensures) _ _ _ _ (c .before .before .decide .result) (search needs) (search needs) (c .before .before .decide .ensures)
 
 pub verdict-spec : {M : Type 1} → statement M
 verdict-spec =

@@ -1,36 +1,46 @@
--- `searching::solve` meets its contract: what the search comes to from the start is the answer of the whole tree. Assumes nothing.
+-- `searching::solve` meets its contract: the search that jumps answers as the plain order does. Assumes nothing.
+use Rattle.searching.proofs.Jumps.{solved-plain}
+use Rattle.searching.specs.Jumps.{foundBy}
+use mathlib.Core.Path.{sym, ap}
 use borrow.Author.Needs.{needs}
-use Rattle.searching.proofs.Searches.{solved}
 use Rattle.searching.proofs.solve.Statement.{statement}
 use Rattle.searching.proofs.solve.Tie as tie
 
-slice-aggregate-start : tie.Need-slice-aggregate-start
-slice-aggregate-start c = search needs
+solve-counted-requires : tie.Need-solve-counted-requires
+solve-counted-requires c κs = search needs
 
-start-requires : tie.Need-start-requires
-start-requires c κs = search needs
+enum-told : tie.Need-enum-told
+enum-told c = search needs
 
-slice-aggregate-search : tie.Need-slice-aggregate-search
-slice-aggregate-search c = search needs
-
-search-requires : tie.Need-search-requires
-search-requires c κs = search needs
+enum-told-2 : tie.Need-enum-told-2
+enum-told-2 c = search needs
 
 same-length : tie.Need-same-length
 same-length c = search needs
 
 returns : tie.Need-returns
 returns c =
-    let k = c .before .before .before in
-    solved (k .before .before .before .before .before .before .start .ensures .1) (k .search .ensures)
+    let k = c .before .before .before .before in
+    let p = k .before .before .before .before .before .pre in
+    solved-plain (p .0 .table) (p .1 .0 .below) (k .solve-counted .ensures) (sym (ap foundBy (c .enum-told .given .1)))
+
+same-length-2 : tie.Need-same-length-2
+same-length-2 c = search needs
+
+returns-2 : tie.Need-returns-2
+returns-2 c =
+    let k = c .before .before .before .before in
+    let p = k .before .before .before .before .before .pre in
+    solved-plain (p .0 .table) (p .1 .0 .below) (k .solve-counted .ensures) (sym (ap foundBy (c .enum-told2 .given .1)))
 
 pub solve-spec : {M : Type 1} → statement M
 solve-spec =
     tie.close
     (tie.spec
-    slice-aggregate-start
-    start-requires
-    slice-aggregate-search
-    search-requires
+    solve-counted-requires
+    enum-told
+    enum-told-2
     same-length
-    returns)
+    returns
+    same-length-2
+    returns-2)

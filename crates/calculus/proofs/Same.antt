@@ -29,7 +29,7 @@ module _ (n : ℕ) (t u : ℕ → Node) (same : (i : ℕ) → i < n → t i ≡ 
     clauses-same [] g = refl
     clauses-same (l ∷ G) g = rw (clauses-same G (g .1), expand-same l (g .0 .0))
 
-    move-same : (G : List ℕ) → Good n G → move (expand t) goals G ≡ move (expand u) goals G
+    pub move-same : (G : List ℕ) → Good n G → move (expand t) goals G ≡ move (expand u) goals G
     unfolding move
     move-same G g = rw (clauses-same G g)
 

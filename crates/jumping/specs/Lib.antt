@@ -1,0 +1,2 @@
+-- The search that jumps over splits, run on a sample. Assumes nothing.
+pub mod Samples

@@ -1,0 +1,63 @@
+-- The literals held with what they rest on, as words have it. Assumes nothing.
+use mathlib.Core.Path.{_≡_, refl, ap, ap₂, _∙_, fun-ext}
+use mathlib.Core.Bool.{false, _&&_}
+use mathlib.Core.List.{List, [], _∷_}
+use Prim.Native.Nat.{ℕ, suc, _+_, _*_, _/_, _%_, _<_}
+use native.Mathlib.Omega.{arith}
+use native.Mathlib.Decide.{decLt}
+use lib.Dec.{eqb, ltb}
+use lib.ListN.{length, getD, replicate, length-replicate, getD-replicate}
+use borrow.Author.Tests.{lt-ltb, le-ltb}
+use Rattle.calculus.specs.Jump.{Rests, both, Held, hold, literals}
+use Rattle.units.specs.Units.{bit}
+use Rattle.units.proofs.Bits.{bit-none}
+use Rattle.rests.specs.Words.{restAt, Put, Sets, setsSize, SameTo, heldOf}
+
+pub held-literals : (m G : List ℕ) → literals (heldOf m G) ≡ G
+unfolding heldOf
+held-literals m [] = refl
+held-literals m (l ∷ G) = ap (l ∷_) (held-literals m G)
+
+-- they are read off the slots of their positions
+pub held-same : (m m′ G : List ℕ) → SameTo (length G) m m′ → heldOf m′ G ≡ heldOf m G
+unfolding heldOf
+held-same m m′ [] h = refl
+held-same m m′ (l ∷ G) h =
+    ap₂ (λ (s : Rests) (H : List Held). hold l s ∷ H) (h (suc (length G)) (omega arith)) (held-same m m′ G (λ q b. h q (omega arith)))
+
+pub put-same : {m m′ : List ℕ} {p : ℕ} {s : Rests} → Put m p s m′ → (k : ℕ) → k < p → SameTo k m m′
+put-same u k h q b = u .other q (λ e. omega arith)
+
+pub put-sets : {m m′ : List ℕ} {p : ℕ} {s : Rests} → Sets m → Put m p s m′ → 0 < p → Sets m′
+put-sets h u b = record { size = u .size ∙ h .size; none = u .other 0 (λ e. omega arith) ∙ h .none }
+
+-- the set of an earlier slot joins what is at slot q
+put-more : {m m₁ m₂ : List ℕ} {q : ℕ} {s : Rests} (a : ℕ) → a < q → Put m q s m₁ → Put m₁ q (both (restAt m₁ a) (restAt m₁ q)) m₂ → Put m q (both (restAt m a) s) m₂
+put-more a h u v = record {
+  size = v .size ∙ u .size;
+  here = v .here ∙ ap₂ both (u .other a (λ e. omega arith)) (u .here);
+  other = λ p n. v .other p n ∙ u .other p n;
+}
+
+pub put-four : {m m₁ m₂ m₃ : List ℕ} {q : ℕ} (a b c d : ℕ) → a < q → b < q → Put m q (both (restAt m c) (restAt m d)) m₁
+    → Put m₁ q (both (restAt m₁ b) (restAt m₁ q)) m₂ → Put m₂ q (both (restAt m₂ a) (restAt m₂ q)) m₃
+    → Put m q (both (restAt m a) (both (restAt m b) (both (restAt m c) (restAt m d)))) m₃
+put-four a b c d g h u v w = put-more a g (put-more b h u v) w
+
+-- a literal joins, with the set that was put at its slot
+pub held-joined : {m m′ : List ℕ} {s : Rests} (G : List ℕ) (l : ℕ) → Put m (suc (length G)) s m′ → heldOf m′ (l ∷ G) ≡ hold l s ∷ heldOf m G
+unfolding heldOf
+held-joined {m} {m′} G l u =
+    ap₂ (λ (s : Rests) (H : List Held). hold l s ∷ H) (u .here) (held-same m m′ G (put-same u (length G) (omega arith)))
+
+-- no set has anything yet
+pub sets-blank : Sets (replicate setsSize 0)
+unfolding restAt
+sets-blank = record { size = length-replicate {A = ℕ} setsSize 0; none = fun-ext none }
+  where
+    none : (i : ℕ) → (ltb i 128 && eqb (bit (getD (replicate setsSize 0) (2 * 0 + i / 64) 0) (i % 64)) 1) ≡ false
+    none i = go (decLt i 128)
+      where
+        go : Dec (i < 128) → (ltb i 128 && eqb (bit (getD (replicate setsSize 0) (2 * 0 + i / 64) 0) (i % 64)) 1) ≡ false
+        go (yes h) = rw (lt-ltb i 128 h, getD-replicate {A = ℕ} setsSize (2 * 0 + i / 64) 0 0 (omega arith), bit-none (i % 64))
+        go (no h) = rw (le-ltb i 128 (omega (arith, h)))

@@ -1,0 +1,104 @@
+-- `rests::put_both` meets its contract. Assumes nothing.
+use Rattle.rests.proofs.Words.{put-both as law}
+use borrow.Author.Needs.{needs}
+use Rattle.rests.proofs.put_both.Statement.{statement}
+use Rattle.rests.proofs.put_both.Tie as tie
+
+mul-first : tie.Need-mul-first
+mul-first c = search needs
+
+mul-first-2 : tie.Need-mul-first-2
+mul-first-2 c = search needs
+
+slice-read-first : tie.Need-slice-read-first
+slice-read-first c = search needs
+
+mul-first-3 : tie.Need-mul-first-3
+mul-first-3 c = search needs
+
+mul-first-4 : tie.Need-mul-first-4
+mul-first-4 c = search needs
+
+slice-read-first-2 : tie.Need-slice-read-first-2
+slice-read-first-2 c = search needs
+
+mul-second : tie.Need-mul-second
+mul-second c = search needs
+
+add-second : tie.Need-add-second
+add-second c = search needs
+
+mul-second-2 : tie.Need-mul-second-2
+mul-second-2 c = search needs
+
+slice-read-second : tie.Need-slice-read-second
+slice-read-second c = search needs
+
+mul-second-3 : tie.Need-mul-second-3
+mul-second-3 c = search needs
+
+add-second-2 : tie.Need-add-second-2
+add-second-2 c = search needs
+
+mul-second-4 : tie.Need-mul-second-4
+mul-second-4 c = search needs
+
+slice-read-second-2 : tie.Need-slice-read-second-2
+slice-read-second-2 c = search needs
+
+mul-m : tie.Need-mul-m
+mul-m c = search needs
+
+mul-m-2 : tie.Need-mul-m-2
+mul-m-2 c = search needs
+
+slice-write-m : tie.Need-slice-write-m
+slice-write-m c = search needs
+
+mul-m-3 : tie.Need-mul-m-3
+mul-m-3 c = search needs
+
+add-m : tie.Need-add-m
+add-m c = search needs
+
+mul-m-4 : tie.Need-mul-m-4
+mul-m-4 c = search needs
+
+slice-write-m-2 : tie.Need-slice-write-m-2
+slice-write-m-2 c = search needs
+
+same-length : tie.Need-same-length
+same-length c = search needs
+
+returns : tie.Need-returns
+returns c =
+    let start = c .before .before .before .before in
+    law (start .args .m .now) (start .args .q) (start .pre .0) (start .args .p) (start .args .r)
+
+pub put-both-spec : {M : Type 1} → statement M
+put-both-spec =
+    tie.close
+    (tie.spec
+    mul-first
+    mul-first-2
+    slice-read-first
+    mul-first-3
+    mul-first-4
+    slice-read-first-2
+    mul-second
+    add-second
+    mul-second-2
+    slice-read-second
+    mul-second-3
+    add-second-2
+    mul-second-4
+    slice-read-second-2
+    mul-m
+    mul-m-2
+    slice-write-m
+    mul-m-3
+    add-m
+    mul-m-4
+    slice-write-m-2
+    same-length
+    returns)

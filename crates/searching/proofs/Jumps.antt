@@ -1,0 +1,377 @@
+-- What the contracts of the search that jumps come to at each return, over the literals held with their sets. Assumes nothing.
+use mathlib.Core.Path.{_≡_, refl, sym, ap, ap₂, _∙_}
+use mathlib.Core.List.{List, [], _∷_}
+use mathlib.Core.Bool.{Bool, true, false, not, _&&_}
+use Prim.Native.Nat.{ℕ, suc, _+_, _-_, _<_, _≤_}
+use native.Mathlib.Omega.{arith}
+use lib.Dec.{ltb}
+use lib.ListN.{length, getD}
+use borrow.Author.Tests.{lt-ltb}
+use Rattle.scope.specs.declared.Node.{Node}
+use Rattle.calculus.specs.Expansion.{neg, expand}
+use Rattle.calculus.specs.Order.{clauses, move}
+use Rattle.calculus.specs.Model.{Table, Below}
+use Rattle.calculus.specs.Jump.{Rests, only, less, Held, hold, literals, clauseRest, found, closed, Jumped, stop, sides, jump, endAnswer, stopped}
+use Rattle.calculus.specs.declared.Move.{Move}
+use Rattle.calculus.specs.declared.Move.the-variants.{Conflict, Unit as Single, Done, Split}
+use Rattle.calculus.proofs.Limits.{most-more}
+use Rattle.calculus.proofs.Count.{at-most}
+use Rattle.calculus.proofs.Moves.{conflict-clause, unit-clause}
+use Rattle.jumping.proofs.Moves.{jump-conflict, jump-done, jump-unit, jump-split}
+use Rattle.jumping.proofs.Answers.{same-answer}
+use Rattle.index.specs.Index.{mostNodes}
+use Rattle.state.specs.Work.{gOf}
+use Rattle.state.specs.Holds.{Holds}
+use Rattle.moves.specs.Place.{placeNumber}
+use Rattle.rests.specs.Words.{restAt, There, Put, Sets, conflictSlot, SameTo, heldOf}
+use Rattle.rests.proofs.Held.{held-literals, held-same, put-same, put-sets, held-joined}
+use Rattle.grounds.specs.Ground.{Grounded}
+use Rattle.grounds.proofs.Grounds.{unmet}
+use Rattle.searching.specs.Search.{Extends, foundOf, Solved}
+use Rattle.searching.specs.Jumps.{jumpedFrom, Propagated, endOf, madeBy, foundBy, withLeft, Jumps, Counted}
+use Rattle.searching.specs.declared.Stop.{Stop}
+use Rattle.searching.specs.declared.Stop.the-variants.{Closed as Shut, Model as Open, Fork}
+use Rattle.searching.specs.declared.Found.{Found}
+use Rattle.searching.specs.declared.Ended.{Ended}
+use Rattle.searching.specs.declared.Ended.the-variants.{Model, Closed}
+use Rattle.searching.proofs.Searches.{Run, run-starts, run-looked, run-room, run-unit, Forked, fork-room, fork-grows, shut-open, shut-fork, open-fork}
+
+-- ---- sets that stay
+
+same-self : (k : ℕ) (m : List ℕ) → SameTo k m m
+same-self k m q h = refl
+
+same-on : (k j : ℕ) (m m₁ m₂ : List ℕ) → k ≤ j → SameTo k m m₁ → SameTo j m₁ m₂ → SameTo k m m₂
+same-on k j m m₁ m₂ h a b q e = b q (omega arith) ∙ a q e
+
+-- ---- the search from G with its sets, by its next move
+
+module _ (t : ℕ → Node) (n : ℕ) (goals : List ℕ) (d : ℕ) (m G : List ℕ) where
+  moved : {v : Move} → move (expand t) goals G ≡ v → move (expand t) goals (literals (heldOf m G)) ≡ v
+  moved e = rw (held-literals m G) e
+
+  from-conflict : {k : ℕ} → move (expand t) goals G ≡ Conflict k → jumpedFrom t n goals d m G ≡ stop (closed (clauseRest (expand t) goals (heldOf m G) k))
+  from-conflict e = jump-conflict 128 (expand t) goals d (heldOf m G) (n - length G) (moved e)
+
+  from-done : move (expand t) goals G ≡ Done → jumpedFrom t n goals d m G ≡ stop (found G)
+  from-done e = jump-done 128 (expand t) goals d (heldOf m G) (n - length G) (moved e) ∙ ap (λ (F : List ℕ). stop (found F)) (held-literals m G)
+
+  module _ (h : length G < n) where
+    left-fuel : n - length G ≡ suc (n - suc (length G))
+    left-fuel = omega arith
+
+    from-unit : {k l : ℕ} {m′ : List ℕ} → move (expand t) goals G ≡ Single k l → Put m (suc (length G)) (clauseRest (expand t) goals (heldOf m G) k) m′
+        → jumpedFrom t n goals d m G ≡ jumpedFrom t n goals d m′ (l ∷ G)
+    from-unit {k} {l} e u =
+        ap (λ (f : ℕ). jump 128 (expand t) goals f d (heldOf m G)) left-fuel
+        ∙ jump-unit 128 (expand t) goals d (heldOf m G) (n - suc (length G)) (moved e)
+        ∙ ap (jump 128 (expand t) goals (n - suc (length G)) d) (sym (held-joined G l u))
+
+    from-split : {l : ℕ} → move (expand t) goals G ≡ Split l
+        → jumpedFrom t n goals d m G ≡ sides 128 d (jump 128 (expand t) goals (n - suc (length G)) (suc d) (hold l (only 128 d) ∷ heldOf m G))
+        (λ s. jump 128 (expand t) goals (n - suc (length G)) (suc d) (hold (neg l) (less d s) ∷ heldOf m G))
+    from-split e =
+        ap (λ (f : ℕ). jump 128 (expand t) goals f d (heldOf m G)) left-fuel
+        ∙ jump-split 128 (expand t) goals d (heldOf m G) (n - suc (length G)) (moved e)
+
+-- what is put past the literals held changes nothing
+from-put : (t : ℕ → Node) (n : ℕ) (goals : List ℕ) {m m′ : List ℕ} {p : ℕ} {s : Rests} → Put m p s m′ → (G : List ℕ) → length G < p → (d : ℕ)
+    → jumpedFrom t n goals d m′ G ≡ jumpedFrom t n goals d m G
+from-put t n goals {m} {m′} u G h d = ap (jump 128 (expand t) goals (n - length G) d) (held-same m m′ G (put-same u (length G) h))
+
+-- ---- the units
+
+-- what holds before each turn
+pub record Rested (t : ℕ → Node) (n : ℕ) (goals w k m w′ k′ m′ : List ℕ) : Type 0 where
+  pub run : Run t n goals w k w′ k′
+  pub sets : Sets m′
+  pub words : length m′ ≡ length m
+  pub kept : SameTo (length (gOf w)) m m′
+  pub same : (d : ℕ) → jumpedFrom t n goals d m′ (gOf w′) ≡ jumpedFrom t n goals d m (gOf w)
+
+pub rested-starts : {t : ℕ → Node} {n : ℕ} {goals w k m : List ℕ} → Holds t n goals w k → Sets m → Rested t n goals w k m w k m
+rested-starts {w = w} {m = m} h s = record { run = run-starts h; sets = s; words = refl; kept = same-self (length (gOf w)) m; same = λ d. refl }
+
+pub rested-looked : {t : ℕ → Node} {n : ℕ} {goals w k m w′ k′ m′ w″ : List ℕ} → Rested t n goals w k m w′ k′ m′ → Holds t n goals w″ k′ → gOf w″ ≡ gOf w′
+    → length w″ ≡ length w′ → Rested t n goals w k m w″ k′ m′
+rested-looked r h g z = record { run = run-looked (r .run) h g z; sets = r .sets; words = r .words; kept = r .kept; same = rw g (r .same) }
+
+module _ {t : ℕ → Node} {n : ℕ} {goals w k m w′ k′ m′ : List ℕ} (r : Rested t n goals w k m w′ k′ m′) where
+  pub rested-done : move (expand t) goals (gOf w′) ≡ Done → Propagated t n goals w m w′ k′ m′ Open
+  rested-done e = record {
+    holds = r .run .holds;
+    grows = r .run .grows;
+    sets = r .sets;
+    kept = r .kept;
+    same = r .same;
+    closes = λ q. shut-open (sym q);
+    ends = λ _ d. from-done t n goals d m′ (gOf w′) e;
+    forks = λ l q. open-fork q;
+  }
+
+  pub rested-split : {l : ℕ} → move (expand t) goals (gOf w′) ≡ Split l → Propagated t n goals w m w′ k′ m′ (Fork l)
+  rested-split {l} e = record {
+    holds = r .run .holds;
+    grows = r .run .grows;
+    sets = r .sets;
+    kept = r .kept;
+    same = r .same;
+    closes = λ q. shut-fork (sym q);
+    ends = λ q. open-fork (sym q);
+    forks = λ j q. let z : l ≡ j = cc in e ∙ ap Split z;
+  }
+
+  -- what is put past the literals held
+  module _ {p : ℕ} {s : Rests} {m″ : List ℕ} (u : Put m′ p s m″) (h : length (gOf w′) < p) where
+    put-kept : SameTo (length (gOf w)) m m″
+    put-kept = same-on (length (gOf w)) (length (gOf w′)) m m′ m″ (r .run .grows .more) (r .kept) (put-same u (length (gOf w′)) h)
+
+    put-from : (d : ℕ) → jumpedFrom t n goals d m″ (gOf w′) ≡ jumpedFrom t n goals d m (gOf w)
+    put-from d = from-put t n goals u (gOf w′) h d ∙ r .same d
+
+  module _ (few : n ≤ mostNodes) where
+    past-all : length (gOf w′) < conflictSlot
+    past-all = omega (arith, at-most n (gOf w′) (r .run .holds .ready .trail .good))
+
+    module _ {c : ℕ} (number : placeNumber w′ ≡ c) where
+      -- the clause of a conflict
+      module _ (e : move (expand t) goals (gOf w′) ≡ Conflict c) where
+        pub conflict-grounded : Grounded t goals w′ m′ conflictSlot
+        conflict-grounded = record {
+          sets = r .sets;
+          unmet = rw number (unmet (gOf w′) (getD (clauses (expand t) goals (gOf w′)) c [])
+              (λ z. absurd (let q = conflict-clause (expand t) goals (gOf w′) c e .1 in let x : _≡_ {A = ℕ} 0 1 = cc in omega arith)));
+          past = past-all;
+          there = omega (arith, r .sets .size);
+        }
+
+        pub rested-conflict : {m″ : List ℕ} → Put m′ conflictSlot (clauseRest (expand t) goals (heldOf m′ (gOf w′)) (placeNumber w′)) m″
+            → Propagated t n goals w m w′ k′ m″ Shut
+        rested-conflict {m″} u = record {
+          holds = r .run .holds;
+          grows = r .run .grows;
+          sets = put-sets (r .sets) u (omega arith);
+          kept = put-kept u past-all;
+          same = put-from u past-all;
+          closes = λ _ d. from-put t n goals u (gOf w′) past-all d ∙ from-conflict t n goals d m′ (gOf w′) e
+              ∙ ap (λ (s : Rests). stop (closed s)) (sym (u .here ∙ ap (clauseRest (expand t) goals (heldOf m′ (gOf w′))) number));
+          ends = λ q. shut-open q;
+          forks = λ l q. shut-fork q;
+        }
+
+      -- the clause of a unit
+      module _ (T : Table n t) (B : Below n goals) {l : ℕ} (e : move (expand t) goals (gOf w′) ≡ Single c l) {h : ℕ} (z : h ≡ suc (length (gOf w′))) where
+        pub unit-grounded : Grounded t goals w′ m′ h
+        unit-grounded = record {
+          sets = r .sets;
+          unmet = rw number (unmet (gOf w′) (getD (clauses (expand t) goals (gOf w′)) c [])
+              (λ y. absurd (let q = unit-clause (expand t) goals (gOf w′) c l e .1 in let x : _≡_ {A = ℕ} 0 1 = cc in omega arith)));
+          past = omega arith;
+          there = omega (arith, r .sets .size, run-room (r .run) T B e);
+        }
+
+        pub rested-unit : {m″ w″ k″ : List ℕ} → Put m′ h (clauseRest (expand t) goals (heldOf m′ (gOf w′)) (placeNumber w′)) m″
+            → Holds t n goals w″ k″ → gOf w″ ≡ l ∷ gOf w′ → length w″ ≡ length w′ → length k″ ≡ length k′ → Rested t n goals w k m w″ k″ m″
+        rested-unit {m″} u a q x y = record {
+          run = run-unit (r .run) T B e a q x y;
+          sets = put-sets (r .sets) u (omega arith);
+          words = u .size ∙ r .words;
+          kept = put-kept u (omega arith);
+          same = λ d. rw q (sym (from-unit t n goals d m′ (gOf w′) (run-room (r .run) T B e) e (rw (z, number) at u)) ∙ r .same d);
+        }
+
+-- ---- both sides of a split
+
+-- the count of both sides
+pub stopped-both : (a b : ℕ) → stopped (suc (stopped a + stopped b)) ≡ stopped (suc (a + b))
+stopped-both a b =
+    let x : suc (stopped a + stopped b) ≡ stopped a + suc (stopped b) = omega arith in
+    let y : a + suc (stopped b) ≡ stopped b + suc a = omega arith in
+    let z : b + suc a ≡ suc (a + b) = omega arith in
+    ap stopped x ∙ most-more 4294967295 a (suc (stopped b)) ∙ ap stopped y ∙ most-more 4294967295 b (suc a) ∙ ap stopped z
+
+module _ (d : ℕ) (left : Jumped) (right : Rests → Jumped) where
+  sides-model : {G : List ℕ} → left .end ≡ found G → (sides 128 d left right .end ≡ found G) × (sides 128 d left right .splits ≡ suc (left .splits + 0))
+  sides-model e = (rw e, rw e)
+
+  module _ {s : Rests} (e : left .end ≡ closed s) where
+    sides-skips : (ltb d 128 && not (s d)) ≡ true → (sides 128 d left right .end ≡ closed s) × (sides 128 d left right .splits ≡ suc (left .splits + 0))
+    sides-skips q = (rw (e, q), rw (e, q))
+
+    sides-turns : (ltb d 128 && not (s d)) ≡ false
+        → (sides 128 d left right .end ≡ right s .end) × (sides 128 d left right .splits ≡ suc (left .splits + right s .splits))
+    sides-turns q = (rw (e, q), rw (e, q))
+
+-- the slot of the literal that joins at a split
+pub slot-there : {t : ℕ → Node} {n : ℕ} {goals G G₁ m : List ℕ} {l h : ℕ} → Forked t n goals G G₁ l → n ≤ mostNodes → Sets m → h ≡ suc (length G₁) → There m h
+slot-there f few s e = omega (arith, s .size, fork-room f)
+
+-- where a split that counts is not passed over, its left conflict rests on it
+pub rests-on : (d : ℕ) (x : Bool) → (ltb d 128 && not x) ≡ false → d < 128 → x ≡ true
+rests-on d x e h = go x (rw (lt-ltb d 128 h) at e)
+  where
+    go : (y : Bool) → (true && not y) ≡ false → y ≡ true
+    go true e = refl
+    go false e = sym e
+
+with-end : (s : ℕ) (r : Ended) (G : List ℕ) (c : Rests) → endOf (withLeft s r) G c ≡ endOf r G c
+with-end s (Model x) G c = refl
+with-end s (Closed x) G c = refl
+
+with-made : (s : ℕ) (r : Ended) → madeBy (withLeft s r) ≡ stopped (suc (s + madeBy r))
+with-made s (Model x) = refl
+with-made s (Closed x) = refl
+
+-- ---- the search
+
+module _ {t : ℕ → Node} {n : ℕ} {goals w m w₁ k₁ m₁ : List ℕ} {r : Stop} (P : Propagated t n goals w m w₁ k₁ m₁ r) (d : ℕ) where
+  -- the units end on a conflict
+  pub jumps-closed : r ≡ Shut → Jumps t n goals d w m w₁ k₁ m₁ (Closed 0)
+  jumps-closed e =
+      let z = sym (P .same d) ∙ P .closes e d in
+      record { holds = P .holds; grows = P .grows; sets = P .sets; kept = P .kept; ended = ap (λ (j : Jumped). j .end) z; counted = ap (λ (j : Jumped). stopped (j .splits)) (sym z) }
+
+  -- or on a model
+  pub jumps-model : r ≡ Open → Jumps t n goals d w m w₁ k₁ m₁ (Model 0)
+  jumps-model e =
+      let z = sym (P .same d) ∙ P .ends e d in
+      record { holds = P .holds; grows = P .grows; sets = P .sets; kept = P .kept; ended = ap (λ (j : Jumped). j .end) z; counted = ap (λ (j : Jumped). stopped (j .splits)) (sym z) }
+
+  -- or on a split
+  pub jump-forked : Table n t → Below n goals → {l : ℕ} → r ≡ Fork l → Forked t n goals (gOf w) (gOf w₁) l
+  jump-forked T B {l} e = record { table = T; below = B; good = P .holds .ready .trail .good; grows = P .grows; splits = P .forks l e }
+
+  -- the left literal rests on it
+  module _ {l : ℕ} (f : Forked t n goals (gOf w) (gOf w₁) l) {h : ℕ} (slot : h ≡ suc (length (gOf w₁))) {m₂ : List ℕ} (u : Put m₁ h (only 128 d) m₂) where
+    left-put : Put m₁ (suc (length (gOf w₁))) (only 128 d) m₂
+    left-put = rw slot at u
+
+    pub left-sets : Sets m₂
+    left-sets = put-sets (P .sets) left-put (omega arith)
+
+    -- the search of the right side, by what the left conflict rests on
+    abbrev rightOf : Rests → Jumped
+    rightOf s = jump 128 (expand t) goals (n - suc (length (gOf w₁))) (suc d) (hold (neg l) (less d s) ∷ heldOf m₁ (gOf w₁))
+
+    whole : jumpedFrom t n goals d m (gOf w) ≡ sides 128 d (jumpedFrom t n goals (suc d) m₂ (l ∷ gOf w₁)) rightOf
+    whole =
+        sym (P .same d) ∙ from-split t n goals d m₁ (gOf w₁) (fork-room f) (f .splits)
+        ∙ ap (λ (H : List Held). sides 128 d (jump 128 (expand t) goals (n - suc (length (gOf w₁))) (suc d) H) rightOf) (sym (held-joined (gOf w₁) l left-put))
+
+    -- the left side, with e splits on its branch
+    module _ {e : ℕ} (next : e ≡ suc d) {w₂ w₃ k₃ m₃ : List ℕ} {left : Ended} (q : gOf w₂ ≡ l ∷ gOf w₁) (A : Jumps t n goals e w₂ m₂ w₃ k₃ m₃ left) where
+      left-grows : Extends (gOf w) (gOf w₃)
+      left-grows = fork-grows f q (A .grows)
+
+      -- the sets of the literals at the split, and of those at the start
+      split-kept : SameTo (length (gOf w₁)) m₁ m₃
+      split-kept = same-on (length (gOf w₁)) (length (gOf w₂)) m₁ m₂ m₃ (omega (arith, ap length q)) (put-same left-put (length (gOf w₁)) (omega arith)) (A .kept)
+
+      left-kept : SameTo (length (gOf w)) m m₃
+      left-kept = same-on (length (gOf w)) (length (gOf w₁)) m m₁ m₃ (f .grows .more) (P .kept) split-kept
+
+      left-end : jumpedFrom t n goals (suc d) m₂ (l ∷ gOf w₁) .end ≡ endOf left (gOf w₃) (restAt m₃ conflictSlot)
+      left-end = rw (next, q) at (A .ended)
+
+      left-made : madeBy left ≡ stopped (jumpedFrom t n goals (suc d) m₂ (l ∷ gOf w₁) .splits)
+      left-made = rw (next, q) at (A .counted)
+
+      -- one split more than the left side made
+      alone : {s c : ℕ} → madeBy left ≡ s → c ≡ stopped (suc (s + 0)) → jumpedFrom t n goals d m (gOf w) .splits ≡ suc (jumpedFrom t n goals (suc d) m₂ (l ∷ gOf w₁) .splits + 0)
+          → c ≡ stopped (jumpedFrom t n goals d m (gOf w) .splits)
+      alone {s} x y z =
+          y ∙ ap (λ (i : ℕ). stopped (suc (i + 0))) (sym x ∙ left-made) ∙ stopped-both (jumpedFrom t n goals (suc d) m₂ (l ∷ gOf w₁) .splits) 0 ∙ ap stopped (sym z)
+
+      pub left-found : {s c : ℕ} → left ≡ Model s → c ≡ stopped (suc (s + 0)) → Jumps t n goals d w m w₃ k₃ m₃ (Model c)
+      left-found x y =
+          let b = sides-model d (jumpedFrom t n goals (suc d) m₂ (l ∷ gOf w₁)) rightOf (left-end ∙ ap (λ (r : Ended). endOf r (gOf w₃) (restAt m₃ conflictSlot)) x) in
+          record {
+            holds = A .holds;
+            grows = left-grows;
+            sets = A .sets;
+            kept = left-kept;
+            ended = ap (λ (j : Jumped). j .end) whole ∙ b .0;
+            counted = alone (ap madeBy x) y (ap (λ (j : Jumped). j .splits) whole ∙ b .1);
+          }
+
+      module _ {s : ℕ} (x : left ≡ Closed s) where
+        closed-left : jumpedFrom t n goals (suc d) m₂ (l ∷ gOf w₁) .end ≡ closed (restAt m₃ conflictSlot)
+        closed-left = left-end ∙ ap (λ (r : Ended). endOf r (gOf w₃) (restAt m₃ conflictSlot)) x
+
+        pub left-skips : {c : ℕ} → (ltb d 128 && not (restAt m₃ conflictSlot d)) ≡ true → c ≡ stopped (suc (s + 0)) → Jumps t n goals d w m w₃ k₃ m₃ (Closed c)
+        left-skips g y =
+            let b = sides-skips d (jumpedFrom t n goals (suc d) m₂ (l ∷ gOf w₁)) rightOf closed-left g in
+            record {
+              holds = A .holds;
+              grows = left-grows;
+              sets = A .sets;
+              kept = left-kept;
+              ended = ap (λ (j : Jumped). j .end) whole ∙ b .0;
+              counted = alone (ap madeBy x) y (ap (λ (j : Jumped). j .splits) whole ∙ b .1);
+            }
+
+        -- the right literal rests on what the left conflict does, less the split
+        module _ (g : (ltb d 128 && not (restAt m₃ conflictSlot d)) ≡ false) {m₄ : List ℕ} (v : Put m₃ h (less d (restAt m₃ conflictSlot)) m₄) where
+          right-put : Put m₃ (suc (length (gOf w₁))) (less d (restAt m₃ conflictSlot)) m₄
+          right-put = rw slot at v
+
+          right-held : heldOf m₄ (neg l ∷ gOf w₁) ≡ hold (neg l) (less d (restAt m₃ conflictSlot)) ∷ heldOf m₁ (gOf w₁)
+          right-held =
+              held-joined (gOf w₁) (neg l) right-put
+              ∙ ap (hold (neg l) (less d (restAt m₃ conflictSlot)) ∷_) (held-same m₁ m₃ (gOf w₁) split-kept)
+
+          pub right-sets : Sets m₄
+          right-sets = put-sets (A .sets) right-put (omega arith)
+
+          module _ {w₅ w₆ k₆ m₆ : List ℕ} {right : Ended} (p : gOf w₅ ≡ neg l ∷ gOf w₁) (B : Jumps t n goals e w₅ m₄ w₆ k₆ m₆ right) where
+            right-from : jumpedFrom t n goals (suc d) m₄ (neg l ∷ gOf w₁) ≡ rightOf (restAt m₃ conflictSlot)
+            right-from = ap (jump 128 (expand t) goals (n - suc (length (gOf w₁))) (suc d)) right-held
+
+            right-end : rightOf (restAt m₃ conflictSlot) .end ≡ endOf right (gOf w₆) (restAt m₆ conflictSlot)
+            right-end = ap (λ (j : Jumped). j .end) (sym right-from) ∙ rw (next, p) at (B .ended)
+
+            right-made : madeBy right ≡ stopped (rightOf (restAt m₃ conflictSlot) .splits)
+            right-made = rw (next, p) at (B .counted) ∙ ap (λ (j : Jumped). stopped (j .splits)) right-from
+
+            pub right-jumps : Jumps t n goals d w m w₆ k₆ m₆ (withLeft s right)
+            right-jumps =
+                let L : Jumped = jumpedFrom t n goals (suc d) m₂ (l ∷ gOf w₁) in
+                let b = sides-turns d L rightOf closed-left g in
+                record {
+                  holds = B .holds;
+                  grows = fork-grows f p (B .grows);
+                  sets = B .sets;
+                  kept = same-on (length (gOf w)) (length (gOf w₁)) m m₃ m₆ (f .grows .more) left-kept
+                      (same-on (length (gOf w₁)) (length (gOf w₅)) m₃ m₄ m₆ (omega (arith, ap length p)) (put-same right-put (length (gOf w₁)) (omega arith)) (B .kept));
+                  ended = ap (λ (j : Jumped). j .end) whole ∙ b .0 ∙ right-end ∙ sym (with-end s right (gOf w₆) (restAt m₆ conflictSlot));
+                  counted =
+                      with-made s right ∙ ap₂ (λ (i j : ℕ). stopped (suc (i + j))) (sym (ap madeBy x) ∙ left-made) right-made
+                      ∙ stopped-both (L .splits) (rightOf (restAt m₃ conflictSlot) .splits) ∙ ap stopped (sym (ap (λ (j : Jumped). j .splits) whole ∙ b .1));
+                }
+
+-- ---- the whole
+
+-- from nothing held, with as much fuel as there are nodes
+pub counted-whole : {t : ℕ → Node} {n : ℕ} {goals w m w′ k′ m′ : List ℕ} {r : Ended} → gOf w ≡ [] → Jumps t n goals 0 w m w′ k′ m′ r → Counted t n goals w′ r
+unfolding heldOf
+counted-whole {t} {n} {goals} {w} {m} {w′} {m′ = m′} {r} z J =
+    let n0 : n - 0 ≡ n = omega arith in
+    let e : jumpedFrom t n goals 0 m (gOf w) ≡ jump 128 (expand t) goals n 0 [] =
+    ap (jumpedFrom t n goals 0 m) z ∙ ap (λ (k : ℕ). jump 128 (expand t) goals k 0 []) n0 in
+    record {
+      ready = J .holds .ready;
+      answered = ended r (gOf w′) (restAt m′ conflictSlot) ∙ ap endAnswer (sym (J .ended) ∙ ap (λ (j : Jumped). j .end) e);
+      counted = J .counted ∙ ap (λ (j : Jumped). stopped (j .splits)) e;
+    }
+  where
+    ended : (r : Ended) (G : List ℕ) (c : Rests) → foundOf (foundBy r) G ≡ endAnswer (endOf r G c)
+    ended (Model s) G c = refl
+    ended (Closed s) G c = refl
+
+-- it answers as the plain order does
+pub solved-plain : {t : ℕ → Node} {n : ℕ} {goals w : List ℕ} {r : Ended} → Table n t → Below n goals → Counted t n goals w r → {f : Found} → f ≡ foundBy r
+    → Solved t n goals w f
+solved-plain {t} {n} {goals} {w} T B C e = record {
+  ready = C .ready;
+  answered = ap (λ (f : Found). foundOf f (gOf w)) e ∙ C .answered ∙ same-answer 128 n t goals T B;
+}

@@ -1,0 +1,72 @@
+-- What the search that jumps leaves of the work area and its sets: what the definition of the jumping search ends on, from the literals
+-- held with what each rests on. Assumes nothing.
+use mathlib.Core.Path.{_≡_}
+use mathlib.Core.List.{List, []}
+use Prim.Native.Nat.{ℕ, suc, _+_, _-_}
+use lib.ListN.{length}
+use Rattle.scope.specs.declared.Node.{Node}
+use Rattle.calculus.specs.Expansion.{expand}
+use Rattle.calculus.specs.Order.{move}
+use Rattle.calculus.specs.Jump.{Rests, End, found, closed, Jumped, stop, jump, endAnswer, stopped}
+use Rattle.calculus.specs.declared.Move.the-variants.{Split}
+use Rattle.state.specs.Work.{gOf, Ready}
+use Rattle.state.specs.Holds.{Holds}
+use Rattle.rests.specs.Words.{restAt, Sets, conflictSlot, SameTo, heldOf}
+use Rattle.searching.specs.Search.{Extends, foundOf}
+use Rattle.searching.specs.declared.Stop.{Stop}
+use Rattle.searching.specs.declared.Stop.the-variants.{Closed as Shut, Model as Open, Fork}
+use Rattle.searching.specs.declared.Found.{Found}
+use Rattle.searching.specs.declared.Found.the-variants.{Model as AModel, Closed as AllClosed}
+use Rattle.searching.specs.declared.Ended.{Ended}
+use Rattle.searching.specs.declared.Ended.the-variants.{Model, Closed}
+
+-- the jumping search from G with its sets m, d splits being on the branch, with as much fuel as there are undecided nodes
+abbrev pub jumpedFrom : (ℕ → Node) → ℕ → List ℕ → ℕ → List ℕ → List ℕ → Jumped
+jumpedFrom t n goals d m G = jump 128 (expand t) goals (n - length G) d (heldOf m G)
+
+-- the units have joined: the search from here is that from the start, and the next move is no unit. k′ is the set of units (crate units)
+pub record Propagated (t : ℕ → Node) (n : ℕ) (goals w m w′ k′ m′ : List ℕ) (r : Stop) : Type 0 where
+  pub holds : Holds t n goals w′ k′
+  pub grows : Extends (gOf w) (gOf w′)
+  pub sets : Sets m′
+  pub kept : SameTo (length (gOf w)) m m′
+  pub same : (d : ℕ) → jumpedFrom t n goals d m′ (gOf w′) ≡ jumpedFrom t n goals d m (gOf w)
+  pub closes : r ≡ Shut → (d : ℕ) → jumpedFrom t n goals d m′ (gOf w′) ≡ stop (closed (restAt m′ conflictSlot))
+  pub ends : r ≡ Open → (d : ℕ) → jumpedFrom t n goals d m′ (gOf w′) ≡ stop (found (gOf w′))
+  pub forks : (l : ℕ) → r ≡ Fork l → move (expand t) goals (gOf w′) ≡ Split l
+
+-- how a search ended: with the literals held at its end, or with what the last conflict rests on
+abbrev pub endOf : Ended → List ℕ → Rests → End
+endOf (Model s) G c = found G
+endOf (Closed s) G c = closed c
+
+-- the splits made
+abbrev pub madeBy : Ended → ℕ
+madeBy (Model s) = s
+madeBy (Closed s) = s
+
+-- what was found
+abbrev pub foundBy : Ended → Found
+foundBy (Model s) = AModel
+foundBy (Closed s) = AllClosed
+
+-- the right side, and the splits of both sides with the split itself
+abbrev pub withLeft : ℕ → Ended → Ended
+withLeft s (Model r) = Model (stopped (suc (s + r)))
+withLeft s (Closed r) = Closed (stopped (suc (s + r)))
+
+-- the search is done, d splits being on the branch: it ended as the definition says, with as many splits; the literals of the start are
+-- still held, and rest on what they did
+pub record Jumps (t : ℕ → Node) (n : ℕ) (goals : List ℕ) (d : ℕ) (w m w′ k′ m′ : List ℕ) (r : Ended) : Type 0 where
+  pub holds : Holds t n goals w′ k′
+  pub grows : Extends (gOf w) (gOf w′)
+  pub sets : Sets m′
+  pub kept : SameTo (length (gOf w)) m m′
+  pub ended : jumpedFrom t n goals d m (gOf w) .end ≡ endOf r (gOf w′) (restAt m′ conflictSlot)
+  pub counted : madeBy r ≡ stopped (jumpedFrom t n goals d m (gOf w) .splits)
+
+-- the goals were put from the start, with nothing held: the answer and the splits of the jumping search
+pub record Counted (t : ℕ → Node) (n : ℕ) (goals w′ : List ℕ) (r : Ended) : Type 0 where
+  pub ready : Ready n w′
+  pub answered : foundOf (foundBy r) (gOf w′) ≡ endAnswer (jump 128 (expand t) goals n 0 [] .end)
+  pub counted : madeBy r ≡ stopped (jump 128 (expand t) goals n 0 [] .splits)
