@@ -107,6 +107,30 @@ static void clash(const a_case *c, int side)
     }
 }
 
+static uint16_t asked[BEV_ASKED];
+static uint8_t told[2][BEV_ASKED];
+
+static void overview(const a_case *c, int side)
+{
+    if (side == LIB) {
+        bev_answered v = bev_overview(c->table, c->len, asked, BEV_ASKED, told[LIB], BEV_ASKED, work, BEV_WORK);
+        say(LIB, v.number, v.place, 0, 0);
+    } else {
+        p_refusal v;
+        p_overview(c->table, c->len, asked, BEV_ASKED, told[PLAIN], BEV_ASKED, &v);
+        say(PLAIN, v.number, v.place, 0, 0);
+    }
+}
+
+/* The same goals by a decide each. */
+static void decides_each(const a_case *c, int side)
+{
+    for (size_t i = 0; i < BEV_ASKED; i++) {
+        decide_goal(c, side, asked[i]);
+        told[side][i] = (uint8_t)said[side].value;
+    }
+}
+
 #ifdef HAVE_DERIVE
 static uint8_t *derivation[2];
 static uint64_t steps;
@@ -184,9 +208,10 @@ static times measure(operation f, const a_case *c, const char *what)
 static double ratio(times t) { return t.seconds[LIB] / t.seconds[PLAIN]; }
 
 /* The worst of each kind, for the last lines. */
-static struct { double decide, clash, read, adds, listing, threes, gain, derive, check; } worst = { 0, 0, 0, 0, 0, 0, 0, 1e18, 1e18 };
+static struct { double decide, clash, overview, read, adds, listing, threes, gain, gain, derive, check; } worst = { 0, 0, 0, 0, 0, 0, 0, 0, 1e18, 1e18, 1e18 };
 
 static void at_least(double *w, double v) { *w = v > *w ? v : *w; }
+static void at_most(double *w, double v) { *w = v < *w ? v : *w; }
 
 static void report(const a_case *c, const char *what, times t, double units, const char *unit)
 {
@@ -338,6 +363,27 @@ static void jumps(void (*make)(a_case *, unsigned), unsigned low, unsigned step,
     }
 }
 
+/* 256 goals of an easy table of 2,016 nodes, by one call and by a decide each. */
+static void overviews(void)
+{
+    for (unsigned seed = 1; seed < 3; seed++) {
+        easy(&now, 2016, seed);
+        for (size_t i = 0; i < BEV_ASKED; i++)
+            asked[i] = (uint16_t)pick(2 * 2016);
+        times t = measure(overview, &now, "overview");
+        double moves = (double)ps.moves;
+        times d = measure(decides_each, &now, "256 decides");
+        if (memcmp(told[LIB], told[PLAIN], BEV_ASKED)) {
+            printf("%s: the answers differ\n", now.name);
+            exit(1);
+        }
+        report(&now, "overview", t, moves, "moves");
+        report(&now, "by decide", d, moves, "moves");
+        at_least(&worst.overview, ratio(t));
+        at_most(&worst.gain, d.seconds[LIB] / t.seconds[LIB]);
+    }
+}
+
 /* Not among those that count: a node with 2,013 parents, which are all looked at whenever it joins or leaves; and long stretches of met
  * clauses, which a split looks through. */
 static void wide(void)
@@ -353,8 +399,6 @@ static void wide(void)
 }
 
 #ifdef HAVE_DERIVE
-static void at_most(double *w, double v) { *w = v < *w ? v : *w; }
-
 static void derives(void)
 {
     derivation[LIB] = calloc(2, ROOM);
@@ -421,6 +465,7 @@ static void targets(void)
     printf("worst, and the target: decide %.2f (1.3) times plain, clash %.2f (1.5) times plain, read %.2f (2) times plain, 2,016 adds %.1f (60) ms, listing %.2f (1) s\n",
         worst.decide, worst.clash, worst.read, 1e3 * worst.adds, worst.listing);
     printf("worst, and the target: decide in threes %.2f (1.3) times plain, %.2f (1) times the same in pairs\n", worst.threes, worst.gain);
+    printf("worst: overview %.2f times plain, and %.1f times as fast as a decide for each of its 256 goals\n", worst.overview, worst.gain);
 #ifdef HAVE_DERIVE
     printf("worst, and the target: derive %.1f (8) and check %.1f (40) million steps a second\n", worst.derive, worst.check);
 #endif
@@ -435,6 +480,7 @@ int main(void)
     in_threes();
     jumps(free_points, 0, 4, 24, 12);
     jumps(two_problems, 2, 1, 8, 6);
+    overviews();
     wide();
 #ifdef HAVE_DERIVE
     derives();

@@ -4,7 +4,7 @@
 #include <signal.h>
 #include <string.h>
 
-enum { TAKES_OUT = 1, TAKES_DOT = 2, TAKES_CLEAN = 4, TAKES_VERSION = 8, TAKES_QUESTIONS = 8 };
+enum { TAKES_OUT = 1, TAKES_DOT = 2, TAKES_CLEAN = 4, TAKES_QUESTIONS = 8, TAKES_ALLOWANCE = 8, TAKES_SECONDS = 16, TAKES_VERSION = 8 };
 
 struct command {
     const char *name;
@@ -27,9 +27,10 @@ static const struct command commands[] = {
       "  --dot   a graph for Graphviz; the edge to a negated operand is dashed\n",
       run_show, 1, 1, TAKES_DOT },
     { "add", "TABLE RECORD ..", "adds records, prints the literal of each",
-      "A RECORD is TRUE, ATOM P, AND(A,B), OR(A,B), IMP(A,B), IFF(A,B), AND(A,B,C) or OR(A,B,C), with a point P and literals A, B, C.\n"
-      "A record that is there already is found. TABLE is made where there is none. The file is replaced\n"
-      "whole once every record is in, and stays as it was on any refusal. IMP(A,B) is added as the OR of not A and B.\n",
+      "A RECORD is TRUE, ATOM P, AND(A,B), OR(A,B), IMP(A,B), IFF(A,B), AND(A,B,C) or OR(A,B,C), with a point P and\n"
+      "literals A, B, C of different nodes. Operands may come in any order; IMP(A,B) is added as the OR of not A and B.\n"
+      "A record that is there already is found. TABLE is made where there is none. The file is replaced whole once\n"
+      "every record is in, and stays as it was on any refusal.\n",
       run_add, 2, INT_MAX, 0 },
     { "rebuild", "OLD NEW", "adds a table's records anew, and says which literal each got",
       "Adds the records of OLD in turn to an empty table, with their operands replaced by the literals that these got,\n"
@@ -41,11 +42,18 @@ static const struct command commands[] = {
       "not read.\n",
       run_eval, 3, 3, 0 },
     { "decide", "TABLE GOAL.. [--out FILE]", "whether one setting makes all goals true",
-      "Prints `possible` and the setting, a line for each point that the table names (yes, no, or either: both will do), or `impossible`;\n"
-      "then `splits` and how many the search made, 4294967295 for that many or more.\n"
+      "Prints `possible` and the setting, a line for each point that the table names (yes, no, or either: both will\n"
+      "do), or `impossible`; then `splits` and how many the search made, 4294967295 for that many or more.\n"
       "A list has 1 to 64 goals, which are literals; the same one may stand in it again.\n"
-      "  --out FILE   the setting as 1,024 bytes, for eval; written where the goals are possible\n",
-      run_decide, 2, INT_MAX, TAKES_OUT },
+      "  --out FILE    the setting as 1,024 bytes, for eval; written where the goals are possible\n"
+      "  --seconds S   of one goal: stops after so long and says `unknown`, with status 0; a line of progress on a terminal\n",
+      run_decide, 2, INT_MAX, TAKES_OUT | TAKES_SECONDS },
+    { "rooms", "TABLE GOAL.. [--allowance N]", "up to 8 goals, one by one, that take turns",
+      "Each goal is a question by itself. Turns go round over the unfinished ones: a turn is one unit, conflict or split\n"
+      "of the solver's order, or the finding that all clauses are met. Prints a line a goal: its verdict and its turns.\n"
+      "On a terminal the lines are shown as they change.\n"
+      "  --allowance N   stops after N turns in all; a goal may then be unfinished\n",
+      run_rooms, 2, INT_MAX, TAKES_ALLOWANCE },
     { "clash", "TABLE GOAL..", "of impossible goals, the few to argue about",
       "Walks the list from last to first and drops a goal if the others left are still impossible together. Prints\n"
       "a line for each goal kept: its index in the list, from 0, its literal, and what it says. They are impossible\n"
@@ -58,6 +66,10 @@ static const struct command commands[] = {
       "  --questions N   at most so many questions; all, up to 65,535, where it is left out\n"
       "  --out FILE      the setting as 1,024 bytes, for eval\n",
       run_wishes, 2, INT_MAX, TAKES_OUT | TAKES_QUESTIONS },
+    { "overview", "TABLE [GOAL..]", "whether each goal by itself is possible",
+      "A line for each goal: the literal, and possible or impossible. A list has up to 256 goals; without one, all\n"
+      "literals of the table, 256 at a time. The table is read once for a list.\n",
+      run_overview, 1, INT_MAX, 0 },
     { "derive", "TABLE GOAL.. [--version-two] -o FILE", "writes the derivation of impossible goals",
       "Prints the number of steps. Goals that one setting makes true have none: refused 30.\n"
       "  --version-two   version two of the steps, which has no R\n",
@@ -97,8 +109,8 @@ static int print_overview(void)
 {
     puts("usage: bev COMMAND ARGUMENT ..\n\nCondition tables over 1,024 points, their solver and its derivations.\n");
     for (size_t i = 0; i < COMMANDS; i++)
-        printf("  %-8s%-26s%s\n", commands[i].name, commands[i].arguments, commands[i].summary);
-    puts("\n  help    COMMAND                   more about a command\n"
+        printf("  %-9s%-29s%s\n", commands[i].name, commands[i].arguments, commands[i].summary);
+    puts("\n  help     COMMAND                      more about a command\n"
          "  --version\n\n"
          "The file name - is standard input. A refusal is printed as `refused N at P: meaning`.\n"
          "Exit status: 10 possible, 20 impossible, 0 answered or accepted, 1 refused, 2 wrong use, input or output.");
@@ -139,6 +151,14 @@ static int take_option(const struct command *c, char **argument, struct words *w
         w->questions = argument[1];
         return 2;
     }
+    if (strcmp(argument[0], "--allowance") == 0 && c->options & TAKES_ALLOWANCE && argument[1] && !w->allowance) {
+        w->allowance = argument[1];
+        return 2;
+    }
+    if (strcmp(argument[0], "--seconds") == 0 && c->options & TAKES_SECONDS && argument[1] && !w->seconds) {
+        w->seconds = argument[1];
+        return 2;
+    }
     if (strcmp(argument[0], "--dot") == 0 && c->options & TAKES_DOT)
         w->dot = true;
     else if (strcmp(argument[0], "--clean") == 0 && c->options & TAKES_CLEAN)
@@ -163,7 +183,7 @@ static const char *part_arguments(const struct command *c, char **argument, stru
         } else if (options && argument[0][0] == '-' && argument[0][1]) {
             int n = take_option(c, argument, w);
             if (n == 0)
-                return "is no option here, or stands twice or without its file or number";
+                return "is no option here, or stands twice or without its file or value";
             argument += n;
         } else {
             standard += strcmp(*argument, "-") == 0;

@@ -94,6 +94,7 @@ int run_eval(const struct words *w);
 int run_decide(const struct words *w);
 int run_clash(const struct words *w);
 int run_wishes(const struct words *w);
+int run_overview(const struct words *w);
 int run_derive(const struct words *w);
 int run_check(const struct words *w);
 int run_steps(const struct words *w);

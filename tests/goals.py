@@ -1,4 +1,4 @@
-"""bev decide, clash, wishes, derive, check and steps on made tables, with single goals and lists: the answers against truth tables by brute force, the
+"""bev decide, clash, wishes, overview, derive, check and steps on made tables, with single goals and lists: the answers against truth tables by brute force, the
 solver's order and the derivation rules in plain Python, and every refusal that a file or a list of goals can meet."""
 import itertools
 import os
@@ -144,6 +144,32 @@ def wishing(bev, folder, rounds):
     bev.refuses(66, 0, "wishes", name, 6, ":", *[99] * 17, about="the wishes")
     bev.refuses(62, 0, "wishes", name, ":", *[99] * 17, about="the goals")
     bev.refuses(20, 2, "wishes", name, 6, 0, ":", 99, 1, about="99, goal 2)")
+
+def overviewing(bev, folder, rounds):
+    """Each goal by itself against truth tables; all literals of a table; row 68, and row 20 by index."""
+    name, rng = os.path.join(folder, "t"), random.Random(9)
+    def lines(records, goals):
+        return "".join(f"{g} {'possible' if possible_together(records, [g]) else 'impossible'}\n" for g in goals)
+    for records in [A, [(TRUE, 0, 0)], [(ATOM, 1023, 0)]] + [some_table(rng, 2 + i % 6, 10 + i) for i in range(rounds)]:
+        put(name, table(records))
+        bev.answers(ANSWERED, lines(records, range(2 * len(records))), "overview", name)
+        for count in (1, 2, 40, 256):
+            goals = [rng.randrange(2 * len(records)) for _ in range(count)]
+            bev.answers(ANSWERED, lines(records, goals), "overview", name, *goals)
+    records, _ = full_table()
+    put(name, table(records))
+    found = bev.run("overview", name)
+    right = "".join(f"{l} {'impossible' if search(records, [l])[0] is None else 'possible'}\n" for l in range(300))
+    if found[0] != ANSWERED or found[2] or len(found[1].splitlines()) != 4032 or not found[1].startswith(right):
+        bev.wrong(("overview", "a full table"), found, right)
+    bev.answers(ANSWERED, "6 possible\n6 possible\n", "overview", "-", 6, 6, stdin=table(A))
+    put(name, table(A))
+    for goal in (20, 4032, 65535, 65536, 2 ** 64 - 1):
+        bev.refuses(20, 0, "overview", name, goal, about=f"{goal})")
+        bev.refuses(20, 255, "overview", name, *[18] * 255, goal, about=f"{goal}, goal 255)")
+        bev.refuses(68, 0, "overview", name, *[18] * 256, goal, about="the goals)")
+    bev.refuses(68, 0, "overview", name, *[18] * 1000, about="the goals)")
+    bev.fails("x", "is no literal", "overview", name, *[18] * 300, "x")
 
 def list_rows(bev, folder):
     """Rows 62 and 20, in each command: the table first, then the length of the list, then the first goal that is none."""
@@ -421,6 +447,7 @@ def test(bev, folder, rounds, points):
     deciding(bev, folder, rounds)
     clashing(bev, folder, rounds)
     wishing(bev, folder, rounds)
+    overviewing(bev, folder, rounds)
     list_rows(bev, folder)
     evaluating(bev, folder)
     checking(bev, folder, rounds)

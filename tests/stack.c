@@ -35,6 +35,15 @@ static void run_wishes(void)
     EXPECT(v.number == 0 && v.met == 0 && v.bound == 14 && v.questions == 20);
 }
 
+static void run_overview(void)
+{
+    static uint16_t all[BEV_ASKED];
+    static uint8_t answers[BEV_ASKED];
+    for (int i = 0; i < BEV_ASKED; i++)
+        all[i] = 4030;
+    EXPECT(bev_overview(deep, sizeof deep, all, BEV_ASKED, answers, BEV_ASKED, work, BEV_WORK).number == 0);
+}
+
 static void run_add(void)
 {
     uint8_t r[8];
@@ -87,7 +96,8 @@ int main(void)
 {
     static const struct { const char *name; void (*call)(void); } calls[] = {
         { "count", run_count }, { "record", run_record }, { "evaluate", run_evaluate }, { "add", run_add }, { "decide", run_decide },
-        { "clash", run_clash }, { "wishes", run_wishes }, { "derive", run_derive }, { "check", run_check }, { "open", run_open }, { "dimacs", run_dimacs },
+        { "clash", run_clash }, { "wishes", run_wishes }, { "overview", run_overview },
+        { "derive", run_derive }, { "check", run_check }, { "open", run_open }, { "dimacs", run_dimacs },
     };
     deep_table(deep);
     for (int i = 0; i < BEV_GOALS; i++)

@@ -1,4 +1,4 @@
--- What a host is told of decide, clash, wishes, derive, check and the DIMACS reader, whatever case the answer is. Assumes nothing.
+-- What a host is told of decide, clash, wishes, overview, derive, check and the DIMACS reader, whatever case the answer is. Assumes nothing.
 use mathlib.Core.Path.{_≡_, _∙_, ap, sym, refl}
 use mathlib.Core.Bool.{true}
 use mathlib.Core.List.{List, [], _∷_}
@@ -6,7 +6,7 @@ use mathlib.Core.Logic.{inl, inr}
 use Prim.Native.Nat.{ℕ, _*_, _<_}
 use native.Mathlib.Omega.{arith}
 use lib.Dec.{ltb}
-use lib.ListN.{length, take}
+use lib.ListN.{length, getD, take}
 use borrow.Author.Tests.{lt-ltb, eq-eqb, ne-eqb}
 use Rattle.scope.specs.declared.Node.{Node}
 use Rattle.scope.specs.declared.Refusal.{Refusal}
@@ -16,7 +16,7 @@ use Rattle.scope.specs.Table.{decode}
 use Rattle.scope.specs.Truth.{truth}
 use Rattle.scope.specs.Kleene.{sure, Fills}
 use Rattle.scope.specs.Calls.{settingsTest, evaluate}
-use Rattle.scope.proofs.Tests.{refused-no, bound, then-first, then-next}
+use Rattle.scope.proofs.Tests.{refused-no, bound, then-first, then-next, bound}
 use Rattle.codec.specs.Valid.{Bytes}
 use Rattle.codec.proofs.Bytes.{bytes-take}
 use Rattle.calculus.specs.Model.{All}
@@ -38,6 +38,11 @@ use Rattle.wishing.proofs.Numbers.{grant-numbered}
 use Rattle.wishes.specs.declared.Wished.{Wished}
 use Rattle.wishes.specs.declared.Wished.the-variants.{Granted as Given, Refused as NotGranted}
 use Rattle.wishes.specs.Wishes.{wishedOf, grantOf, Wishes}
+use Rattle.scope.specs.declared.Verdict.{Verdict}
+use Rattle.scope.specs.declared.Verdict.the-variants.{Fine as Seen, Refused as NotSeen}
+use Rattle.overview.specs.Overview.{overview}
+use Rattle.overview.specs.Overviews.{Told, Overviews}
+use Rattle.overview.proofs.Answers.{overview-numbered}
 use Rattle.rules.specs.Derive.{derive}
 use Rattle.deriving.specs.declared.Derived.{Derived}
 use Rattle.deriving.specs.declared.Derived.the-variants.{Steps, Refused as NotDerived}
@@ -55,7 +60,8 @@ use Rattle.cnf.specs.Reader.{Means, Turns}
 use Rattle.cnfread.specs.Reads.{Reads}
 use Rattle.bevaridhom.specs.declared.BevClashed.{BevClashed}
 use Rattle.bevaridhom.specs.declared.BevOpened.{BevOpened}
-use Rattle.bevaridhom.specs.Answers.{versionAsked, versionNumber, openAnswer, wordBit, decideAnswer, HostPlain, HostDecides, clashAnswer, HostClashes, deriveAnswer, HostDerives, checkAnswer, HostChecks, wishesAnswer, HostWishes, markAnswer, Unmet, HostReads}
+use Rattle.bevaridhom.specs.declared.BevAnswered.{BevAnswered}
+use Rattle.bevaridhom.specs.Answers.{versionAsked, versionNumber, openAnswer, wordBit, decideAnswer, HostPlain, HostDecides, clashAnswer, HostClashes, overviewAnswer, HostOverviews, deriveAnswer, HostDerives, checkAnswer, HostChecks, wishesAnswer, HostWishes, markAnswer, Unmet, HostReads}
 
 -- a refusal of what is made of an answer is the answer's
 of-refused : {A B : Type 0} (x : Outcome A) (f : A → B) {number place : ℕ} → refused number place ≡ (x >>= λ a. answer (f a)) → x ≡ refused number place
@@ -189,6 +195,35 @@ module _ (t goals wishes : List ℕ) (m : ℕ) (s w s′ w′ : List ℕ) where
 
   pub told-wishes : (r : Wished) {r′ : Wished} → Wishes t goals wishes m s w s′ w′ r → r ≡ r′ → HostWishes t goals wishes m s w s′ w′ (wishesAnswer (wishedOf r′))
   told-wishes r h e = tells _ (rw e at h)
+
+-- ---- overview
+
+abbrev verdictAnswer : Verdict → BevAnswered
+verdictAnswer Seen = record { number = 0; place = 0 }
+verdictAnswer (NotSeen f) = record { number = f .number; place = f .place }
+
+module _ (t goals b w b′ w′ : List ℕ) where
+  overview-refused : (f : Refusal) → Overviews t goals b w b′ w′ (NotSeen f) → overview t goals b w ≡ refused (f .number) (f .place)
+  overview-refused f h = of-refused (overview t goals b w) (λ after. tt) (h .answered)
+
+  answered-by : (v : Verdict) → Overviews t goals b w b′ w′ v → verdictAnswer v ≡ overviewAnswer (overview t goals b w)
+  answered-by Seen h =
+      let x = bound (overview t goals b w) (λ after. answer tt) (sym (h .answered)) in
+      rw (x .1)
+  answered-by (NotSeen f) h = rw (overview-refused f h)
+
+  overview-kept : (v : Verdict) → Overviews t goals b w b′ w′ v → (number place : ℕ) → overview t goals b w ≡ refused number place → w′ ≡ w
+  overview-kept Seen h number place e = refused-no (sym (h .answered ∙ ap (_>>= λ after. answer tt) e))
+  overview-kept (NotSeen f) h number place e = h .work f refl
+
+  each-by : (v : Verdict) → Overviews t goals b w b′ w′ v → verdictAnswer v .number ≡ 0 → (i : ℕ) → i < length goals → Told t w (getD goals i 0) (getD b′ i 0)
+  each-by Seen h e = h .each refl
+  each-by (NotSeen f) h e = absurd (omega (arith, overview-numbered t goals b w .positive (f .number) (f .place) (overview-refused f h)))
+
+  pub told-overview : (v : Verdict) {v′ : Verdict} → Overviews t goals b w b′ w′ v → v ≡ v′ → HostOverviews t goals b w b′ w′ (verdictAnswer v′)
+  told-overview v {v′} k e =
+      let h : Overviews t goals b w b′ w′ v′ = rw e at k in
+      record { answered = answered-by v′ h; bytes = h .bytes; work = overview-kept v′ h; each = each-by v′ h }
 
 -- ---- derive
 

@@ -3,9 +3,9 @@ use mathlib.Core.Path.{_≡_}
 use mathlib.Core.Bool.{true, cond}
 use mathlib.Core.List.{List, [], _∷_, _++_}
 use mathlib.Core.Logic.{_⊎_}
-use Prim.Native.Nat.{ℕ, suc, _-_, _^_, _≤_}
+use Prim.Native.Nat.{ℕ, suc, _-_, _^_, _<_, _≤_}
 use lib.Dec.{eqb}
-use lib.ListN.{length, take, replicate}
+use lib.ListN.{length, getD, take, replicate}
 use Rattle.scope.specs.declared.Node.{Node}
 use Rattle.scope.specs.declared.Truth.{Truth}
 use Rattle.scope.specs.declared.Truth.the-variants.{Yes, No, Unknown}
@@ -29,6 +29,8 @@ use Rattle.wishing.specs.Wish.{count}
 use Rattle.wishing.specs.Call.{wishesAsked, Granted, grant, grantedAfter}
 use Rattle.granting.specs.declared.Grant.{Grant}
 use Rattle.wishes.specs.Wishes.{grantOf}
+use Rattle.overview.specs.Overview.{overview, answersAfter}
+use Rattle.overview.specs.Overviews.{Told}
 use Rattle.adding.specs.declared.Mark.{Mark}
 use Rattle.cnf.specs.Text.{File, fileOf}
 use Rattle.cnf.specs.Meaning.{clausesTrue}
@@ -40,6 +42,7 @@ use Rattle.bevaridhom.specs.declared.BevTruth.{BevTruth}
 use Rattle.bevaridhom.specs.declared.BevAdded.{BevAdded}
 use Rattle.bevaridhom.specs.declared.BevDecided.{BevDecided}
 use Rattle.bevaridhom.specs.declared.BevClashed.{BevClashed}
+use Rattle.bevaridhom.specs.declared.BevAnswered.{BevAnswered}
 use Rattle.bevaridhom.specs.declared.BevDerived.{BevDerived}
 use Rattle.bevaridhom.specs.declared.BevChecked.{BevChecked}
 use Rattle.bevaridhom.specs.declared.BevWished.{BevWished}
@@ -113,6 +116,18 @@ pub record HostClashes (t goals w w′ : List ℕ) (r : BevClashed) : Type 0 whe
   pub work : (number place : ℕ) → asked t goals 0 0 (length w) ≡ refused number place → w′ ≡ w
   pub kept : r .number ≡ 0 → Clashing t goals (take (r .count) (r .kept))
   pub exact : (rs : List Node) → asked t goals 0 0 (length w) ≡ answer rs → (r .number ≡ 63) ⇔ ((v : List ℕ) × Satisfies t goals v)
+
+abbrev pub overviewAnswer : Outcome (List ℕ) → BevAnswered
+overviewAnswer (answer after) = record { number = 0; place = 0 }
+overviewAnswer (refused n p) = record { number = n; place = p }
+
+-- overview for a host: its answer, the answer bytes, a work area that a refusal leaves as it was, and what number 0 means: each goal's byte
+-- is what bev_decide says of that goal by itself, and it is 0 exactly when no setting makes the goal true
+pub record HostOverviews (t goals b w b′ w′ : List ℕ) (r : BevAnswered) : Type 0 where
+  pub answered : r ≡ overviewAnswer (overview t goals b w)
+  pub bytes : b′ ≡ answersAfter b (overview t goals b w)
+  pub work : (number place : ℕ) → overview t goals b w ≡ refused number place → w′ ≡ w
+  pub each : r .number ≡ 0 → (i : ℕ) → i < length goals → Told t w (getD goals i 0) (getD b′ i 0)
 
 abbrev pub deriveAnswer : Outcome ℕ → BevDerived
 deriveAnswer (answer n) = record { number = 0; place = 0; steps = n }

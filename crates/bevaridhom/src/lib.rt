@@ -4,7 +4,7 @@ ghost use Rattle.scope.specs.Calls.{tableCount, tableRecord, evaluate, add, byt
 ghost use Rattle.steps.specs.Opened.{stepCount};
 ghost use Rattle.rules.specs.Steps.{versionOf};
 ghost use Rattle.step_reader.specs.Handed.{stepHanded};
-ghost use Rattle.bevaridhom.specs.Answers.{countAnswer, recordAnswer, truthNumber, truthAnswer, addAnswer, versionAsked, versionNumber, openAnswer, stepAnswer, HostDecides, HostClashes, HostDerives, HostChecks, HostWishes, HostReads};
+ghost use Rattle.bevaridhom.specs.Answers.{countAnswer, recordAnswer, truthNumber, truthAnswer, addAnswer, versionAsked, versionNumber, openAnswer, stepAnswer, HostDecides, HostClashes, HostOverviews, HostDerives, HostChecks, HostWishes, HostReads};
 use adding::Added;
 use checking::Checked;
 use deciding::Decided;
@@ -12,6 +12,7 @@ use deriving::Derived;
 use record::NodeRead;
 use rules::Version;
 use scope::Truth;
+use scope::Verdict;
 use step_reader::Handed;
 use steps::Opened;
 use table::Counted;
@@ -207,6 +208,30 @@ pub extern "C" fn bev_clash(t: &[u8], goals: &[u16], w: &mut [u16]) -> BevClashe
         place: c.place,
         count: c.count,
         kept,
+    }
+}
+
+#[repr(C)]
+pub struct BevAnswered {
+    pub number: u16,
+    pub place: usize,
+}
+
+// Whether each goal by itself is possible: a byte for each, 1 possible and 0 impossible.
+#[no_mangle]
+pub extern "C" fn bev_overview(t: &[u8], goals: &[u16], b: &mut [u8], w: &mut [u16]) -> BevAnswered
+    ensures { λ r. ⌜ HostOverviews (now (t .entry)) (now (goals .entry)) (now (b .entry)) (now (w .entry)) (now (b .exit)) (now (w .exit)) r ⌝ }
+{
+    let c = overview::overview(t, goals, b, w);
+    match c {
+        Verdict::Fine => BevAnswered {
+            number: 0,
+            place: 0,
+        },
+        Verdict::Refused(f) => BevAnswered {
+            number: f.number,
+            place: f.place,
+        },
     }
 }
 

@@ -1,0 +1,91 @@
+// Overview: up to 256 goals of one table, each by itself. The table is read and indexed once.
+use scope::Refusal;
+use scope::Verdict;
+use searching::Found;
+use table::Counted;
+ghost use mathlib.Core.Path.{_≡_};
+ghost use mathlib.Core.Bool.{_&&_};
+ghost use mathlib.Core.List.{[], _∷_, _++_};
+ghost use Prim.Native.Nat.{_*_, _<_, _≤_};
+ghost use lib.Dec.{leb, ltb};
+ghost use lib.ListN.{length, drop};
+ghost use Rattle.scope.specs.Outcome.{verdictOf};
+ghost use Rattle.calculus.specs.Model.{Below};
+ghost use Rattle.index.specs.Index.{indexNode};
+ghost use Rattle.index.specs.Indexed.{Indexed};
+ghost use Rattle.state.specs.Work.{area};
+ghost use Rattle.questions.specs.Asking.{asks};
+ghost use Rattle.overview.specs.Overview.{mostAsked, overviewRow, byteOf, bytesOf};
+ghost use Rattle.overview.specs.Overviews.{Overviews};
+
+// Whether a list of so many goals, with so many answer bytes lent, passes row 68.
+fn fits(count: usize, lent: usize) -> bool
+    ensures { λ r. ⌜ r ≡ (ltb 0 count && (leb count mostAsked && leb count lent)) ⌝ }
+{
+    if count == 0 {
+        return false;
+    }
+    if 256 < count {
+        return false;
+    }
+    count <= lent
+}
+
+// Row 68.
+fn list_row(goals: &[u16], lent: usize) -> Verdict
+    ensures { λ r. ⌜ verdictOf r ≡ overviewRow (now (goals .entry)) lent ⌝ }
+{
+    if fits(goals.len(), lent) {
+        return Verdict::Fine;
+    }
+    Verdict::Refused(Refusal {
+        number: 68,
+        place: 0,
+    })
+}
+
+// The byte of a goal by itself: 1 possible, 0 impossible.
+fn byte(x: &[u16], n: usize, goal: u16, work: &mut [u16]) -> u8
+    requires { ⌜ Indexed (now x) n ⌝ }
+    requires { ⌜ goal < 2 * n ⌝ }
+    requires { ⌜ area ≤ length (now work) ⌝ }
+    ensures { λ r. ⌜ r ≡ byteOf (asks (indexNode (now (x .entry))) n (goal ∷ [])) ⌝ }
+{
+    let goals = [goal];
+    let found = searching::solve(x, n, &goals, work);
+    match found {
+        Found::Model => 1,
+        Found::Closed => 0,
+    }
+}
+
+// A byte for each goal.
+fn put(x: &[u16], n: usize, goals: &[u16], answers: &mut [u8], work: &mut [u16])
+    requires { ⌜ Indexed (now x) n ⌝ }
+    requires { ⌜ Below n (now goals) ⌝ }
+    requires { ⌜ area ≤ length (now work) ⌝ }
+    requires { ⌜ length (now goals) ≤ length (now answers) ⌝ }
+    ensures { λ _. ⌜ now (answers .exit) ≡ bytesOf (asks (indexNode (now (x .entry))) n) (now (goals .entry)) ++ drop (length (now (goals .entry))) (now (answers .entry)) ⌝ }
+{
+    let mut i = 0;
+    while i < goals.len() {
+        answers[i] = byte(x, n, goals[i], work);
+        i += 1;
+    }
+}
+
+// Whether each goal by itself is possible.
+pub fn overview(t: &[u8], goals: &[u16], answers: &mut [u8], work: &mut [u16]) -> Verdict
+    ensures { λ r. ⌜ Overviews (now (t .entry)) (now (goals .entry)) (now (answers .entry)) (now (work .entry)) (now (answers .exit)) (now (work .exit)) r ⌝ }
+{
+    let mut x = [0u16; 18270];
+    let listed = list_row(goals, answers.len());
+    let a = asking::ask_by(listed, t, goals, 0, 0, work.len(), &mut x);
+    match a {
+        Counted::Refused(f) => Verdict::Refused(f),
+        Counted::Nodes(n) => {
+            put(&x, n, goals, answers, work);
+            Verdict::Fine
+        }
+    }
+}
