@@ -6,7 +6,7 @@ CFLAGS ?= -O2 -g
 WARN = -std=c11 -Wall -Wextra -Wpedantic -Wshadow -Wconversion -Werror
 
 LIB = target/staticlib/libbevaridhom.a
-SOURCES = $(addprefix host/, bev.c files.c refuse.c records.c show.c tables.c rebuild.c goals.c clash.c wishes.c overview.c steps.c cnf.c dimacs.c)
+SOURCES = $(addprefix host/, bev.c files.c refuse.c records.c show.c tables.c rebuild.c goals.c clash.c wishes.c overview.c rooms.c steps.c cnf.c dimacs.c)
 HEADERS = host/bev.h host/refusals.h include/bevaridhom.h
 CRATES := $(shell find crates -path '*/src/*.rt')
 VERSION = $(shell awk '/BEV_VERSION_(MAJOR|MINOR) / { v = v dot $$3; dot = "." } END { print v }' include/bevaridhom.h)

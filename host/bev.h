@@ -16,6 +16,8 @@ struct words {
     int count;
     const char *out; /* -o FILE, --out FILE, or NULL */
     const char *questions; /* --questions N, or NULL */
+    const char *allowance; /* --allowance N, or NULL */
+    const char *seconds; /* --seconds S, or NULL */
     bool dot;
     bool clean;
     bool version_two;
@@ -99,6 +101,7 @@ int run_derive(const struct words *w);
 int run_check(const struct words *w);
 int run_steps(const struct words *w);
 int run_dimacs(const struct words *w);
+int run_rooms(const struct words *w);
 
 /* A list of goals as the calls take it. Of a list that is too long it has as many as show that. */
 struct goals {
@@ -119,6 +122,12 @@ int tell_setting(const struct bytes *table, const uint8_t settings[BEV_POINTS], 
 
 /* Whether one setting makes a literal of a readable table true, and the settings. */
 bool is_possible(const struct bytes *table, size_t literal, uint8_t settings[BEV_POINTS]);
+
+/* ---- rooms.c ---- */
+
+/* One goal, decided unless the time is spent first: verdict 2. No verdict, and count 0, where there is no memory. */
+bool parse_seconds(const char *text, double *seconds);
+bev_turned decide_within(const struct bytes *table, uint16_t goal, double seconds, uint8_t settings[BEV_POINTS]);
 
 /* ---- cnf.c ---- */
 

@@ -15,7 +15,7 @@ struct refusal {
     const char *calls;
 };
 
-#define READS_TABLE "count, record, evaluate, add, decide, clash, wishes, overview, derive, check"
+#define READS_TABLE "count, record, evaluate, add, decide, clash, wishes, overview, derive, check, rooms_open, rooms_turn"
 #define READS_STEPS "check, open, step"
 
 static const struct refusal refusals[] = {
@@ -28,10 +28,10 @@ static const struct refusal refusals[] = {
     { 15, ABOUT_TABLE, "the point is over 1,023, or an operand is not an earlier node", "node", READS_TABLE },
     { 16, ABOUT_TABLE, "both operands are the same node, or they stand in the wrong order", "node", READS_TABLE },
     { 17, ABOUT_TABLE, "the record repeats an earlier one", "node", READS_TABLE },
-    { 20, ABOUT_GOAL, "the literal is not below twice the node count", "goal", "record, evaluate, decide, clash, wishes, overview, derive, check" },
-    { 21, ABOUT_FILE, "the settings are under 1,024 bytes", "0", "evaluate, decide, wishes" },
+    { 20, ABOUT_GOAL, "the literal is not below twice the node count", "goal", "record, evaluate, decide, clash, wishes, overview, derive, check, rooms_open, rooms_turn" },
+    { 21, ABOUT_FILE, "the settings are under 1,024 bytes", "0", "evaluate, decide, wishes, rooms_open, rooms_turn" },
     { 22, ABOUT_FILE, "the setting is above 2", "point", "evaluate" },
-    { 23, ABOUT_TABLE, "the work area is under 32,768 numbers", "0", "decide, clash, wishes, overview, derive, check" },
+    { 23, ABOUT_TABLE, "the work area is under 32,768 numbers", "0", "decide, clash, wishes, overview, derive, check, rooms_open, rooms_turn" },
     { 30, ABOUT_GOALS, "some setting makes every goal true", "0", "derive" },
     { 31, ABOUT_GOALS, "the derivation needs more bytes than were lent, or more than 65,536 blocks", "0", "derive" },
     { 40, ABOUT_FILE, "the derivation's length is zero, no multiple of 512, or over 33,554,432", "0", READS_STEPS },
@@ -53,6 +53,7 @@ static const struct refusal refusals[] = {
     { 66, ABOUT_WISHES, "the list of wishes has over 16", "0", "wishes" },
     { 67, ABOUT_GOALS, "no setting makes every goal true", "0", "wishes" },
     { 68, ABOUT_GOALS, "the list of goals is empty, has over 256, or is longer than the answer bytes lent", "0", "overview" },
+    { 69, ABOUT_GOALS, "there are no questions, or over 8", "0", "rooms_open, rooms_turn" },
 };
 
 #endif

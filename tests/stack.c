@@ -68,6 +68,15 @@ static void run_check(void)
 
 static void run_dimacs(void) { EXPECT(bev_dimacs((uint8_t *)text, text_len, buffer, sizeof buffer).number == 0); }
 
+static void run_rooms(void)
+{
+    static uint16_t areas[BEV_QUESTIONS * BEV_WORK];
+    static uint8_t all[BEV_QUESTIONS * BEV_POINTS];
+    EXPECT(bev_rooms_open(deep, sizeof deep, goals, BEV_QUESTIONS, all, sizeof all, areas, BEV_QUESTIONS * BEV_WORK).count == BEV_QUESTIONS);
+    for (int i = 0; i < 3; i++)
+        EXPECT(bev_rooms_turn(deep, sizeof deep, goals, BEV_QUESTIONS, all, sizeof all, areas, BEV_QUESTIONS * BEV_WORK, 8000).number == 0);
+}
+
 static void *run(void *call)
 {
     (*(void (**)(void))call)();
@@ -97,7 +106,7 @@ int main(void)
     static const struct { const char *name; void (*call)(void); } calls[] = {
         { "count", run_count }, { "record", run_record }, { "evaluate", run_evaluate }, { "add", run_add }, { "decide", run_decide },
         { "clash", run_clash }, { "wishes", run_wishes }, { "overview", run_overview },
-        { "derive", run_derive }, { "check", run_check }, { "open", run_open }, { "dimacs", run_dimacs },
+        { "derive", run_derive }, { "check", run_check }, { "open", run_open }, { "dimacs", run_dimacs }, { "rooms", run_rooms },
     };
     deep_table(deep);
     for (int i = 0; i < BEV_GOALS; i++)

@@ -31,6 +31,7 @@ use Rattle.granting.specs.declared.Grant.{Grant}
 use Rattle.wishes.specs.Wishes.{grantOf}
 use Rattle.overview.specs.Overview.{overview, answersAfter}
 use Rattle.overview.specs.Overviews.{Told}
+use Rattle.rooms.specs.declared.Turned.{Turned}
 use Rattle.adding.specs.declared.Mark.{Mark}
 use Rattle.cnf.specs.Text.{File, fileOf}
 use Rattle.cnf.specs.Meaning.{clausesTrue}
@@ -43,6 +44,7 @@ use Rattle.bevaridhom.specs.declared.BevAdded.{BevAdded}
 use Rattle.bevaridhom.specs.declared.BevDecided.{BevDecided}
 use Rattle.bevaridhom.specs.declared.BevClashed.{BevClashed}
 use Rattle.bevaridhom.specs.declared.BevAnswered.{BevAnswered}
+use Rattle.bevaridhom.specs.declared.BevTurned.{BevTurned}
 use Rattle.bevaridhom.specs.declared.BevDerived.{BevDerived}
 use Rattle.bevaridhom.specs.declared.BevChecked.{BevChecked}
 use Rattle.bevaridhom.specs.declared.BevWished.{BevWished}
@@ -128,6 +130,10 @@ pub record HostOverviews (t goals b w b′ w′ : List ℕ) (r : BevAnswered) : 
   pub bytes : b′ ≡ answersAfter b (overview t goals b w)
   pub work : (number place : ℕ) → overview t goals b w ≡ refused number place → w′ ≡ w
   pub each : r .number ≡ 0 → (i : ℕ) → i < length goals → Told t w (getD goals i 0) (getD b′ i 0)
+
+-- the values of an answer for rooms; the promises of the two calls are those of crate rooms (`OpensRooms`, `TurnsRooms`)
+abbrev pub roomsAnswer : BevTurned → Turned
+roomsAnswer r = record { number = r .number; place = r .place; count = r .count; turns = r .turns; verdicts = r .verdicts }
 
 abbrev pub deriveAnswer : Outcome ℕ → BevDerived
 deriveAnswer (answer n) = record { number = 0; place = 0; steps = n }

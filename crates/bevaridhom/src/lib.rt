@@ -4,7 +4,8 @@ ghost use Rattle.scope.specs.Calls.{tableCount, tableRecord, evaluate, add, byt
 ghost use Rattle.steps.specs.Opened.{stepCount};
 ghost use Rattle.rules.specs.Steps.{versionOf};
 ghost use Rattle.step_reader.specs.Handed.{stepHanded};
-ghost use Rattle.bevaridhom.specs.Answers.{countAnswer, recordAnswer, truthNumber, truthAnswer, addAnswer, versionAsked, versionNumber, openAnswer, stepAnswer, HostDecides, HostClashes, HostOverviews, HostDerives, HostChecks, HostWishes, HostReads};
+ghost use Rattle.rooms.specs.Calls.{OpensRooms, TurnsRooms};
+ghost use Rattle.bevaridhom.specs.Answers.{countAnswer, recordAnswer, truthNumber, truthAnswer, addAnswer, versionAsked, versionNumber, roomsAnswer, openAnswer, stepAnswer, HostDecides, HostClashes, HostOverviews, HostDerives, HostChecks, HostWishes, HostReads};
 use adding::Added;
 use checking::Checked;
 use deciding::Decided;
@@ -232,6 +233,55 @@ pub extern "C" fn bev_overview(t: &[u8], goals: &[u16], b: &mut [u8], w: &mut [u
             number: f.number,
             place: f.place,
         },
+    }
+}
+
+#[repr(C)]
+pub struct BevTurned {
+    pub number: u16,
+    pub place: usize,
+    pub count: usize,
+    pub turns: [usize; 8],
+    pub verdicts: [u8; 8],
+}
+
+// The first call for questions under one allowance: each search stands at its start, unfinished.
+#[no_mangle]
+pub extern "C" fn bev_rooms_open(t: &[u8], questions: &[u16], s: &[u8], w: &mut [u16]) -> BevTurned
+    ensures { λ r. ⌜ OpensRooms (now (t .entry)) (now (questions .entry)) (now (s .entry)) (now (w .entry)) (now (w .exit)) (roomsAnswer r) ⌝ }
+{
+    let v = rooms::open(t, questions, s, w);
+    let turns = v.turns;
+    let verdicts = v.verdicts;
+    BevTurned {
+        number: v.number,
+        place: v.place,
+        count: v.count,
+        turns,
+        verdicts,
+    }
+}
+
+// A later call: an allowance of turns goes round over the unfinished questions.
+#[no_mangle]
+pub extern "C" fn bev_rooms_turn(
+    t: &[u8],
+    questions: &[u16],
+    s: &mut [u8],
+    w: &mut [u16],
+    allowance: usize,
+) -> BevTurned
+    ensures { λ r. ⌜ TurnsRooms (now (t .entry)) (now (questions .entry)) (now (s .entry)) (now (w .entry)) allowance (now (s .exit)) (now (w .exit)) (roomsAnswer r) ⌝ }
+{
+    let v = rooms::turn(t, questions, s, w, allowance);
+    let turns = v.turns;
+    let verdicts = v.verdicts;
+    BevTurned {
+        number: v.number,
+        place: v.place,
+        count: v.count,
+        turns,
+        verdicts,
     }
 }
 

@@ -1,0 +1,2 @@
+-- Where a question's search stands. Assumes nothing.
+pub mod Standing

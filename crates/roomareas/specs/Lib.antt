@@ -1,0 +1,3 @@
+-- What the questions' areas hold. Assumes nothing.
+pub mod Areas
+pub mod Changes

@@ -1,0 +1,94 @@
+-- `rooms::spend` meets its contract: the searches are taken up, turns are spent on them, and they are put down. Assumes nothing.
+use mathlib.Core.Path.{_∙_}
+use native.Mathlib.Omega.{arith}
+use borrow.Author.Needs.{needs}
+use Rattle.rooms.proofs.Goes.{up-low, went, reported}
+use Rattle.rooms.proofs.spend.Statement.{statement}
+use Rattle.rooms.proofs.spend.Tie as tie
+
+next-requires : tie.Need-next-requires
+next-requires c κs = search needs
+
+slice-aggregate-take-up-all : tie.Need-slice-aggregate-take-up-all
+slice-aggregate-take-up-all c = search needs
+
+slice-aggregate-take-up-all-2 : tie.Need-slice-aggregate-take-up-all-2
+slice-aggregate-take-up-all-2 c = search needs
+
+take-up-all-requires : tie.Need-take-up-all-requires
+take-up-all-requires c κs =
+    let p = c .before .before .before .before .before .before .before .before .before .before .before .before .pre in
+    let f = p .1 .1 .1 .0 in
+    (p .0, (p .1 .1 .0, record { few = f .few; work = f .work; masks = search needs; stacks = search needs; verdicts = p .1 .1 .1 .1 .0 .1 }))
+
+slice-aggregate-spend : tie.Need-slice-aggregate-spend
+slice-aggregate-spend c = search needs
+
+slice-aggregate-spend-2 : tie.Need-slice-aggregate-spend-2
+slice-aggregate-spend-2 c = search needs
+
+cast-spend : tie.Need-cast-spend
+cast-spend c = search needs
+
+spend-requires : tie.Need-spend-requires
+spend-requires c κs =
+    let p = c .before .before .before .before .before .before .before .before .before .before .before .before .before .before .before .before .before .before .before .before .before .before .before .before .before .pre in
+    let f = p .1 .1 .1 .0 in
+    let z = p .1 .1 .1 .1 in
+    let u = c .before .before .before .before .before .before .before .before .before .before .before .before .take-up-all in
+    (p .0, (p .1 .0, (p .1 .1 .0, (record { few = f .few; work = omega (arith, f .work, u .kept .1 .1 .1 .0); masks = u .kept .1 .1 .1 .1 .0; stacks = u .kept .1 .1 .1 .1 .1 .0; verdicts = u .kept .1 .1 .1 .1 .1 .1 .0 ∙ z .0 .1 }, ((f .settings, z .0 .0), (z .1 .0, u .ensures .sits))))))
+
+cast-put-down : tie.Need-cast-put-down
+cast-put-down c =
+    let p = c .before .before .before .before .before .before .before .before .before .before .before .before .before .before .before .before .before .before .before .before .before .before .before .before .before .before .before .before .before .before .before .before .before .before .before .before .before .before .pre in
+    omega (arith, up-low (c .before .before .before .before .before .before .before .before .before .before .before .before .before .before .before .before .before .before .before .before .before .before .before .before .before .before .before .before .before .before .next .ensures) (c .before .before .before .before .before .before .before .before .before .before .before .before .before .before .before .before .before .before .before .before .before .before .before .before .before .take-up-all .ensures) (c .before .before .before .before .before .before .before .before .before .before .before .before .spend .ensures) (search needs) (p .1 .1 .1 .0 .few))
+
+put-down-requires : tie.Need-put-down-requires
+put-down-requires c κs =
+    let p = c .before .before .before .before .before .before .before .before .before .before .before .before .before .before .before .before .before .before .before .before .before .before .before .before .before .before .before .before .before .before .before .before .before .before .before .before .before .before .pre in
+    let f = p .1 .1 .1 .0 in
+    let u = c .before .before .before .before .before .before .before .before .before .before .before .before .before .before .before .before .before .before .before .before .before .before .before .before .before .take-up-all in
+    let v = c .before .before .before .before .before .before .before .before .before .before .before .before .spend in
+    (f .some, f .few, omega (arith, f .work, u .kept .1 .1 .1 .0, v .kept .1 .1 .1 .1 .0), v .kept .1 .1 .1 .1 .1 .1 .1 .0 ∙ u .kept .1 .1 .1 .1 .1 .1 .0 ∙ p .1 .1 .1 .1 .0 .1)
+
+same-length : tie.Need-same-length
+same-length c = search needs
+
+same-length-2 : tie.Need-same-length-2
+same-length-2 c = search needs
+
+same-length-3 : tie.Need-same-length-3
+same-length-3 c = search needs
+
+same-length-4 : tie.Need-same-length-4
+same-length-4 c = search needs
+
+returns : tie.Need-returns
+returns c =
+    let p = c .before .before .before .before .before .before .before .before .before .before .before .before .before .before .before .before .before .before .before .before .before .before .before .before .before .before .before .before .before .before .before .before .before .before .before .before .before .before .before .before .before .pre in
+    let u = c .before .before .before .before .before .before .before .before .before .before .before .before .before .before .before .before .before .before .before .before .before .before .before .before .before .before .before .before .take-up-all in
+    let v = c .before .before .before .before .before .before .before .before .before .before .before .before .before .before .before .spend in
+    let z = p .1 .1 .1 .1 in (
+      went (c .before .before .before .before .before .before .before .before .before .before .before .before .before .before .before .before .before .before .before .before .before .before .before .before .before .before .before .before .before .before .before .before .before .next .ensures) (u .ensures) (v .ensures) (c .before .before .put-down .ensures) (v .kept .1 .1 .1 .0),
+      reported (c .before .before .before .before .before .before .before .before .before .before .before .before .before .before .before .before .before .before .before .before .before .before .before .before .before .before .before .before .before .before .before .before .before .next .ensures) (u .ensures) (v .ensures) (v .kept .1 .1 .1 .1 .1 .1 .1 .1 .0 ∙ z .0 .0) (v .kept .1 .1 .1 .1 .1 .1 .1 .0 ∙ u .kept .1 .1 .1 .1 .1 .1 .0 ∙ z .0 .1) (z .1 .1),
+    )
+
+pub spend-spec : {M : Type 1} → statement M
+spend-spec =
+    tie.close
+    (tie.spec
+    next-requires
+    slice-aggregate-take-up-all
+    slice-aggregate-take-up-all-2
+    take-up-all-requires
+    slice-aggregate-spend
+    slice-aggregate-spend-2
+    cast-spend
+    spend-requires
+    cast-put-down
+    put-down-requires
+    same-length
+    same-length-2
+    same-length-3
+    same-length-4
+    returns)

@@ -1,0 +1,3 @@
+-- Laws for the proofs of the functions. Assumes nothing.
+pub mod Serving
+pub mod Spending

@@ -1,0 +1,216 @@
+-- Turn by turn: what the call has come to after k turns is the round after k turns. Assumes nothing.
+use mathlib.Core.Path.{_≡_, refl, sym, ap, _∙_}
+use mathlib.Core.Bool.{Bool, true, true≢false}
+use mathlib.Core.List.{List}
+use Prim.Native.Nat.{ℕ, suc, _+_, _-_, _<_, _≤_}
+use native.Mathlib.Numerals.{add-one}
+use native.Mathlib.Omega.{arith}
+use native.Mathlib.Decide.{ℕ-discrete}
+use lib.ListN.{length, getD, set, length-set}
+use lib.Seq.{getD-set-same, getD-set-other}
+use borrow.Author.Tests.{eq-eqb, ne-eqb, eqb-true, lt-ltb, le-ltb}
+use Rattle.scope.specs.declared.Node.{Node}
+use Rattle.scope.specs.Table.{listFrom}
+use Rattle.calculus.specs.Count.{one}
+use Rattle.calculus.specs.Expansion.{expand}
+use Rattle.units.specs.Units.{words}
+use Rattle.state.specs.Work.{gOf}
+use Rattle.turns.specs.Turn.{Search, running, found, closed, isRunning}
+use Rattle.turns.specs.Round.{Round, runs, seek, upNext, whose, turnFor, serve, spend, turnsFor, written}
+use Rattle.turns.proofs.Rounds.{up, up-same, serve-one, serve-same, serve-other, spend-add, spend-none, spend-next, turns-add, turns-next, turns-none, turns-fit}
+use Rattle.turns.proofs.Rooms.{written-parts, finished-stays}
+use Rattle.replaying.specs.Standing.{stackSize, searchBy, Stands}
+use Rattle.replaying.proofs.Standings.{made-stands}
+use Rattle.roomareas.specs.Areas.{areaSize, pointsSize, partOf, goalOf, goalsOf}
+use Rattle.roomareas.specs.Changes.{searchAt, SitsAt, Sits}
+use Rattle.roomareas.proofs.Sitting.{search-here, sits-here, verdict-other, search-other, sits-other}
+use Rattle.rounds.specs.Spent.{runsBy, turnAt, Served, roundIn, roundAfter, turnsAfter, Spent}
+use Rattle.rounds.proofs.Serving.{made-runs}
+
+-- who is up, by two looks
+module _ (p : ℕ → Bool) (q next : ℕ) {i : ℕ} (e : i ≡ seek p next (q - next)) where
+  pub up-early : i < q → i ≡ upNext p q next
+  unfolding upNext
+  up-early h = rw (← e, lt-ltb i q h)
+
+  pub up-late : q ≤ i → {j : ℕ} → j ≡ seek p 0 (q - 0) → j ≡ upNext p q next
+  unfolding upNext
+  up-late h d =
+      let z : q - 0 ≡ q = omega arith in
+      rw (← e, le-ltb i q h) (rw z at d)
+
+-- at the start no turn is spent
+pub spent-starts : {t : ℕ → Node} {n : ℕ} {questions : List ℕ} (s : List ℕ) {w m o v : List ℕ} (turns : List ℕ) (first : ℕ) → Sits t n questions w m o v
+    → ((i : ℕ) → getD turns i 0 ≡ 0) → Spent t n questions s w v first 0 s w m o v turns first
+unfolding spend turnsFor
+spent-starts {t} {n} s {w} {v = v} turns first h z = record {
+  next = refl;
+  searches = λ i l. refl;
+  sits = h;
+  turns = λ i l. z i;
+  settings = λ i l. idle (listFrom t 0 n) (searchAt w v i) (partOf pointsSize i s);
+  beyond = λ i l. (refl, refl, z i);
+}
+  where
+    idle : (rs : List Node) (x : Search) (p : List ℕ) → p ≡ written rs x x p
+    idle rs (running G) p = refl
+    idle rs (found G) p = refl
+    idle rs closed p = refl
+
+module _ {t : ℕ → Node} {n : ℕ} {questions s₀ w₀ v₀ : List ℕ} {first k : ℕ} {s w m o v turns : List ℕ} {next : ℕ}
+    (a : Spent t n questions s₀ w₀ v₀ first k s w m o v turns next) where
+  -- how many questions there are, the turn of each, and the round now
+  abbrev count : ℕ
+  count = length questions
+
+  abbrev turnOf : ℕ → Search → Search
+  turnOf = turnFor (expand t) (goalOf questions)
+
+  abbrev now : Round
+  now = roundAfter t questions w₀ v₀ first k
+
+  runs-by : (j : ℕ) → j < count → runsBy v j ≡ runs now j
+  runs-by j h = sym (made-runs (searchAt w v j) (a .sits j h)) ∙ ap isRunning (a .searches j h)
+
+  -- each has had no more turns than were spent
+  pub turns-few : (i : ℕ) → i < count → getD turns i 0 ≤ k
+  turns-few i h = omega (arith, a .turns i h, turns-fit turnOf count k (roundIn w₀ v₀ first) i)
+
+  module _ {i : ℕ} (e : i ≡ upNext (runsBy v) count next) where
+    up-is : i ≡ whose count now
+    up-is = e ∙ ap (upNext (runsBy v) count) (a .next) ∙ up-same (runsBy v) (runs now) count (now .next) runs-by
+
+    -- none is up: however much is left, nothing more happens
+    module _ (h : count ≤ i) (m′ : ℕ) (l : k ≤ m′) where
+      over : count ≤ whose count now
+      over = omega (arith, up-is)
+
+      parts : m′ ≡ k + (m′ - k)
+      parts = omega arith
+
+      still : roundAfter t questions w₀ v₀ first m′ ≡ now
+      still =
+          ap (λ (j : ℕ). roundAfter t questions w₀ v₀ first j) parts ∙ spend-add turnOf count k (m′ - k) (roundIn w₀ v₀ first)
+          ∙ spend-none turnOf count (m′ - k) now over
+
+      no-turns : (j : ℕ) → j < count → turnsAfter t questions w₀ v₀ first m′ j ≡ turnsAfter t questions w₀ v₀ first k j
+      no-turns j b =
+          ap (λ (q : ℕ). turnsAfter t questions w₀ v₀ first q j) parts
+          ∙ omega (arith, turns-add turnOf count k (m′ - k) (roundIn w₀ v₀ first) j, turns-none turnOf count (m′ - k) now j over b)
+
+      pub spent-all : Spent t n questions s₀ w₀ v₀ first m′ s w m o v turns next
+      spent-all = record {
+        next = a .next ∙ ap (λ (R : Round). R .next) (sym still);
+        searches = λ j b. a .searches j b ∙ ap (λ (R : Round). R .searches j) (sym still);
+        sits = a .sits;
+        turns = λ j b. a .turns j b ∙ sym (no-turns j b);
+        settings = λ j b. a .settings j b ∙ ap (λ (R : Round). written (listFrom t 0 n) (searchAt w₀ v₀ j) (R .searches j) (partOf pointsSize j s₀)) (sym still);
+        beyond = a .beyond;
+      }
+
+    -- question i is up
+    module _ (h : i < count) where
+      up-runs : runs now i ≡ true
+      up-runs = rw up-is (up (runs now) count (now .next) .passes (omega (arith, up-is)))
+
+      up-number : getD v i 0 ≡ 2
+      up-number = eqb-true (getD v i 0) 2 (runs-by i h ∙ up-runs)
+
+      pub up-stands : Stands t n (goalsOf questions i) (partOf areaSize i w) (partOf words i m) (partOf stackSize i o)
+      up-stands = made-stands (searchAt w v i) (a .sits i h) up-number
+
+      up-search : now .searches i ≡ running (gOf (partOf areaSize i w))
+      unfolding searchBy
+      up-search = sym (a .searches i h) ∙ ap (λ (x : ℕ). searchBy x (gOf (partOf areaSize i w))) up-number
+
+      -- the round one turn further
+      abbrev then : Round
+      then = roundAfter t questions w₀ v₀ first (k + 1)
+
+      further : then ≡ serve turnOf count now
+      further = spend-next turnOf count k (roundIn w₀ v₀ first)
+
+      then-here : then .searches i ≡ turnAt t questions i w
+      then-here =
+          ap (λ (R : Round). R .searches i) further ∙ serve-same turnOf count now i (omega (arith, up-is)) up-is
+          ∙ ap (turnOf i) up-search
+
+      then-other : (j : ℕ) → (j ≡ i → ⊥) → then .searches j ≡ now .searches j
+      then-other j d = ap (λ (R : Round). R .searches j) further ∙ serve-other turnOf count now j (λ z. d (z ∙ sym up-is))
+
+      then-next : then .next ≡ i + 1
+      then-next =
+          ap (λ (R : Round). R .next) further ∙ ap (λ (R : Round). R .next) (serve-one turnOf count now (omega (arith, up-is)))
+          ∙ ap suc (sym up-is) ∙ sym (add-one i)
+
+      module _ {s′ w′ m′ o′ : List ℕ} {r : ℕ} (x : Served t n questions i s w m o s′ w′ m′ o′ r) (l : i < length v) (z : i < length turns) where
+        abbrev more : List ℕ
+        more = set turns i (getD turns i 0 + 1)
+
+        sit : (j : ℕ) → j < count → Dec (j ≡ i) → SitsAt t n questions w′ m′ o′ (set v i r) j
+        sit j b (yes d) = rw d (sits-here questions v (x .made) l)
+        sit j b (no d) = sits-other questions v (x .made) l d (a .sits j b)
+
+        moved : (j : ℕ) → j < count → Dec (j ≡ i) → searchAt w′ (set v i r) j ≡ then .searches j
+        moved j b (yes d) = rw d (search-here questions v (x .made) l ∙ sym then-here)
+        moved j b (no d) = search-other questions v (x .made) l d ∙ a .searches j b ∙ sym (then-other j d)
+
+        counted : (j : ℕ) → j < count → Dec (j ≡ i) → getD more j 0 ≡ turnsAfter t questions w₀ v₀ first (k + 1) j
+        counted j b (yes d) =
+            rw d
+            (getD-set-same turns i (getD turns i 0 + 1) 0 z
+            ∙ omega (arith, a .turns i h, turns-next turnOf count k (roundIn w₀ v₀ first) i, ap one (eq-eqb i (whose count now) up-is)))
+        counted j b (no d) =
+            getD-set-other turns i j (getD turns i 0 + 1) 0 d
+            ∙ omega (arith, a .turns j b, turns-next turnOf count k (roundIn w₀ v₀ first) j, ap one (ne-eqb j (whose count now) (λ y. d (y ∙ sym up-is))))
+
+        set-bytes : (j : ℕ) → j < count → Dec (j ≡ i)
+            → partOf pointsSize j s′ ≡ written (listFrom t 0 n) (searchAt w₀ v₀ j) (then .searches j) (partOf pointsSize j s₀)
+        set-bytes j b (yes d) =
+            rw d
+            (x .setting ∙ sym (rw (up-search, then-here))
+            ∙ ap (written (listFrom t 0 n) (now .searches i) (then .searches i)) (a .settings i h)
+            ∙ written-parts (listFrom t 0 n) (partOf pointsSize i s₀) (searchAt w₀ v₀ i) (now .searches i) (then .searches i)
+            (finished-stays (expand t) (goalOf questions) count k (roundIn w₀ v₀ first) i h) (λ y. absurd (true≢false (sym up-runs ∙ y))))
+        set-bytes j b (no d) =
+            x .others .other j d ∙ a .settings j b
+            ∙ ap (λ (y : Search). written (listFrom t 0 n) (searchAt w₀ v₀ j) y (partOf pointsSize j s₀)) (sym (then-other j d))
+
+        pub spent-more : Spent t n questions s₀ w₀ v₀ first (k + 1) s′ w′ m′ o′ (set v i r) more (i + 1)
+        spent-more = record {
+          next = sym then-next;
+          searches = λ j b. moved j b (ℕ-discrete j i);
+          sits = λ j b. sit j b (ℕ-discrete j i);
+          turns = λ j b. counted j b (ℕ-discrete j i);
+          settings = λ j b. set-bytes j b (ℕ-discrete j i);
+          beyond = λ j b.
+              let d : j ≡ i → ⊥ = λ y. omega arith in (
+                x .others .other j d ∙ a .beyond j b .0,
+                verdict-other questions v (x .made) l d ∙ a .beyond j b .1,
+                getD-set-other turns i j (getD turns i 0 + 1) 0 d ∙ a .beyond j b .2,
+              );
+        }
+
+-- ---- the lengths of what is lent stay
+
+pub record Long (s₀ w₀ m₀ o₀ v₀ u₀ s w m o v u : List ℕ) : Type 0 where
+  pub settings : length s ≡ length s₀
+  pub work : length w ≡ length w₀
+  pub masks : length m ≡ length m₀
+  pub stacks : length o ≡ length o₀
+  pub verdicts : length v ≡ length v₀
+  pub turns : length u ≡ length u₀
+
+pub long-starts : (s w m o v u : List ℕ) → Long s w m o v u s w m o v u
+long-starts s w m o v u = record { settings = refl; work = refl; masks = refl; stacks = refl; verdicts = refl; turns = refl }
+
+pub long-more : {s₀ w₀ m₀ o₀ v₀ u₀ s w m o v u s′ w′ m′ o′ : List ℕ} (i r y : ℕ) → Long s₀ w₀ m₀ o₀ v₀ u₀ s w m o v u → length s′ ≡ length s
+    → length w′ ≡ length w → length m′ ≡ length m → length o′ ≡ length o → Long s₀ w₀ m₀ o₀ v₀ u₀ s′ w′ m′ o′ (set v i r) (set u i y)
+long-more {v = v} {u = u} i r y a b c d e = record {
+  settings = b ∙ a .settings;
+  work = c ∙ a .work;
+  masks = d ∙ a .masks;
+  stacks = e ∙ a .stacks;
+  verdicts = length-set v i r ∙ a .verdicts;
+  turns = length-set u i y ∙ a .turns;
+}

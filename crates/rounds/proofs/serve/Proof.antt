@@ -1,0 +1,75 @@
+-- `rounds::serve` meets its contract: by whether the turn finds a model. Assumes nothing.
+use native.Mathlib.Omega.{arith}
+use borrow.Author.Needs.{needs}
+use Rattle.roomareas.proofs.Sitting.{goal-below}
+use Rattle.rounds.proofs.Serving.{served-found, served-else}
+use Rattle.rounds.proofs.serve.Statement.{statement}
+use Rattle.rounds.proofs.serve.Tie as tie
+
+mul-turn-at : tie.Need-mul-turn-at
+mul-turn-at c = search needs
+
+shared-slice-read-turn-at : tie.Need-shared-slice-read-turn-at
+shared-slice-read-turn-at c = search needs
+
+turn-at-requires : tie.Need-turn-at-requires
+turn-at-requires c κs =
+    let p = c .before .before .before .before .before .before .before .before .before .before .pre in
+    let f = p .1 .1 .1 .0 in
+    (p .0, ((goal-below (p .1 .1 .0) (f .0), f .1, f .2), (p .1 .1 .1 .1 .0, p .1 .1 .1 .1 .1)))
+
+mark-requires : tie.Need-mark-requires
+mark-requires c κs =
+    let p = c .before .before .before .before .before .before .before .before .before .before .before .before .before .before .before .before .before .before .before .before .pre in
+    let f = p .1 .1 .1 .0 in
+    let u = c .before .before .before .before .before .before .before .before .before .turn-at in
+    (p .0, (p .1 .0, ((f .1, omega (arith, f .2, u .kept .1 .1 .1 .0), f .3), u .ensures .1)))
+
+same-length : tie.Need-same-length
+same-length c = search needs
+
+same-length-2 : tie.Need-same-length-2
+same-length-2 c = search needs
+
+same-length-3 : tie.Need-same-length-3
+same-length-3 c = search needs
+
+same-length-4 : tie.Need-same-length-4
+same-length-4 c = search needs
+
+returns : tie.Need-returns
+returns c =
+    let u = c .before .before .before .before .before .before .before .before .before .before .before .before .turn-at in
+    served-found (c .before .before .before .before .before .before .before .before .before .before .before .before .before .before .before .before .before .before .before .before .before .before .before .args .questions .now) (c .before .before .before .before .before .before .before .before .before .before .before .before .before .before .before .before .before .before .before .before .before .before .before .args .settings .now) (u .ensures .0) (c .before .before .before .before .before .if1 .taken) (c .before .before .mark .ensures)
+
+same-length-5 : tie.Need-same-length-5
+same-length-5 c = search needs
+
+same-length-6 : tie.Need-same-length-6
+same-length-6 c = search needs
+
+same-length-7 : tie.Need-same-length-7
+same-length-7 c = search needs
+
+returns-2 : tie.Need-returns-2
+returns-2 c =
+    let u = c .before .before .before .before .before .before .before .turn-at in
+    served-else (c .before .before .before .before .before .before .before .before .before .before .before .before .before .before .before .before .before .before .args .questions .now) (c .before .before .before .before .before .before .before .before .before .before .before .before .before .before .before .before .before .before .args .settings .now) (u .ensures .0) (c .if1 .left)
+
+pub serve-spec : {M : Type 1} → statement M
+serve-spec =
+    tie.close
+    (tie.spec
+    mul-turn-at
+    shared-slice-read-turn-at
+    turn-at-requires
+    mark-requires
+    same-length
+    same-length-2
+    same-length-3
+    same-length-4
+    returns
+    same-length-5
+    same-length-6
+    same-length-7
+    returns-2)

@@ -1,0 +1,2 @@
+-- What a call makes of a round. Assumes nothing.
+pub mod Spent

@@ -1,0 +1,63 @@
+-- What the functions of this crate make of the questions' searches in a call, turn by turn. Assumes nothing.
+use mathlib.Core.Path.{_≡_}
+use mathlib.Core.Bool.{Bool}
+use mathlib.Core.List.{List, _++_}
+use Prim.Native.Nat.{ℕ, _+_, _<_, _≤_}
+use lib.Dec.{eqb}
+use lib.ListN.{length, getD, drop}
+use Rattle.scope.specs.declared.Node.{Node}
+use Rattle.scope.specs.Table.{listFrom}
+use Rattle.calculus.specs.Expansion.{expand}
+use Rattle.calculus.specs.Order.{settingOf}
+use Rattle.calculus.specs.Decide.{settingsOn}
+use Rattle.index.specs.Index.{indexNode}
+use Rattle.state.specs.Work.{gOf}
+use Rattle.turns.specs.Turn.{Search, running, verdictOf, turn}
+use Rattle.turns.specs.Round.{Round, turnFor, spend, turnsFor, written}
+use Rattle.roomareas.specs.Areas.{areaSize, pointsSize, partOf, goalOf, goalsOf}
+use Rattle.roomareas.specs.Changes.{Beside, MadeAt, searchAt, Sits}
+
+-- question j is unfinished, by the verdicts
+abbrev pub runsBy : List ℕ → ℕ → Bool
+runsBy v j = eqb (getD v j 0) 2
+
+-- each ATOM of the index has a point
+abbrev pub Pointed : List ℕ → ℕ → Type 0
+Pointed x n = (i : ℕ) → i < n → indexNode x i .kind ≡ 2 → indexNode x i .a < 1024
+
+-- question i's setting bytes are those of the literals that its area holds
+pub record MarkedAt (t : ℕ → Node) (n i : ℕ) (w s s′ : List ℕ) : Type 0 where
+  pub setting : partOf pointsSize i s′ ≡ settingOf (listFrom t 0 n) (gOf (partOf areaSize i w)) ++ drop 1024 (partOf pointsSize i s)
+  pub others : Beside pointsSize i s s′
+
+-- the turn of question i
+abbrev pub turnAt : (ℕ → Node) → List ℕ → ℕ → List ℕ → Search
+turnAt t questions i w = turn (expand t) (goalsOf questions i) (running (gOf (partOf areaSize i w)))
+
+-- question i has made a turn
+pub record Served (t : ℕ → Node) (n : ℕ) (questions : List ℕ) (i : ℕ) (s w m o s′ w′ m′ o′ : List ℕ) (r : ℕ) : Type 0 where
+  pub made : MadeAt t n (goalsOf questions i) i w m o w′ m′ o′ (turnAt t questions i w) r
+  pub setting : partOf pointsSize i s′ ≡ settingsOn (listFrom t 0 n) (partOf pointsSize i s) (verdictOf (turnAt t questions i w))
+  pub others : Beside pointsSize i s s′
+
+-- the round of a call
+abbrev pub roundIn : List ℕ → List ℕ → ℕ → Round
+roundIn w v next = record { searches = searchAt w v; next = next }
+
+-- the round after so many turns, and the turns of each question
+abbrev pub roundAfter : (ℕ → Node) → List ℕ → List ℕ → List ℕ → ℕ → ℕ → Round
+roundAfter t questions w v first k = spend (turnFor (expand t) (goalOf questions)) (length questions) k (roundIn w v first)
+
+abbrev pub turnsAfter : (ℕ → Node) → List ℕ → List ℕ → List ℕ → ℕ → ℕ → ℕ → ℕ
+turnsAfter t questions w v first k i = turnsFor (turnFor (expand t) (goalOf questions)) (length questions) k (roundIn w v first) i
+
+-- k turns have been spent on the questions, from the settings s, the areas w and the verdicts v on
+pub record Spent (t : ℕ → Node) (n : ℕ) (questions s w v : List ℕ) (first k : ℕ) (s′ w′ m′ o′ v′ turns′ : List ℕ) (up : ℕ) : Type 0 where
+  pub next : up ≡ roundAfter t questions w v first k .next
+  pub searches : (i : ℕ) → i < length questions → searchAt w′ v′ i ≡ roundAfter t questions w v first k .searches i
+  pub sits : Sits t n questions w′ m′ o′ v′
+  pub turns : (i : ℕ) → i < length questions → getD turns′ i 0 ≡ turnsAfter t questions w v first k i
+  pub settings : (i : ℕ) → i < length questions
+      → partOf pointsSize i s′ ≡ written (listFrom t 0 n) (searchAt w v i) (roundAfter t questions w v first k .searches i) (partOf pointsSize i s)
+  -- nothing else changes
+  pub beyond : (i : ℕ) → length questions ≤ i → (partOf pointsSize i s′ ≡ partOf pointsSize i s) × (getD v′ i 0 ≡ getD v i 0) × (getD turns′ i 0 ≡ 0)
