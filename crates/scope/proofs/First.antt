@@ -50,3 +50,13 @@ module _ (f : ℕ → Outcome (Unit {0})) where
   fine-each n i q k a b =
       let z : i + (k - i) ≡ k = omega arith in
       rw z at (fine-at n i (k - i) q (omega arith))
+
+  -- those before d pass and that at d refuses: that is the answer
+  pub first-refuses : (number place : ℕ) (n i d : ℕ)
+      → d < n → ((k : ℕ) → i ≤ k → k < i + d → f k ≡ fine) → f (i + d) ≡ refused number place → first f i n ≡ refused number place
+  unfolding first
+  first-refuses number place zero i d h ok e = absurd (not-suc-le-zero h)
+  first-refuses number place (suc n) i zero h ok e = rw (rw add-zero at e)
+  first-refuses number place (suc n) i (suc d) h ok e =
+      rw (ok i (omega arith) (omega arith))
+      (first-refuses number place n (suc i) d (omega arith) (λ k a b. ok k (omega arith) (omega arith)) (rw (add-suc, ← suc-add) at e))

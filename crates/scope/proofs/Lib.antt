@@ -5,3 +5,5 @@ pub mod Lists
 pub mod Operands
 pub mod Records
 pub mod Seals
+pub mod Units
+pub mod Checks

@@ -1,9 +1,9 @@
 -- Laws of the check at a block's end: only the 510 bytes before it count. Assumes nothing.
 use mathlib.Core.Path.{_≡_, refl, ap}
 use mathlib.Core.List.{List, _∷_, _++_}
-use Prim.Native.Nat.{ℕ, zero, suc, _-_, _≤_}
-use native.Mathlib.Nat.{le-refl}
+use Prim.Native.Nat.{ℕ, zero, suc, _-_, _%_, _≤_}
 use native.Mathlib.Omega.{arith}
+use lib.Dec.{lit≤}
 use lib.ListN.{length, take, replicate, length-append, length-replicate}
 use lib.Seq.{getD-take, take-all}
 use Rattle.scope.specs.Block.{weighted, checkOf, wordBytes, seal, blockOf}
@@ -14,9 +14,12 @@ weighted-take zero m b h = refl
 weighted-take (suc n) m b h = rw (weighted-take n m b (omega arith), getD-take m b n 0 h)
 
 module _ (a b : List ℕ) (e : take 510 a ≡ take 510 b) where
+  weighted-same : (n : ℕ) → n ≤ 510 → weighted a n ≡ weighted b n
+  weighted-same n h = rw (← weighted-take n 510 a h, e, weighted-take n 510 b h)
+
   pub check-same : checkOf a ≡ checkOf b
   unfolding checkOf
-  check-same = rw (← weighted-take 510 510 a (le-refl 510), e, weighted-take 510 510 b (le-refl 510))
+  check-same = ap (_% 65521) (weighted-same _ (lit≤ tt))
 
   pub seal-same : seal a ≡ seal b
   unfolding seal

@@ -5,3 +5,4 @@ pub mod Table
 pub mod Truth
 pub mod Kleene
 pub mod Calls
+pub mod OneByte
