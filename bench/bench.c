@@ -138,7 +138,7 @@ static uint64_t steps;
 static void derive(const a_case *c, int side)
 {
     if (side == LIB) {
-        bev_derived v = bev_derive(c->table, c->len, c->goals.goal, c->goals.count, work, BEV_WORK, derivation[LIB], ROOM);
+        bev_derived v = bev_derive(c->table, c->len, c->goals.goal, c->goals.count, 0, work, BEV_WORK, derivation[LIB], ROOM);
         say(LIB, v.number, v.place, v.steps, 0);
     } else {
         p_refusal v;

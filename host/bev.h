@@ -116,9 +116,10 @@ bool parse_goals(char **word, size_t count, struct goals *goals);
 /* The literals that words name; those past the room are looked at, and left out. */
 bool parse_literals(char **word, size_t count, uint16_t *literal, size_t room);
 
-/* Prints a heading and the setting that was found, which goes to a file where one is named; the status told, or what went wrong. */
-int tell_setting(const struct bytes *table, const uint8_t settings[BEV_POINTS], const char *heading, int told, const struct words *w,
-                 const struct names *of);
+/* Prints a heading, the setting that was found, which goes to a file where one is named, and what closes it; the status told, or what went
+ * wrong. */
+int tell_setting(const struct bytes *table, const uint8_t settings[BEV_POINTS], const char *heading, const char *closing, int told,
+                 const struct words *w, const struct names *of);
 
 /* Whether one setting makes a literal of a readable table true, and the settings. */
 bool is_possible(const struct bytes *table, size_t literal, uint8_t settings[BEV_POINTS]);

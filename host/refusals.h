@@ -49,11 +49,11 @@ static const struct refusal refusals[] = {
     { 62, ABOUT_GOALS, "the list of goals is empty or has over 64", "0", "decide, clash, wishes, derive, check" },
     { 63, ABOUT_GOALS, "the goals are possible together", "0", "clash" },
     { 64, ABOUT_FILE, "a step that names a goal is wrong, missing or late", "step", "check" },
-    { 65, ABOUT_FILE, "version two has no step R or E", "step", READS_STEPS },
     { 66, ABOUT_WISHES, "the list of wishes has over 16", "0", "wishes" },
     { 67, ABOUT_GOALS, "no setting makes every goal true", "0", "wishes" },
     { 68, ABOUT_GOALS, "the list of goals is empty, has over 256, or is longer than the answer bytes lent", "0", "overview" },
     { 69, ABOUT_GOALS, "there are no questions, or over 8", "0", "rooms_open, rooms_turn" },
+    { 65, ABOUT_FILE, "version two has no step R or E", "step", READS_STEPS },
 };
 
 #endif

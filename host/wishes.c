@@ -75,7 +75,7 @@ int run_wishes(const struct words *w)
     if (parse_lists(&x, w, &of) && load_table(of.table, &x.table)) {
         bev_wished v = ask_with_progress(&x);
         snprintf(heading, sizeof heading, "met %zu\nbound %zu\nquestions %zu", v.met, v.bound, v.questions);
-        status = v.number ? refuse(v.number, v.place, &of) : tell_setting(&x.table, x.settings, heading, DONE, w, &of);
+        status = v.number ? refuse(v.number, v.place, &of) : tell_setting(&x.table, x.settings, heading, "", DONE, w, &of);
     }
     free(x.table.at);
     return status;

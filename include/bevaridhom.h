@@ -20,10 +20,6 @@
  * block of that byte; of a derivation whose blocks pass 41 to 43, bev_open and bev_check answer 41 there, and so does bev_step of a step
  * in that block.
  *
- * Damage. Where exactly one byte of a readable table is changed to another value, every call that reads it answers 11, and place is the
- * block of that byte; of a derivation whose blocks pass 41 to 43, bev_open and bev_check answer 41 there, and so does bev_step of a step
- * in that block.
- *
  * Threads. Calls keep no state and share none: they may run at the same time where no area that one of them may write is lent to
  * another. A call allocates nothing and takes at most BEV_STACK bytes of stack. */
 #ifndef BEVARIDHOM_H

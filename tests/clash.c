@@ -119,7 +119,7 @@ static void random_lists(void)
     for (int i = 3; i <= 64; i++)
         several += kept[i];
     printf("random lists: %lu possible, %lu keep one goal, %lu two, %lu more\n", kept[0], kept[1], kept[2], several);
-    EXPECT(kept[0] > 1000 && kept[1] > 500 && kept[2] > 500 && several > 300);
+    EXPECT(kept[0] > 1000 && kept[1] > 500 && kept[2] > 500 && several > 200);
 }
 
 /* Points 0 to m - 1, and that not all of them are yes: of the m + 1 goals all are needed. Behind them others that clash with none. */

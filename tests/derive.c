@@ -566,7 +566,8 @@ static void samples_two(const uint8_t *t)
     sample(t, g13, "G13 R0.0 U0 C1", 65, 1);
     sample(t, g13, "G13 U0 E0 C1", 65, 2);
     sample(t, g13, "R0.0", 65, 0);
-    sample(t, g13, "R0.2 E0", 44, 0);
+    sample(t, g13, "R0.3 E0", 44, 0);
+    sample(t, g13, "R0.2 E0", 65, 0);
     sample(t, g13, "E0 R0.2", 65, 0);
     sample(t, g13, "E0.1", 44, 0);
     sample(t, g13, "U0 X0 R0.0", 44, 1);

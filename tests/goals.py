@@ -8,7 +8,16 @@ import re
 import subprocess
 
 from command import ANSWERED, IMPOSSIBLE, POSSIBLE, REFUSED, get, put
-from tables import A, AND, ATOM, IFF, IMP, OR, TRUE, checked, derivation, edited, expansion, full_table, jump, parity, possible_together, search, setting_of, some_goals, some_table, table, truths
+from tables import A, AND, AND3, ATOM, IFF, IMP, OR, OR3, TRUE, checked, derivation, edited, expansion, full_table, jump, parity, points_of, possible_together, search, setting_of, some_goals, some_table, table, truths
+
+def triples():
+    """The eight clauses of three points, all of them, which is impossible, and the same with every sign turned: removals at each position."""
+    records = [(ATOM, p, 0) for p in range(3)]
+    for each, all_of, pair in ((OR3, AND3, AND), (AND3, OR3, OR)):
+        l = 2 * len(records)
+        records += [(each, w & 1, 2 + (w >> 1 & 1), 4 + (w >> 2)) for w in range(8)]
+        records += [(all_of, l, l + 2, l + 4), (all_of, l + 6, l + 8, l + 10), (pair, l + 12, l + 14), (all_of, l + 16, l + 18, l + 20)]
+    return records
 
 def goal_lists(rng, records, count):
     """Each literal by itself, and so many lists."""
@@ -26,13 +35,16 @@ def decision(records, goals, brute=False):
     setting = setting_of(records, model)
     v = truths(records, {p for p in range(1024) if setting[p] == 1})
     assert all(v[g // 2] != (g % 2 == 1) for g in goals)
-    points = sorted(a for kind, a, *_ in records if kind == ATOM)
-    return POSSIBLE, "possible\n" + "".join(f"{('no', 'yes', 'either')[setting[p]]} {p}\n" for p in points) + f"splits {made}\n", setting
+    return POSSIBLE, "possible\n" + set_lines(records, setting) + f"splits {made}\n", setting
+
+def set_lines(records, setting):
+    """A line for each point that the table names."""
+    return "".join(f"{('no', 'yes', 'either')[setting[p]]} {p}\n" for p in points_of(records))
 
 def deciding(bev, folder, rounds):
     name, out = os.path.join(folder, "t"), os.path.join(folder, "s")
     rng = random.Random(2)
-    for records in [A, [(TRUE, 0, 0)], [(ATOM, 1023, 0)]] + [some_table(rng, 2 + i % 6, 10 + i) for i in range(rounds)]:
+    for records in [A, [(TRUE, 0, 0)], [(ATOM, 1023, 0)], triples()] + [some_table(rng, 2 + i % 6, 10 + i) for i in range(rounds)]:
         put(name, table(records))
         for goals in goal_lists(rng, records, 10):
             status, text, settings = decision(records, goals, brute=True)
@@ -70,12 +82,13 @@ def few(records, goals):
 def said(records, literal):
     """A literal in words."""
     def operand(l):
-        kind, a, _ = records[l // 2]
+        kind, a, *_ = records[l // 2]
         return ("not " if l % 2 else "") + (f"point {a}" if kind == ATOM else f"node {l // 2}")
-    kind, a, b = records[literal // 2]
+    kind, *operands = records[literal // 2]
     if kind == ATOM:
         return operand(literal)
-    words = "always yes" if kind == TRUE else ("if " if kind == IMP else "") + operand(a) + {AND: " and ", OR: " or ", IMP: " then ", IFF: " if and only if "}[kind] + operand(b)
+    between = {AND: " and ", OR: " or ", IMP: " then ", IFF: " if and only if ", AND3: " and ", OR3: " or "}
+    words = "always yes" if kind == TRUE else ("if " if kind == IMP else "") + between[kind].join(map(operand, operands))
     return f"not ({words})" if literal % 2 else words
 
 def clashing(bev, folder, rounds):
@@ -121,8 +134,7 @@ def wishing(bev, folder, rounds):
                     bev.refuses(67, 0, *words, about=goals[0] if len(goals) == 1 else "the goals")
                 else:
                     met, bound, questions, stands = right
-                    text = decision(records, stands)[1].replace("possible", f"met {met}\nbound {bound}\nquestions {questions}", 1)
-                    bev.answers(ANSWERED, text, *words)
+                    bev.answers(ANSWERED, f"met {met}\nbound {bound}\nquestions {questions}\n" + set_lines(records, decision(records, stands)[2]), *words)
                     seen.add((met, bound))
                 if get(out) != (decision(records, right[3])[2] if right else b"old"):
                     bev.wrong(words, "wrong settings", right)
@@ -252,7 +264,7 @@ def spoiled(rng, steps, nodes):
         steps[i], steps[j] = steps[j], steps[i]
     elif way == 3:
         rule = rng.choice("URECSG")
-        steps[i] = (rule, rng.randrange(2) if rule == "R" else 0, rng.choice([steps[i][2], rng.randrange(2 * nodes), 65535]))
+        steps[i] = (rule, rng.randrange(3) if rule == "R" else 0, rng.choice([steps[i][2], rng.randrange(2 * nodes), 65535]))
     else:
         steps.append(rng.choice(steps))
     return steps
@@ -285,8 +297,8 @@ def explains(bev, records, goals, steps, t, d, letter=68):
 
 def checking(bev, folder, rounds):
     t, d = os.path.join(folder, "t"), os.path.join(folder, "d")
-    rng = random.Random(3)
-    for records in [A] + [some_table(rng, 3 + i % 4, 20 + i) for i in range(rounds)]:
+    rng, positions = random.Random(3), set()
+    for records in [A, triples()] + [some_table(rng, 3 + i % 4, 20 + i) for i in range(rounds)]:
         put(t, table(records))
         for i, goals in enumerate(goal_lists(rng, records, 10)):
             letter = 86 if i % 2 else 68
@@ -294,6 +306,7 @@ def checking(bev, folder, rounds):
             if not steps:
                 continue
             assert checked(records, goals, steps, letter) is None
+            positions |= {p for rule, p, _ in steps if rule == "R"}
             unnamed, converted = steps[len(goals):], [s for s in search(records, goals)[1] if s[0] != "R"]
             assert letter == 68 or converted == steps
             for tried in [steps, unnamed] + [spoiled(rng, steps, len(records)) for _ in range(4)]:
@@ -301,6 +314,7 @@ def checking(bev, folder, rounds):
                     put(d, derivation(tried, letter))
                     says(bev, checked(records, goals, tried, letter), "check", t, *goals, d, about=f"{d}, step ")
                     explains(bev, records, goals, tried, t, d, letter)
+    assert positions == {0, 1, 2}, positions
     wording(bev, t, d)
     versions(bev, t, d)
     forms(bev, t, d)
@@ -399,6 +413,8 @@ def forms(bev, t, d):
         bev.refuses(*want, "check", t, 18, d, about=d)
         bev.refuses(*want, "steps", d, about=d)
         bev.refuses(*want, "steps", d, t, 18, about=d)
+    put(d, edited(good, 4 + 4 * 5 + 1, 2)) # a third position, of a clause of two
+    bev.refuses(45, 5, "check", t, 18, d, about=f"{d}, step 5")
     for data in (long[:512], long):
         put(d, data)
         bev.refuses(45, 1, "check", t, 18, d, about=f"{d}, step 1")
@@ -409,7 +425,7 @@ def forms(bev, t, d):
 def deriving(bev, folder, rounds, points):
     t, d = os.path.join(folder, "t"), os.path.join(folder, "d")
     rng = random.Random(4)
-    for records in [A, parity(6)] + [some_table(rng, 3 + i % 4, 20 + i) for i in range(rounds)]:
+    for records in [A, triples(), parity(6)] + [some_table(rng, 3 + i % 4, 20 + i) for i in range(rounds)]:
         put(t, table(records))
         for i, goals in enumerate(goal_lists(rng, records, 10)):
             letter, option = (86, ["--version-two"]) if i % 2 else (68, [])

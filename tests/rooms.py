@@ -74,6 +74,7 @@ def in_time(bev, folder, rounds):
         put(name, table(records))
         for goal in rng.sample(range(2 * len(records)), 4):
             status, text, settings = decision(records, [goal])
+            text = text[: text.index("splits ")]  # the plain order, a turn at a time, counts no splits
             put(out, b"old")
             bev.answers(status, text, "decide", name, goal, "--seconds", 60, "--out", out)
             if get(out) != (settings or b"old"):

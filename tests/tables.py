@@ -20,6 +20,7 @@ def blocks(letter, capacity, records):
     return out
 
 def table(records):
+    """A record is a kind and two fields, or three for the kinds of three operands."""
     return blocks(70, 63, [(bytes([kind, 0]) + b"".join(f.to_bytes(2, "little") for f in fields)).ljust(8, b"\0") for kind, *fields in records])
 
 def derivation(steps, letter=68):
@@ -41,14 +42,19 @@ def truths(records, yes):
             v.append(True)
         elif kind == ATOM:
             v.append(fields[0] in yes)
+        elif kind in (IMP, IFF):
+            x, y = map(lit, fields)
+            v.append(not x or y if kind == IMP else x == y)
         else:
-            x, y, *_ = xs = [lit(l) for l in fields]
-            v.append(all(xs) if kind in (AND, AND3) else any(xs) if kind in (OR, OR3) else {IMP: not x or y, IFF: x == y}[kind])
+            v.append((all if kind in (AND, AND3) else any)(map(lit, fields)))
     return v
+
+def points_of(records):
+    return sorted({fields[0] for kind, *fields in records if kind == ATOM})
 
 def by_truth_table(records):
     """For each node, whether some setting makes it true, and whether some makes it false."""
-    points = sorted({a for kind, a, *_ in records if kind == ATOM})
+    points = points_of(records)
     yes, no = [False] * len(records), [False] * len(records)
     for w in range(1 << len(points)):
         for n, x in enumerate(truths(records, {p for i, p in enumerate(points) if w >> i & 1})):
@@ -58,7 +64,7 @@ def by_truth_table(records):
 
 def possible_together(records, goals):
     """Whether one setting makes every goal true."""
-    points = sorted({a for kind, a, *_ in records if kind == ATOM})
+    points = points_of(records)
     def makes_true(v):
         return all(v[g // 2] != (g % 2 == 1) for g in goals)
     return any(makes_true(truths(records, {p for i, p in enumerate(points) if w >> i & 1})) for w in range(1 << len(points)))
@@ -69,19 +75,18 @@ def some_goals(rng, records):
     goals = [rng.randrange(2 * len(records)) for _ in range(count)]
     sort = rng.randrange(3)
     if sort:
-        v = truths(records, {a for kind, a, *_ in records if kind == ATOM and rng.random() < 0.5})
+        v = truths(records, {p for p in points_of(records) if rng.random() < 0.5})
         goals = [g - g % 2 + (not v[g // 2]) for g in goals]
     if sort == 2:
         goals[rng.randrange(count)] ^= 1
     return goals
 
 def some_table(rng, points, count):
+    """Points, then records of all kinds on earlier nodes."""
     records = [(ATOM, p, 0) for p in rng.sample(range(1024), points)]
     while len(records) < count:
-        kind = rng.choice([TRUE, AND, OR, IMP, IFF, AND, OR, IMP, IFF, AND3, OR3])
-        nodes = rng.sample(range(len(records)), min(len(records), 3) if kind > IFF else 2)
-        if kind > IFF and len(nodes) < 3:
-            continue
+        kind = rng.choice([TRUE, AND, OR, IMP, IFF, AND, OR, IMP, IFF] + [AND3, OR3] * (2 if len(records) > 2 else 0))
+        nodes = rng.sample(range(len(records)), 3 if kind > IFF else 2)
         if kind != IMP:
             nodes.sort()
         record = (kind, 0, 0) if kind == TRUE else (kind, *(2 * n + rng.randrange(2) for n in nodes))
@@ -99,13 +104,14 @@ def full_table():
     return records + [(ATOM, 1001, 0), (ATOM, 1002, 0), (TRUE, 0, 0)], answers + [(True, True), (True, True), (True, False)]
 
 def expansion(records, l):
-    kind, *fields = records[l // 2]
-    a, b, *_ = fields
-    units, whole = [[f] for f in fields], [fields]
-    not_units, not_whole = [[f ^ 1] for f in fields], [[f ^ 1 for f in fields]]
+    kind, *operands = records[l // 2]
+    if kind > IFF:
+        turned = [x ^ l % 2 for x in operands]
+        return [[x] for x in turned] if (kind == AND3) == (l % 2 == 0) else [turned]
+    a, b = operands
     if l % 2 == 0:
-        return {TRUE: [], ATOM: [], AND: units, OR: whole, IMP: [[a ^ 1, b]], IFF: [[a ^ 1, b], [a, b ^ 1]], AND3: units, OR3: whole}[kind]
-    return {TRUE: [[]], ATOM: [], AND: not_whole, OR: not_units, IMP: [[a], [b ^ 1]], IFF: [[a, b], [a ^ 1, b ^ 1]], AND3: not_whole, OR3: not_units}[kind]
+        return {TRUE: [], ATOM: [], AND: [[a], [b]], OR: [[a, b]], IMP: [[a ^ 1, b]], IFF: [[a ^ 1, b], [a, b ^ 1]]}[kind]
+    return {TRUE: [[]], ATOM: [], AND: [[a ^ 1, b ^ 1]], OR: [[a ^ 1], [b ^ 1]], IMP: [[a], [b ^ 1]], IFF: [[a, b], [a ^ 1, b ^ 1]]}[kind]
 
 def search(records, goals, letter=68):
     """Of a list of goals: the final list and None, or None and the derivation's steps, the goals' names first; with letter 86 without R."""

@@ -11,13 +11,13 @@ static uint8_t taken[STEPS][4], out[ROOM], expected[ROOM];
 static size_t derived(const uint8_t *t, size_t len, const o_list *g)
 {
     static uint8_t s[1024];
-    o_steps right = { taken, 0, STEPS };
+    o_steps right = { taken, 0, STEPS, 68 };
     if (o_decide(t, g, s, &right)) {
-        EXPECT(bev_derive(t, len, g->goal, g->count, work, BEV_WORK, out, ROOM).number == 30);
+        EXPECT(bev_derive(t, len, g->goal, g->count, 0, work, BEV_WORK, out, ROOM).number == 30);
         return 0;
     }
-    size_t size = o_steps_build(expected, (const uint8_t (*)[4])taken, right.count);
-    bev_derived v = bev_derive(t, len, g->goal, g->count, work, BEV_WORK, out, ROOM);
+    size_t size = o_steps_build(expected, 68, (const uint8_t (*)[4])taken, right.count);
+    bev_derived v = bev_derive(t, len, g->goal, g->count, 0, work, BEV_WORK, out, ROOM);
     EXPECT(v.number == 0 && v.steps == right.count && memcmp(out, expected, size) == 0 && whole());
     EXPECT(bev_check(t, len, g->goal, g->count, work, BEV_WORK, out, size).number == 0);
     return right.count;
@@ -28,7 +28,7 @@ static bev_checked moved(const uint8_t *t, size_t len, const o_list *g, size_t s
 {
     uint8_t old = taken[k][1];
     taken[k][1] = (uint8_t)position;
-    size_t size = o_steps_build(expected, (const uint8_t (*)[4])taken, steps);
+    size_t size = o_steps_build(expected, 68, (const uint8_t (*)[4])taken, steps);
     taken[k][1] = old;
     o_told right = o_checked(t, 6, g, expected, size);
     bev_checked v = bev_check(t, len, g->goal, g->count, work, BEV_WORK, expected, size);

@@ -8,6 +8,10 @@ static uint8_t settings[1024], settings_before[1024], buffer[4096], buffer_befor
 
 typedef struct { uint8_t bytes[4096]; size_t len, nodes; o_list goals; } a_table;
 
+/* Two questions, their settings and work areas. */
+static uint16_t rooms[2 * BEV_WORK], rooms_before[2 * BEV_WORK];
+static uint8_t room_settings[2 * 1024], room_settings_before[2 * 1024];
+
 static int is(unsigned number, size_t place, unsigned right, size_t j) { return number == right && place == j; }
 
 /* Every call that reads a table, of one with a byte of block j wrong. */
@@ -19,11 +23,26 @@ static int table_refused(const a_table *t, size_t j)
     bev_node node = bev_record(t->bytes, t->len, 0);
     bev_truth truth = bev_evaluate(t->bytes, t->len, 0, settings, 1024);
     bev_decided decided = bev_decide(t->bytes, t->len, g, n, settings, 1024, work, BEV_WORK);
-    bev_derived derived = bev_derive(t->bytes, t->len, g, n, work, BEV_WORK, lent, SOME);
+    bev_clashed clashed = bev_clash(t->bytes, t->len, g, n, work, BEV_WORK);
+    bev_wished wished = bev_wishes(t->bytes, t->len, g, n, g, n, 3, settings, 1024, work, BEV_WORK);
+    bev_answered overview = bev_overview(t->bytes, t->len, g, n, lent, SOME, work, BEV_WORK);
+    bev_derived derived = bev_derive(t->bytes, t->len, g, n, 0, work, BEV_WORK, lent, SOME);
     bev_checked checked = bev_check(t->bytes, t->len, g, n, work, BEV_WORK, lent, SOME);
     return is(counted.number, counted.place, 11, j) && counted.nodes == 0 && is(node.number, node.place, 11, j) && node.kind == 0
         && is(truth.number, truth.place, 11, j) && truth.truth == 0 && is(decided.number, decided.place, 11, j) && decided.possible == 0
+        && is(clashed.number, clashed.place, 11, j) && clashed.count == 0 && is(wished.number, wished.place, 11, j) && wished.met == 0
+        && wished.bound == 0 && wished.questions == 0 && is(overview.number, overview.place, 11, j)
         && is(derived.number, derived.place, 11, j) && derived.steps == 0 && is(checked.number, checked.place, 11, j);
+}
+
+/* Both calls of questions under one allowance, of a list that passes 69. */
+static int rooms_refused(const a_table *t, size_t j)
+{
+    static const uint16_t g[2] = { 1, 6 };
+    bev_turned opened = bev_rooms_open(t->bytes, t->len, g, 2, room_settings, sizeof room_settings, rooms, 2 * BEV_WORK);
+    bev_turned turned = bev_rooms_turn(t->bytes, t->len, g, 2, room_settings, sizeof room_settings, rooms, 2 * BEV_WORK, 9);
+    return is(opened.number, opened.place, 11, j) && opened.count == 0 && is(turned.number, turned.place, 11, j) && turned.count == 0
+        && turned.turns[0] == 0 && turned.verdicts[0] == 0;
 }
 
 /* Add, of a buffer whose used part has a wrong byte, with a record that is there or a new one: no byte changes. */
@@ -48,6 +67,10 @@ static void wrong_table(a_table *t)
     memcpy(settings_before, settings, 1024);
     memset(lent, 5, SOME);
     memcpy(lent_before, lent, SOME);
+    for (size_t i = 0; i < 2 * BEV_WORK; i++)
+        rooms_before[i] = rooms[i] = (uint16_t)pick(65536);
+    memset(room_settings, 7, sizeof room_settings);
+    memcpy(room_settings_before, room_settings, sizeof room_settings);
     EXPECT(t->len >= 3 * 512 && t->len < sizeof buffer && bev_count(t->bytes, t->len).nodes == t->nodes);
     for (size_t k = 0; k < t->len; k++) {
         uint8_t right = t->bytes[k];
@@ -55,6 +78,7 @@ static void wrong_table(a_table *t)
             if (value != right) {
                 t->bytes[k] = (uint8_t)value;
                 EXPECT(table_refused(t, k / 512));
+                EXPECT(rooms_refused(t, k / 512));
                 EXPECT(add_refused(t, k, (uint8_t)value, value % 2 ? buffer_before + 4 : fresh));
             }
         t->bytes[k] = right ^ (uint8_t)(1u << k % 8);
@@ -64,6 +88,7 @@ static void wrong_table(a_table *t)
         EXPECT(bev_count(t->bytes, t->len).nodes == t->nodes);
     }
     EXPECT(memcmp(settings, settings_before, 1024) == 0 && memcmp(lent, lent_before, SOME) == 0 && whole());
+    EXPECT(memcmp(rooms, rooms_before, sizeof rooms) == 0 && memcmp(room_settings, room_settings_before, sizeof room_settings) == 0);
 }
 
 static bev_checked check(const a_table *t, const uint8_t *d, size_t size)
@@ -147,15 +172,18 @@ int main(void)
     printf("tables: %zu bytes, %lu checks\n", table.len, checks);
 
     pigeonhole(&birds, 4);
-    bev_derived ours = bev_derive(birds.bytes, birds.len, birds.goals.goal, 1, work, BEV_WORK, d, ROOM);
-    EXPECT(ours.number == 0);
-    wrong_derivation(&birds, d, 512 * ((ours.steps + 125) / 126), 0, 5);
-    printf("a derivation of ours: %zu steps, %lu checks\n", ours.steps, checks);
+    for (uint8_t two = 0; two < 2; two++) {
+        bev_derived ours = bev_derive(birds.bytes, birds.len, birds.goals.goal, 1, two, work, BEV_WORK, d, ROOM);
+        EXPECT(ours.number == 0);
+        wrong_derivation(&birds, d, 512 * ((ours.steps + 125) / 126), 0, 5);
+        printf("a derivation of ours, version %d: %zu steps, %lu checks\n", two + 1, ours.steps, checks);
+    }
 
     for (size_t k = 0; k < 400; k++)
         for (int i = 0; i < 4; i++)
             any[k][i] = (uint8_t)(i ? pick(256) : 1 + pick(60));
-    wrong_derivation(&table, d, o_steps_build(d, (const uint8_t (*)[4])any, 400), 44, 1);
+    wrong_derivation(&table, d, o_steps_build(d, 68, (const uint8_t (*)[4])any, 400), 44, 1);
+    wrong_derivation(&table, d, o_steps_build(d, 86, (const uint8_t (*)[4])any, 400), 44, 1);
     printf("steps of no rule in blocks that pass\n");
     printf("%lu checks, %lu failed\n", checks, failed);
     return failed != 0;

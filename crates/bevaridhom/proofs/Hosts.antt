@@ -16,7 +16,7 @@ use Rattle.scope.specs.Table.{decode}
 use Rattle.scope.specs.Truth.{truth}
 use Rattle.scope.specs.Kleene.{sure, Fills}
 use Rattle.scope.specs.Calls.{settingsTest, evaluate}
-use Rattle.scope.proofs.Tests.{refused-no, bound, then-first, then-next, bound}
+use Rattle.scope.proofs.Tests.{refused-no, bound, then-first, then-next}
 use Rattle.codec.specs.Valid.{Bytes}
 use Rattle.codec.proofs.Bytes.{bytes-take}
 use Rattle.calculus.specs.Model.{All}
@@ -59,9 +59,9 @@ use Rattle.cnf.specs.Text.{File, fileOf}
 use Rattle.cnf.specs.Reader.{Means, Turns}
 use Rattle.cnfread.specs.Reads.{Reads}
 use Rattle.bevaridhom.specs.declared.BevClashed.{BevClashed}
-use Rattle.bevaridhom.specs.declared.BevOpened.{BevOpened}
 use Rattle.bevaridhom.specs.declared.BevAnswered.{BevAnswered}
-use Rattle.bevaridhom.specs.Answers.{versionAsked, versionNumber, openAnswer, wordBit, decideAnswer, HostPlain, HostDecides, clashAnswer, HostClashes, overviewAnswer, HostOverviews, deriveAnswer, HostDerives, checkAnswer, HostChecks, wishesAnswer, HostWishes, markAnswer, Unmet, HostReads}
+use Rattle.bevaridhom.specs.declared.BevOpened.{BevOpened}
+use Rattle.bevaridhom.specs.Answers.{wordBit, versionAsked, versionNumber, openAnswer, decideAnswer, HostPlain, HostDecides, clashAnswer, HostClashes, overviewAnswer, HostOverviews, deriveAnswer, HostDerives, checkAnswer, HostChecks, wishesAnswer, HostWishes, markAnswer, Unmet, HostReads}
 
 -- a refusal of what is made of an answer is the answer's
 of-refused : {A B : Type 0} (x : Outcome A) (f : A → B) {number place : ℕ} → refused number place ≡ (x >>= λ a. answer (f a)) → x ≡ refused number place
@@ -146,14 +146,6 @@ hosted-same (refused number place) = refl
 pub told-clash : (t goals w w′ : List ℕ) {r : Clashed} → Clashes t goals w w′ r → HostClashes t goals w w′ (hosted r)
 told-clash t goals w w′ h = record { answered = ap hosted (h .answered) ∙ hosted-same (clash t goals w); work = h .work; kept = h .kept; exact = h .exact }
 
--- ---- the version that a byte asks for
-
-pub asked-one : (n : ℕ) → n ≡ 0 → One ≡ versionAsked n
-asked-one n e = sym (rw (eq-eqb n 0 e))
-
-pub asked-two : (n : ℕ) → (n ≡ 0 → ⊥) → Two ≡ versionAsked n
-asked-two n e = sym (rw (ne-eqb n 0 e))
-
 -- ---- wishes
 
 module _ (t goals wishes : List ℕ) (m : ℕ) (s w s′ w′ : List ℕ) where
@@ -224,6 +216,14 @@ module _ (t goals b w b′ w′ : List ℕ) where
   told-overview v {v′} k e =
       let h : Overviews t goals b w b′ w′ v′ = rw e at k in
       record { answered = answered-by v′ h; bytes = h .bytes; work = overview-kept v′ h; each = each-by v′ h }
+
+-- ---- the version that a byte asks for
+
+pub asked-one : (n : ℕ) → n ≡ 0 → One ≡ versionAsked n
+asked-one n e = sym (rw (eq-eqb n 0 e))
+
+pub asked-two : (n : ℕ) → (n ≡ 0 → ⊥) → Two ≡ versionAsked n
+asked-two n e = sym (rw (ne-eqb n 0 e))
 
 -- ---- derive
 

@@ -5,7 +5,7 @@ ghost use Rattle.steps.specs.Opened.{stepCount};
 ghost use Rattle.rules.specs.Steps.{versionOf};
 ghost use Rattle.step_reader.specs.Handed.{stepHanded};
 ghost use Rattle.rooms.specs.Calls.{OpensRooms, TurnsRooms};
-ghost use Rattle.bevaridhom.specs.Answers.{countAnswer, recordAnswer, truthNumber, truthAnswer, addAnswer, versionAsked, versionNumber, roomsAnswer, openAnswer, stepAnswer, HostDecides, HostClashes, HostOverviews, HostDerives, HostChecks, HostWishes, HostReads};
+ghost use Rattle.bevaridhom.specs.Answers.{countAnswer, recordAnswer, truthNumber, truthAnswer, addAnswer, roomsAnswer, versionAsked, versionNumber, openAnswer, stepAnswer, HostDecides, HostClashes, HostOverviews, HostDerives, HostChecks, HostWishes, HostReads};
 use adding::Added;
 use checking::Checked;
 use deciding::Decided;

@@ -9,7 +9,7 @@ use lib.ListN.{length, getD}
 use Rattle.scope.specs.declared.Node.{Node}
 use Rattle.calculus.specs.Expansion.{neg, expand}
 use Rattle.calculus.specs.Order.{clauses}
-use Rattle.calculus.specs.Model.{All, mostLiterals, Fresh}
+use Rattle.calculus.specs.Model.{All, questionSize, Fresh}
 use Rattle.calculus.proofs.Sizes.{clauses-few}
 use Rattle.rules.specs.Rules.{Branch, join, strikeClause, strikeLiteral}
 use Rattle.trail.proofs.Trails.{trail-length, trail-same, trail-suc, count-most, room-left}
@@ -62,10 +62,10 @@ module _ (t : ℕ → Node) (n : ℕ) (goals w : List ℕ) (few : n ≤ mostNode
   pub literals-most : trailAt w 0 ≤ n
   literals-most = count-most n (trailAt w) (h .trail)
 
-  pub clauses-most : length cs ≤ mostLiterals + clauseRoom * trailAt w 0
+  pub clauses-most : length cs ≤ questionSize + clauseRoom * trailAt w 0
   clauses-most = omega (arith, clauses-few t goals (gOf w), trail-length (trailAt w 0) (trailAt w), h .aims .most)
 
-  pub slots-most : length (flat cs) ≤ mostLiterals + literalRoom * trailAt w 0
+  pub slots-most : length (flat cs) ≤ questionSize + literalRoom * trailAt w 0
   slots-most = omega (arith, literals-few t goals (gOf w), trail-length (trailAt w 0) (trailAt w), h .aims .most)
 
   pub clauses-fit : length cs ≤ mostClauses

@@ -57,12 +57,12 @@ abbrev pub mostGoals : ℕ
 mostGoals = 64
 
 -- what one search has room for: as many goals, and 16 literals more
-abbrev pub mostLiterals : ℕ
-mostLiterals = 80
+abbrev pub questionSize : ℕ
+questionSize = 80
 
 -- not too many literals to search for, of n nodes
 pub record Goals (n : ℕ) (goals : List ℕ) : Type 0 where
-  pub most : length goals ≤ mostLiterals
+  pub most : length goals ≤ questionSize
   pub below : Below n goals
 
 -- a literal of n nodes that may join G

@@ -3,6 +3,7 @@ use mathlib.Core.Path.{_≡_, refl}
 use mathlib.Core.List.{List, [], _∷_, map}
 use Prim.Native.Nat.{ℕ}
 use Rattle.scope.specs.declared.Node.{Node}
+use Rattle.scope.specs.Table.{arity, operands}
 use Rattle.scope.specs.Outcome.{answer, refused}
 use Rattle.calculus.specs.Expansion.{chosen, templates, expand}
 use Rattle.calculus.specs.Order.{mem, valueOf, stateOf, some, firstOf, moveOf, clauses, move, tree, answerOf}
@@ -11,7 +12,7 @@ use Rattle.questions.specs.Asking.{answered}
 use Rattle.clashing.specs.Clash.{walk, argued}
 
 abbrev node : ℕ → ℕ → ℕ → Node
-node kind a b = record { kind = kind; a = a; b = b }
+node kind a b = record { kind = kind; a = a; b = b; c = 0 }
 
 tableA : List Node
 tableA =
@@ -21,5 +22,5 @@ tableA =
 -- of the two is kept, since the walk comes to the last one first. 6 and 2 do not clash
 samples : map (argued (answered tableA)) ((6 ∷ 0 ∷ 1 ∷ 2 ∷ []) ∷ (0 ∷ 14 ∷ []) ∷ (0 ∷ 1 ∷ 0 ∷ 1 ∷ []) ∷ (6 ∷ 2 ∷ []) ∷ [])
     ≡ answer (1 ∷ 2 ∷ []) ∷ answer (1 ∷ []) ∷ answer (0 ∷ 1 ∷ []) ∷ refused 63 0 ∷ []
-unfolding walk upTo tableA answerOf tree move clauses moveOf firstOf some stateOf valueOf mem expand templates chosen
+unfolding walk upTo tableA answerOf tree move clauses moveOf firstOf some stateOf valueOf mem expand templates chosen operands arity
 samples = refl

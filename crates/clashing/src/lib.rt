@@ -150,7 +150,7 @@ fn argue(x: &[u16], n: usize, goals: &[u16], work: &mut [u16]) -> Clashed
 pub fn clash(t: &[u8], goals: &[u16], work: &mut [u16]) -> Clashed
     ensures { λ r. ⌜ Clashes (now (t .entry)) (now (goals .entry)) (now (work .entry)) (now (work .exit)) r ⌝ }
 {
-    let mut x = [0u16; 18270];
+    let mut x = [0u16; 18378];
     let a = asking::ask(t, goals, 0, 0, work.len(), &mut x);
     match a {
         Counted::Refused(f) => refuse(f.number, f.place),

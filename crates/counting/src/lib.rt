@@ -50,7 +50,7 @@ fn clause_size(templates: &[[u8; 9]; 18], x: &[u16], n: usize, goals: &[u16], wo
 // The same in version one; in version two, which has no R, the literals that are free: undecided.
 fn size_in(
     version: Version,
-    templates: &[[u8; 9]; 14],
+    templates: &[[u8; 9]; 18],
     x: &[u16],
     n: usize,
     goals: &[u16],

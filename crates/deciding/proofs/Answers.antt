@@ -7,7 +7,7 @@ use lib.ListN.{length}
 use Rattle.scope.specs.declared.Node.{Node}
 use Rattle.scope.specs.declared.Refusal.{Refusal}
 use Rattle.scope.specs.declared.Truth.the-variants.{Yes}
-use Rattle.scope.specs.Outcome.{answer, refused, _>>=_}
+use Rattle.scope.specs.Outcome.{Outcome, answer, refused, _>>=_}
 use Rattle.scope.specs.Calls.{evaluate}
 use Rattle.scope.proofs.Tests.{refused-no, bound}
 use Rattle.codec.specs.Valid.{Bytes}
@@ -74,7 +74,7 @@ module _ (t goals s w : List ℕ) (all : Bytes t) (r : Decided) {s′ : List ℕ
 -- ---- where decide ends
 
 -- the search over the index is that over the nodes
-given-in : {t goals : List ℕ} {needed lent area : ℕ} {x : List ℕ} {n : ℕ} (p : Prepared t goals needed lent area x n) (s : List ℕ)
+given-in : {row : Outcome (Unit {0})} {t goals : List ℕ} {needed lent area : ℕ} {x : List ℕ} {n : ℕ} (p : Prepared row t goals needed lent area x n) (s : List ℕ)
     → givenBy (indexNode x) n goals s ≡ decided (p .nodes) goals s
 given-in {goals = goals} {x = x} {n = n} p s =
     let e : jump 128 (expand (indexNode x)) goals n 0 [] ≡ jumpOf (p .nodes) goals =

@@ -5,7 +5,7 @@ use mathlib.Core.Bool.{cond}
 use Prim.Native.Nat.{ℕ, _+_, _-_, _<_, _≤_}
 use lib.Dec.{eqb}
 use lib.ListN.{length, take}
-use Rattle.calculus.specs.Model.{mostLiterals, Below}
+use Rattle.calculus.specs.Model.{questionSize, Below}
 use Rattle.index.specs.Index.{indexNode}
 use Rattle.state.specs.Work.{gOf, Ready}
 use Rattle.questions.specs.Asking.{asks}
@@ -34,11 +34,11 @@ Room st = st .put + st .left < 18446744073709551616
 
 -- a list whose first `at` literals may be put, with s wishes from lo on behind them; g of them are goals
 pub record Listed (n g : ℕ) (wishes list w : List ℕ) (lo s at : ℕ) : Type 0 where
-  pub size : length list ≡ mostLiterals
+  pub size : length list ≡ questionSize
   pub literals : Below n (take at list)
   pub wishesFit : Below n wishes
   pub left : lo ≤ length wishes
-  pub room : at + s ≤ mostLiterals
+  pub room : at + s ≤ questionSize
   pub goals : g ≤ at
   pub some : g < at + s
   pub ready : Ready n w
@@ -61,10 +61,10 @@ Ended st r = (first w : List ℕ) → wishedOf first w r ≡ finish first (stage
 
 -- before the walk: the first g literals of the list are the goals
 pub record Gathered (n g : ℕ) (wishes list w : List ℕ) : Type 0 where
-  pub size : length list ≡ mostLiterals
+  pub size : length list ≡ questionSize
   pub literals : Below n (take g list)
   pub wishesFit : Below n wishes
-  pub room : g + length wishes ≤ mostLiterals
+  pub room : g + length wishes ≤ questionSize
   pub ready : Ready n w
 
 -- what an allowance of m questions comes to, whatever stands first

@@ -41,7 +41,7 @@ fn slot_in(n: usize, work: &[u16], len: u8, i: u8, l: u16) -> usize
 
 // What the clause of the last move rests on is put at slot `to`.
 pub fn put_clause(
-    templates: &[[u8; 9]; 14],
+    templates: &[[u8; 9]; 18],
     x: &[u16],
     n: usize,
     goals: &[u16],

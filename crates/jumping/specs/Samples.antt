@@ -4,13 +4,14 @@ use mathlib.Core.List.{List, [], _∷_}
 use Prim.Native.Nat.{ℕ}
 use lib.ListN.{getD}
 use Rattle.scope.specs.declared.Node.{Node}
+use Rattle.scope.specs.Table.{arity, operands}
 use Rattle.scope.specs.Calls.{noNode}
 use Rattle.calculus.specs.Expansion.{chosen, templates, expand}
 use Rattle.calculus.specs.Order.{mem, valueOf, stateOf, some, firstOf, moveOf, clauses, move, tree, Answer, possible, impossible, answerOf}
 use Rattle.calculus.specs.Jump.{restOf, falseRest, originRest, jump, endAnswer, splitsOf}
 
 abbrev node : ℕ → ℕ → ℕ → Node
-node kind a b = record { kind = kind; a = a; b = b }
+node kind a b = record { kind = kind; a = a; b = b; c = 0 }
 
 -- the points p, q, x, y; p or q; and the four clauses of x and y that no setting meets together
 two : List Node
@@ -33,7 +34,7 @@ abbrev five : List ℕ
 five = 8 ∷ 10 ∷ 12 ∷ 14 ∷ 16 ∷ []
 
 skipped : answers 128 five ∷ answers 1 five ∷ answers 0 five ∷ plain five ∷ [] ≡ (impossible, 2) ∷ (impossible, 2) ∷ (impossible, 3) ∷ (impossible, 3) ∷ []
-unfolding answers plain two jump tree splitsOf answerOf restOf falseRest originRest move clauses moveOf firstOf some stateOf valueOf mem expand templates chosen
+unfolding answers plain two jump tree splitsOf answerOf restOf falseRest originRest move clauses moveOf firstOf some stateOf valueOf mem expand templates chosen operands arity
 skipped = refl
 
 -- without the last of them there is a model, the plain order's
@@ -44,5 +45,5 @@ held : List ℕ
 held = 6 ∷ 4 ∷ 0 ∷ 14 ∷ 12 ∷ 10 ∷ 8 ∷ []
 
 modelled : answers 128 four ∷ plain four ∷ [] ≡ (possible held, 2) ∷ (possible held, 2) ∷ []
-unfolding answers plain two held jump tree splitsOf answerOf restOf falseRest originRest move clauses moveOf firstOf some stateOf valueOf mem expand templates chosen
+unfolding answers plain two held jump tree splitsOf answerOf restOf falseRest originRest move clauses moveOf firstOf some stateOf valueOf mem expand templates chosen operands arity
 modelled = refl

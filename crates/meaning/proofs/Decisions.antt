@@ -14,7 +14,7 @@ use Rattle.scope.proofs.Tests.{bound}
 use Rattle.codec.specs.Valid.{Bytes}
 use Rattle.calculus.specs.Order.{possible, impossible, answerOf}
 use Rattle.calculus.specs.Model.{All}
-use Rattle.calculus.specs.Decide.{searchOf, Decided, asked, decided, plainly, AsPlain, decide, Admitted, Unsatisfiable, _⇔_}
+use Rattle.calculus.specs.Decide.{listRow, searchOf, Decided, asked, decided, plainly, AsPlain, decide, Admitted, Unsatisfiable, _⇔_}
 use Rattle.calculus.proofs.Asked.{asked-read}
 use Rattle.jumping.proofs.Answers.{decided-plain}
 use Rattle.asking.proofs.Models.{table-of, setting-yes, search-exact}
@@ -30,7 +30,7 @@ module _ (t goals s w : List ℕ) (all : Bytes t) {d : Decided} (e : decide t go
       let z : answer (decided (of-nodes .0) goals s) ≡ answer d = of-nodes .2 in
       cc
 
-  read : (decode t ≡ answer (of-nodes .0)) × Admitted (length (of-nodes .0)) goals 1024 (length s) (length w)
+  read : (decode t ≡ answer (of-nodes .0)) × Admitted (listRow goals) (length (of-nodes .0)) goals 1024 (length s) (length w)
   read = asked-read t goals 1024 (length s) (length w) (of-nodes .1)
 
   as-plain : AsPlain d (plainly (of-nodes .0) goals s)

@@ -8,7 +8,7 @@ use lib.Dec.{eqb, leb, ltb}
 use lib.ListN.{length, getD}
 use Rattle.scope.specs.declared.Format.{Format}
 use Rattle.scope.specs.Outcome.{Outcome, answer, refused, require, first, _>>_, _>>=_}
-use Rattle.scope.specs.Block.{wordAt, checkOk, headOk, paddingOk, blockTest, blockAt, recordAt, recordsIn}
+use Rattle.scope.specs.Block.{checkOk, headOk, paddingOk, blockTest, blockAt, recordAt, recordsIn}
 use Rattle.scope.specs.Table.{tables, nodeOf, nodeAt, formOk, rangeOk, orderOk, readRecord, repeats, recordTest, lengthOk, blockRows, tableTest, listFrom, decode}
 use Rattle.scope.proofs.Tests.{refused-no, by-test}
 use Rattle.calculus.specs.Expansion.{expand}
@@ -65,7 +65,7 @@ record-numbered : (t : List ℕ) (n : ℕ) → Numbered (recordTest t n)
 unfolding recordTest readRecord
 record-numbered t n =
     let r : List ℕ = recordAt tables t n in
-    then₁ (readRecord r n) (rowed (formOk (nodeOf r) (getD r 1 0) (wordAt r 6)) 14 n _ (omega arith)
+    then₁ (readRecord r n) (rowed (formOk (nodeOf r) (getD r 1 0)) 14 n _ (omega arith)
     (rowed (rangeOk (nodeOf r) n) 15 n _ (omega arith) (rowed (orderOk (nodeOf r)) 16 n (answer (nodeOf r)) (omega arith) (gives (nodeOf r)))))
     (row (not (repeats t n)) 17 n (omega arith))
   where

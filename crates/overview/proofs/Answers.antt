@@ -22,6 +22,7 @@ use Rattle.calculus.specs.Decide.{nodesOf, listRow, Admitted, askedBy, decided,
 use Rattle.calculus.proofs.Asked.{by-read, asked-fine}
 use Rattle.calculus.proofs.Lists.{all-at, getD-map}
 use Rattle.calculus.proofs.Search.{never-cut}
+use Rattle.jumping.proofs.Answers.{decided-plain}
 use Rattle.index.specs.Index.{indexNode}
 use Rattle.asking.specs.Asks.{Prepared, Asks}
 use Rattle.asking.proofs.Models.{table-of, search-exact}
@@ -51,7 +52,7 @@ module _ (t : List ℕ) (rs : List Node) (all : Bytes t) (e : decode t ≡ answe
       let i = byte-impossible (answered rs (g ∷ [])) (λ z. never-cut (length rs) (nodesOf rs) (g ∷ []) (table-of t rs all e) (below, tt) z) in
       let x = search-exact t rs all e (g ∷ []) (below, tt) in
       record {
-        decided = λ s h. (decided rs (g ∷ []) s, alone s w h k, q);
+        decided = λ s h. (decided rs (g ∷ []) s, alone s w h k, q ∙ ap byteOf (sym (decided-plain rs (g ∷ []) s (table-of t rs all e) (below, tt) .verdict)));
         exact = (λ z. x .0 (i .0 (sym q ∙ z)), λ none. q ∙ i .1 (x .1 none));
       }
 

@@ -3,13 +3,14 @@ use mathlib.Core.Path.{_≡_, refl}
 use mathlib.Core.List.{List, [], _∷_}
 use Prim.Native.Nat.{ℕ}
 use Rattle.scope.specs.declared.Node.{Node}
+use Rattle.scope.specs.Table.{arity, operands}
 use Rattle.calculus.specs.Expansion.{chosen, templates, expand}
 use Rattle.calculus.specs.Order.{mem, valueOf, stateOf, some, firstOf, moveOf, clauses, move, tree, answerOf}
 use Rattle.questions.specs.Asking.{answered}
 use Rattle.overview.specs.Overview.{bytesOf}
 
 abbrev node : ℕ → ℕ → ℕ → Node
-node kind a b = record { kind = kind; a = a; b = b }
+node kind a b = record { kind = kind; a = a; b = b; c = 0 }
 
 tableA : List Node
 tableA =
@@ -17,5 +18,5 @@ tableA =
 
 -- 6, 9, 11, 1, 5 and 12 are possible, 13, 14 and 18 are not; 13 stands twice
 samples : bytesOf (answered tableA) (6 ∷ 9 ∷ 13 ∷ 11 ∷ 1 ∷ 5 ∷ 12 ∷ 13 ∷ 14 ∷ 18 ∷ []) ≡ 1 ∷ 1 ∷ 0 ∷ 1 ∷ 1 ∷ 1 ∷ 1 ∷ 0 ∷ 0 ∷ 0 ∷ []
-unfolding tableA answerOf tree move clauses moveOf firstOf some stateOf valueOf mem expand templates chosen
+unfolding tableA answerOf tree move clauses moveOf firstOf some stateOf valueOf mem expand templates chosen operands arity
 samples = refl

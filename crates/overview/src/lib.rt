@@ -78,7 +78,7 @@ fn put(x: &[u16], n: usize, goals: &[u16], answers: &mut [u8], work: &mut [u16])
 pub fn overview(t: &[u8], goals: &[u16], answers: &mut [u8], work: &mut [u16]) -> Verdict
     ensures { λ r. ⌜ Overviews (now (t .entry)) (now (goals .entry)) (now (answers .entry)) (now (work .entry)) (now (answers .exit)) (now (work .exit)) r ⌝ }
 {
-    let mut x = [0u16; 18270];
+    let mut x = [0u16; 18378];
     let listed = list_row(goals, answers.len());
     let a = asking::ask_by(listed, t, goals, 0, 0, work.len(), &mut x);
     match a {

@@ -17,12 +17,12 @@ use Rattle.scope.specs.Table.{listFrom}
 use Rattle.scope.proofs.Lists.{length-listFrom, getD-listFrom, zeros-at}
 use Rattle.scope.proofs.Tests.{refused-no}
 use Rattle.calculus.specs.Expansion.{expand}
-use Rattle.calculus.specs.Decide.{nodesOf}
+use Rattle.calculus.specs.Decide.{nodesOf, listRow}
 use Rattle.calculus.specs.Model.{Below}
 use Rattle.calculus.proofs.Tally.{tally-same}
 use Rattle.index.specs.Index.{indexNode}
 use Rattle.asking.specs.Asks.{Prepared}
-use Rattle.asking.proofs.Nodes.{listed}
+use Rattle.asking.proofs.Nodes.{listed, goals-in}
 use Rattle.turns.specs.Turn.{Search, isRunning, numberOf, replays, times}
 use Rattle.turns.specs.Round.{Round, runs, total, turnFor, spend, turnsFor}
 use Rattle.turns.proofs.Rounds.{turns-made, turns-spent, turns-most, waits-few}
@@ -157,9 +157,9 @@ module _ (t questions s w : List ℕ) where
       }
 
 -- over the index that was asked for
-module _ {t questions : List ℕ} {needed lent room : ℕ} {x : List ℕ} {n : ℕ} (p : Prepared t questions needed lent room x n) (w : List ℕ) (m : ℕ) where
+module _ {t questions : List ℕ} {needed lent room : ℕ} {x : List ℕ} {n : ℕ} (p : Prepared (listRow questions) t questions needed lent room x n) (w : List ℕ) (m : ℕ) where
   below : (i : ℕ) → i < length questions → Below n (goalsOf questions i)
-  below i l = (goal-below (p .literals) l, tt)
+  below i l = (goal-below (goals-in p) l, tt)
 
   pub index-went : {s s′ w′ : List ℕ} → Went (expand (indexNode x)) (listFrom (indexNode x) 0 n) questions s w m s′ w′
       → Went (expand (nodesOf (p .nodes))) (p .nodes) questions s w m s′ w′

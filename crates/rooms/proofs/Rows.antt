@@ -17,7 +17,7 @@ use Rattle.scope.proofs.Tests.{refused-no, and-left, and-right, required, then-
 use Rattle.table.specs.declared.Counted.{Counted}
 use Rattle.table.specs.declared.Counted.the-variants.{Refused}
 use Rattle.table.specs.Counted.{countedOf}
-use Rattle.calculus.specs.Decide.{rowsTest, asked}
+use Rattle.calculus.specs.Decide.{listRow, rowsTest, askedBy, asked}
 use Rattle.calculus.specs.Model.{Below}
 use Rattle.calculus.proofs.Asked.{asked-read}
 use Rattle.asking.specs.Asks.{Asks}
@@ -60,21 +60,21 @@ module _ (t questions : List ℕ) (points area : ℕ) where
     few = leb-true (length questions) mostQuestions (and-right (ltb 0 (length questions)) (leb (length questions) mostQuestions) e)
 
     test-same : (nodes : ℕ)
-        → roomsTest nodes questions points area ≡ rowsTest nodes questions (pointsSize * length questions) points (area / length questions)
+        → roomsTest nodes questions points area ≡ rowsTest (listRow questions) nodes questions (pointsSize * length questions) points (area / length questions)
     unfolding roomsTest rowsTest
     test-same nodes =
         rw (lt-ltb 0 (length questions) some, le-leb (length questions) 64 (omega (arith, few)), share (length questions) area some)
 
     admitted-asked : admitted t questions points area ≡ asked t questions (pointsSize * length questions) points (area / length questions)
-    unfolding admitted asked
+    unfolding admitted askedBy
     admitted-asked = rw e (go (decode t))
       where
         go : (o : Outcome (List Node)) → (o >>= λ rs. roomsTest (length rs) questions points area >> answer rs)
-            ≡ (o >>= λ rs. rowsTest (length rs) questions (pointsSize * length questions) points (area / length questions) >> answer rs)
+            ≡ (o >>= λ rs. rowsTest (listRow questions) (length rs) questions (pointsSize * length questions) points (area / length questions) >> answer rs)
         go (answer rs) = rw (test-same (length rs))
         go (refused number place) = refl
 
-    pub rooms-asked : {x : List ℕ} {r : Counted} → Asks t questions (pointsSize * length questions) points (area / length questions) x r
+    pub rooms-asked : {x : List ℕ} {r : Counted} → Asks (listRow questions) t questions (pointsSize * length questions) points (area / length questions) x r
         → AsksRooms t questions points area x r
     rooms-asked a = record {
       answered = a .answered ∙ ap (_>>= λ rs. answer (length rs)) (sym admitted-asked);

@@ -9,7 +9,7 @@ use Rattle.calculus.specs.Order.{move}
 use Rattle.calculus.specs.Model.{Table, Below, Good}
 use Rattle.calculus.specs.declared.Move.{Move}
 use Rattle.calculus.specs.declared.Move.the-variants.{Conflict, Unit as Single, Done, Split}
-use Rattle.asking.proofs.Same.{clauses-same}
+use Rattle.calculus.proofs.Same.{clauses-same}
 use Rattle.turns.specs.Turn.{Search, running, found, closed, follows, back, made, turn, replays, resumes, resumed}
 use Rattle.turns.proofs.Replay.{replays-good}
 

@@ -7,7 +7,7 @@ use lib.ListN.{length, getD, drop}
 use Rattle.scope.specs.declared.Node.{Node}
 use Rattle.scope.specs.Outcome.{answer, refused, _>>=_}
 use Rattle.calculus.specs.Expansion.{expand}
-use Rattle.calculus.specs.Decide.{nodesOf}
+use Rattle.calculus.specs.Decide.{nodesOf, listRow}
 use Rattle.table.specs.declared.Counted.{Counted}
 use Rattle.table.specs.declared.Counted.the-variants.{Nodes}
 use Rattle.table.specs.Counted.{countedOf}
@@ -31,7 +31,7 @@ pub record AsksRooms (t questions : List ℕ) (points area : ℕ) (x : List ℕ)
   pub answered : countedOf r ≡ (admitted t questions points area >>= λ rs. answer (length rs))
   pub fit : (n : ℕ) → r ≡ Nodes n → Fit questions points area
   pub prepared : (n : ℕ) → r ≡ Nodes n
-      → (needed lent room : ℕ) × (p : Prepared t questions needed lent room x n) × (admitted t questions points area ≡ answer (p .nodes))
+      → (needed lent room : ℕ) × (p : Prepared (listRow questions) t questions needed lent room x n) × (admitted t questions points area ≡ answer (p .nodes))
 
 -- the areas hold each question's search, m turns later: 'one turn of the plain order further for each turn reported'; over the clauses e of
 -- the nodes rs, from the settings s and the areas w

@@ -17,10 +17,10 @@ use Rattle.rules.specs.declared.Version.the-variants.{One}
 use Rattle.rules.specs.Steps.{derivations, stepAt, sizeOk}
 use Rattle.rules.specs.Rules.{root, Progress, running, complete, apply, ended}
 
--- 44: 'unknown rule letter, position over 1 in R or nonzero elsewhere'
+-- 44: 'unknown rule letter, position over 1 in R or nonzero elsewhere'; 'position 2 becomes legal in R'
 unfoldable pub stepOkUnnamed : Step → Bool
 stepOkUnnamed s =
-    cond (eqb (s .rule) 82) (leb (s .position) 1)
+    cond (eqb (s .rule) 82) (leb (s .position) 2)
     ((eqb (s .rule) 85 || (eqb (s .rule) 69 || (eqb (s .rule) 67 || eqb (s .rule) 83))) && eqb (s .position) 0)
 
 -- 40; 41 to 43; 44

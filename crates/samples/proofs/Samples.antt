@@ -170,7 +170,7 @@ facts =
     also (refl, refl, refl, refl, refl, refl, refl)
     also (refl, refl, refl) also (refl, refl, refl) also (refl, refl, refl) also (refl, refl, refl)
     also (refl, refl, refl) also (refl, refl, refl) also (refl, refl, refl) also (refl, refl, refl) also (refl, refl, refl)
-    also (refl, refl, refl, refl, refl) also (refl, refl, refl, refl, refl) also (refl, refl, refl, refl, refl)
+    also (refl, refl, refl, refl, refl, refl, refl) also (refl, refl, refl, refl, refl, refl, refl) also (refl, refl, refl, refl, refl, refl, refl)
     also (refl, refl, refl) also (refl, refl, refl) also (refl, refl, refl)
     also refl also (refl, refl) also refl also refl
     also refl

@@ -43,7 +43,7 @@ const MOST: u64 = 4294967295;
 
 // The units join, one after another, up to another move.
 fn propagate(
-    templates: &[[u8; 9]; 14],
+    templates: &[[u8; 9]; 18],
     x: &[u16],
     n: usize,
     goals: &[u16],
@@ -105,7 +105,7 @@ fn with_left(left: u32, right: Ended) -> Ended
 // The search from the literals held, which stay held, with d splits on the branch: a model, or every branch closes, and the last
 // conflict's slot has what that rests on. What joined is taken back only before a right branch.
 fn search(
-    templates: &[[u8; 9]; 14],
+    templates: &[[u8; 9]; 18],
     x: &[u16],
     n: usize,
     goals: &[u16],

@@ -9,7 +9,7 @@ use Rattle.scope.specs.Outcome.{Outcome, answer, refused, _>>=_}
 use Rattle.scope.proofs.Tests.{refused-no, then-first, bound}
 use Rattle.codec.specs.Valid.{Bytes}
 use Rattle.calculus.specs.Order.{Answer, possible, impossible, unfinished, answerOf}
-use Rattle.calculus.specs.Model.{mostLiterals, Below}
+use Rattle.calculus.specs.Model.{questionSize, Below}
 use Rattle.calculus.specs.Decide.{listRow, _⇔_}
 use Rattle.calculus.proofs.Asked.{list-met}
 use Rattle.calculus.proofs.Lists.{all-append, all-left, all-right, all-getD, all-each, all-map}
@@ -79,7 +79,7 @@ module _ (t goals wishes : List ℕ) (m : ℕ) (s w : List ℕ) (all : Bytes t) 
     pub roomy : Room x n s w
     roomy = record { points = p .points; settings = p .admitted .settings; work = p .admitted .work }
 
-    pub posed : (list : List ℕ) → length list ≡ mostLiterals → take (length goals) list ≡ goals → Posed n goals wishes list
+    pub posed : (list : List ℕ) → length list ≡ questionSize → take (length goals) list ≡ goals → Posed n goals wishes list
     posed list size e =
         let few = rows-met goals wishes (p .admitted .list) in
         record {

@@ -12,7 +12,7 @@ use Rattle.scope.specs.Table.{listFrom, decode}
 use Rattle.scope.specs.Truth.{truth}
 use Rattle.scope.specs.Kleene.{Fills}
 use Rattle.calculus.specs.Order.{settingOf}
-use Rattle.calculus.specs.Model.{All, mostLiterals, Goals, Below}
+use Rattle.calculus.specs.Model.{All, questionSize, Goals, Below}
 use Rattle.calculus.specs.Decide.{Unsatisfiable, _⇔_}
 use Rattle.table.specs.declared.Counted.{Counted}
 use Rattle.index.specs.Index.{indexNode}
@@ -53,11 +53,11 @@ Stands t n met G s s′ = s′ ≡ cond (eqb met 0) s (settingOf (listFrom t 0 n
 
 -- what may be put to an index: the goals, which the list begins with, and the wishes
 pub record Posed (n : ℕ) (goals wishes list : List ℕ) : Type 0 where
-  pub size : length list ≡ mostLiterals
+  pub size : length list ≡ questionSize
   pub first : take (length goals) list ≡ goals
   pub goalsFit : Goals n goals
   pub wishesFit : Below n wishes
-  pub room : length goals + length wishes ≤ mostLiterals
+  pub room : length goals + length wishes ≤ questionSize
 
 -- the settings bytes after an outcome: those of what stands; a refusal changes none
 abbrev pub settingsBy : List Node → List ℕ → Outcome Result → List ℕ

@@ -8,7 +8,7 @@ ghost use mathlib.Core.Path.{_≡_};
 ghost use Prim.Native.Nat.{_+_, _≤_};
 ghost use lib.ListN.{length};
 ghost use Rattle.scope.specs.Outcome.{verdictOf};
-ghost use Rattle.calculus.specs.Model.{mostLiterals};
+ghost use Rattle.calculus.specs.Model.{questionSize};
 ghost use Rattle.index.specs.Index.{indexNode, indexSize};
 ghost use Rattle.index.specs.Indexed.{Indexed};
 ghost use Rattle.state.specs.Work.{gOf};
@@ -56,7 +56,7 @@ fn copy(from: &[u16], list: &mut [u16], at: usize)
 
 // The goals and behind them the wishes, where the rows on them let them pass; how many there are.
 fn gather(goals: &[u16], wishes: &[u16], list: &mut [u16]) -> usize
-    requires { ⌜ length (now list) ≡ mostLiterals ⌝ }
+    requires { ⌜ length (now list) ≡ questionSize ⌝ }
     ensures { λ r. ⌜ Gathers (now (goals .entry)) (now (wishes .entry)) (now (list .exit)) r ⌝ }
 {
     if 64 < goals.len() {
@@ -80,7 +80,7 @@ fn ask(
     list: &mut [u16],
     x: &mut [u16],
 ) -> Counted
-    requires { ⌜ length (now list) ≡ mostLiterals ⌝ }
+    requires { ⌜ length (now list) ≡ questionSize ⌝ }
     requires { ⌜ length (now x) ≡ indexSize ⌝ }
     ensures { λ r. ⌜ WishesAsk (now (t .entry)) (now (goals .entry)) (now (wishes .entry)) points area (now (list .exit)) (now (x .exit)) r ⌝ }
 {
@@ -143,7 +143,7 @@ pub fn grant(
     ensures { λ r. ⌜ Wishes (now (t .entry)) (now (goals .entry)) (now (wishes .entry)) allowance (now (settings .entry)) (now (work .entry)) (now (settings .exit)) (now (work .exit)) r ⌝ }
 {
     let mut list = [0u16; 80];
-    let mut x = [0u16; 18270];
+    let mut x = [0u16; 18378];
     let a = ask(
         t,
         goals,

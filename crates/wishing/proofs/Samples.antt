@@ -4,6 +4,7 @@ use mathlib.Core.List.{List, [], _∷_, map}
 use Prim.Native.Nat.{ℕ}
 use lib.ListN.{getD}
 use Rattle.scope.specs.declared.Node.{Node}
+use Rattle.scope.specs.Table.{arity, operands}
 use Rattle.scope.specs.Calls.{noNode}
 use Rattle.scope.specs.Outcome.{Outcome, answer, refused}
 use Rattle.calculus.specs.Expansion.{chosen, templates, expand}
@@ -20,7 +21,7 @@ unfolding queries subsets
 four = refl
 
 abbrev node : ℕ → ℕ → ℕ → Node
-node kind a b = record { kind = kind; a = a; b = b }
+node kind a b = record { kind = kind; a = a; b = b; c = 0 }
 
 tableA : List Node
 tableA =
@@ -36,12 +37,12 @@ wish G k u questions = answer (record { standing = G; k = k; u = u; questions = 
 wishing : map (λ (m : ℕ). wished asked (6 ∷ []) (0 ∷ 1 ∷ 2 ∷ 3 ∷ []) m (asked (6 ∷ []))) (0 ∷ 1 ∷ 4 ∷ 5 ∷ 6 ∷ 7 ∷ 99 ∷ [])
     ≡ wish (0 ∷ 6 ∷ []) 0 4 0 ∷ wish (0 ∷ 6 ∷ []) 0 3 1 ∷ wish (0 ∷ 6 ∷ []) 0 3 4 ∷ wish (0 ∷ 6 ∷ []) 0 2 5
     ∷ wish (0 ∷ 6 ∷ []) 0 2 6 ∷ wish (2 ∷ 0 ∷ 6 ∷ []) 2 2 7 ∷ wish (2 ∷ 0 ∷ 6 ∷ []) 2 2 7 ∷ []
-unfolding spend queries subsets asked tableA answerOf tree move clauses moveOf firstOf some stateOf valueOf mem expand templates chosen
+unfolding spend queries subsets asked tableA answerOf tree move clauses moveOf firstOf some stateOf valueOf mem expand templates chosen operands arity
 wishing = refl
 
 -- a wish that stands twice counts twice; no wishes; a wish that cannot be; goals that cannot
 others : wished asked (6 ∷ []) (1 ∷ 0 ∷ 0 ∷ []) 9 (asked (6 ∷ [])) ∷ wished asked (6 ∷ []) [] 9 (asked (6 ∷ []))
     ∷ wished asked (6 ∷ []) (14 ∷ []) 1 (asked (6 ∷ [])) ∷ wished asked (14 ∷ []) (0 ∷ []) 9 (asked (14 ∷ [])) ∷ []
     ≡ wish (0 ∷ 6 ∷ []) 2 2 4 ∷ wish (0 ∷ 6 ∷ []) 0 0 0 ∷ wish (0 ∷ 6 ∷ []) 0 0 1 ∷ refused 67 0 ∷ []
-unfolding spend queries subsets asked tableA answerOf tree move clauses moveOf firstOf some stateOf valueOf mem expand templates chosen
+unfolding spend queries subsets asked tableA answerOf tree move clauses moveOf firstOf some stateOf valueOf mem expand templates chosen operands arity
 others = refl

@@ -1,5 +1,5 @@
 -- One wrong byte in a readable table brings refusal 11 at its block, and in a derivation whose blocks pass, 41. Assumes nothing.
-use mathlib.Core.Path.{_≡_, _∙_, refl}
+use mathlib.Core.Path.{_≡_, _∙_, refl, ap}
 use mathlib.Core.List.{List}
 use mathlib.Core.Bool.{Bool, true}
 use Prim.Native.Nat.{ℕ, suc, _+_, _*_, _/_, _%_, _<_, _≤_}
@@ -22,10 +22,17 @@ use Rattle.codec.proofs.Bytes.{bytes-take, bytes-drop}
 use Rattle.codec.proofs.Blocks.{passed}
 use Rattle.codec.proofs.Files.{whole-length}
 use Rattle.codec.proofs.Tables.{length-ok, rows, pass, answers}
-use Rattle.rules.specs.Steps.{derivations, sizeOk, formTest, decodeSteps}
+use Rattle.rules.specs.declared.Version.{Version}
+use Rattle.rules.specs.declared.Version.the-variants.{One, Two}
+use Rattle.rules.specs.Steps.{formatOf, versionOf, sizeOk, formTest, decodeSteps}
 use Rattle.steps.specs.Opened.{blockRow}
 use Rattle.wrongbyte.specs.Wrong.{blocksTest, BlocksPass}
 use Rattle.wrongbyte.proofs.Files.{block-same, block-one, record-tested}
+
+-- the refusals of a block are 41 to 43 in either version
+numbered : (v : Version) → formatOf v .number ≡ 41
+numbered One = refl
+numbered Two = refl
 
 module _ (t u : List ℕ) (k : ℕ) (old : Bytes t) (new : Bytes u) (o : OneByte t u k) where
   -- the wrong byte's block, which passed its check, is refused by it: of any format, whatever index and place it is tested for
@@ -96,10 +103,15 @@ module _ (t u : List ℕ) (k : ℕ) (old : Bytes t) (new : Bytes u) (o : OneByte
 
   -- ---- a derivation whose blocks pass
 
-  module _ (ok : BlocksPass derivations t) where
+  module _ (ok : BlocksPass (formatOf (versionOf t)) t) where
     inside : k / 512 < length t / 512
     unfolding sizeOk
     inside = omega (arith, whole-length 65536 (length t) (ok .size) .1, o .inside)
+
+    -- a byte of a later block leaves the letter of block 0
+    version-kept : 0 < k / 512 → formatOf (versionOf u) ≡ formatOf (versionOf t)
+    unfolding versionOf
+    version-kept h = rw (o .rest 0 (λ z. omega arith))
 
     pub size-kept : sizeOk (length u) ≡ true
     size-kept = rw (o .long) (ok .size)
@@ -108,11 +120,13 @@ module _ (t u : List ℕ) (k : ℕ) (old : Bytes t) (new : Bytes u) (o : OneByte
     pub row-refuses : blockRow u (k / 512) ≡ refused 41 (k / 512)
     row-refuses =
         let was = fine-each (blockRow t) (length t / 512) 0 (ok .blocks) (k / 512) (omega arith) (omega (arith, inside)) in
-        block-refuses inside (passed derivations (blockAt t (k / 512)) (k / 512) _ was .check) derivations (k / 512) _
+        block-refuses inside (passed (formatOf (versionOf t)) (blockAt t (k / 512)) (k / 512) _ was .check) (formatOf (versionOf u)) (k / 512) _
+        ∙ ap (λ (n : ℕ). refused n (k / 512)) (numbered (versionOf u))
 
     pub form-refuses : formTest u ≡ refused 41 (k / 512)
     unfolding formTest
-    form-refuses = rw (size-kept, blocks-refuse derivations derivations inside (λ h. refl) (ok .blocks))
+    form-refuses =
+        rw (size-kept, blocks-refuse (formatOf (versionOf t)) (formatOf (versionOf u)) inside version-kept (ok .blocks), numbered (versionOf u))
 
     -- 'every derivation whose blocks pass 40 to 43 .. 41 at that block'
     pub steps-refuse : decodeSteps u ≡ refused 41 (k / 512)

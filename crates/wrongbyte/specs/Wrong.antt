@@ -11,8 +11,13 @@ use Rattle.scope.specs.Outcome.{Outcome, answer, refused, fine, first}
 use Rattle.scope.specs.Block.{blockTest, blockAt}
 use Rattle.scope.specs.Calls.{tableCount, tableRecord, evaluate, add}
 use Rattle.calculus.specs.Decide.{asked, decide}
+use Rattle.rules.specs.declared.Version.{Version}
 use Rattle.rules.specs.Steps.{sizeOk, formTest}
 use Rattle.rules.specs.Derive.{derive, check}
+use Rattle.clashing.specs.Clash.{clash}
+use Rattle.wishing.specs.Call.{grant}
+use Rattle.overview.specs.Overview.{overview}
+use Rattle.rooms.specs.Rooms.{questionsRow, openRooms, turnRooms}
 use Rattle.steps.specs.Opened.{stepCount}
 use Rattle.step_reader.specs.Handed.{blockOf, stepHanded, nextOf}
 
@@ -33,8 +38,14 @@ pub record TableRefused (u : List ℕ) (j : ℕ) : Type 0 where
   -- add, where the used part of its buffer is that table
   pub added : (buf r : List ℕ) (used : ℕ) → used ≤ length buf → take used buf ≡ u → add buf used r ≡ refused 11 j
   pub decided : (goals s work : List ℕ) → decide u goals s work ≡ refused 11 j
-  pub derived : (goals work d : List ℕ) → derive u goals work d ≡ refused 11 j
+  pub derived : (v : Version) (goals work d : List ℕ) → derive v u goals work d ≡ refused 11 j
   pub checked : (goals work d : List ℕ) → check u goals work d ≡ refused 11 j
+  pub clashed : (goals work : List ℕ) → clash u goals work ≡ refused 11 j
+  pub granted : (goals wishes : List ℕ) (m : ℕ) (s work : List ℕ) → grant u goals wishes m s work ≡ refused 11 j
+  pub overviewed : (goals answers work : List ℕ) → overview u goals answers work ≡ refused 11 j
+  -- rooms, where the questions pass row 69, which comes before all table checks
+  pub openedRooms : (questions : List ℕ) (points area : ℕ) → questionsRow questions ≡ fine → openRooms u questions points area ≡ refused 11 j
+  pub turnedRooms : (questions : List ℕ) (points : ℕ) (w : List ℕ) (m : ℕ) → questionsRow questions ≡ fine → turnRooms u questions points w m ≡ refused 11 j
 
 -- '.. or 41': every call that reads a derivation
 pub record DerivationRefused (u : List ℕ) (j : ℕ) : Type 0 where

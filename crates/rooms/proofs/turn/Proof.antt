@@ -5,6 +5,7 @@ use Rattle.rooms.proofs.Ends.{none-zero, turn-refused, turn-done, index
 use Rattle.rooms.proofs.Rows.{rooms-refused}
 use Rattle.rooms.proofs.turn.Statement.{statement}
 use Rattle.rooms.proofs.turn.Tie as tie
+use Rattle.asking.proofs.Nodes.{goals-in}
 
 slice-aggregate-ask : tie.Need-slice-aggregate-ask
 slice-aggregate-ask c = search needs
@@ -32,7 +33,7 @@ spend-requires c κs =
     let a = c .before .before .before .before .before .before .before .before .before .ask .ensures in
     let e = c .before .before .before .before .before .before .a2 .given .1 in
     let p = a .prepared _ e .3 in
-    (p .indexed, (p .points, (p .literals, (a .fit _ e, ((refl, refl), (none-zero, none-zero))))))
+    (p .indexed, (p .points, (goals-in p, (a .fit _ e, ((refl, refl), (none-zero, none-zero))))))
 
 returns : tie.Need-returns
 returns c = turn-refused _ _ _ _ _ (rooms-refused _ _ _ _ _ (c .before .before .before .before .ask .ensures) (c .before .a .given .1)) _
