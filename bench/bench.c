@@ -208,7 +208,7 @@ static times measure(operation f, const a_case *c, const char *what)
 static double ratio(times t) { return t.seconds[LIB] / t.seconds[PLAIN]; }
 
 /* The worst of each kind, for the last lines. */
-static struct { double decide, clash, overview, read, adds, listing, threes, gain, gain, derive, check; } worst = { 0, 0, 0, 0, 0, 0, 0, 0, 1e18, 1e18, 1e18 };
+static struct { double decide, clash, overview, read, adds, listing, threes, gain, faster, derive, check; } worst = { 0, 0, 0, 0, 0, 0, 0, 0, 1e18, 1e18, 1e18 };
 
 static void at_least(double *w, double v) { *w = v > *w ? v : *w; }
 static void at_most(double *w, double v) { *w = v < *w ? v : *w; }
@@ -380,7 +380,7 @@ static void overviews(void)
         report(&now, "overview", t, moves, "moves");
         report(&now, "by decide", d, moves, "moves");
         at_least(&worst.overview, ratio(t));
-        at_most(&worst.gain, d.seconds[LIB] / t.seconds[LIB]);
+        at_most(&worst.faster, d.seconds[LIB] / t.seconds[LIB]);
     }
 }
 
@@ -465,7 +465,7 @@ static void targets(void)
     printf("worst, and the target: decide %.2f (1.3) times plain, clash %.2f (1.5) times plain, read %.2f (2) times plain, 2,016 adds %.1f (60) ms, listing %.2f (1) s\n",
         worst.decide, worst.clash, worst.read, 1e3 * worst.adds, worst.listing);
     printf("worst, and the target: decide in threes %.2f (1.3) times plain, %.2f (1) times the same in pairs\n", worst.threes, worst.gain);
-    printf("worst: overview %.2f times plain, and %.1f times as fast as a decide for each of its 256 goals\n", worst.overview, worst.gain);
+    printf("worst: overview %.2f times plain, and %.1f times as fast as a decide for each of its 256 goals\n", worst.overview, worst.faster);
 #ifdef HAVE_DERIVE
     printf("worst, and the target: derive %.1f (8) and check %.1f (40) million steps a second\n", worst.derive, worst.check);
 #endif

@@ -181,6 +181,11 @@ static p_added p_add(uint8_t *buf, size_t len, size_t used, const uint8_t *recor
     size_t n = p_table.nodes;
     uint64_t r = p_load(record);
     unsigned kind = r & 255, a = r >> 16 & 65535, b = r >> 32 & 65535;
+    if (kind == 5) { /* added as the OR of not a and b */
+        kind = 4;
+        a ^= 1;
+        r = (r & ~(uint64_t)0xFFFF00FF) | kind | (uint64_t)a << 16;
+    }
     if ((kind == 3 || kind == 4 || kind == 6) && a / 2 > b / 2)
         r = (r & 0xFFFF00000000FFFF) | (uint64_t)b << 16 | (uint64_t)a << 32;
     if (kind - 7 < 2) {
@@ -557,8 +562,9 @@ static inline int p_jump(const p_list *g)
 {
     static const p_set none = { { 0, 0 } };
     uint64_t moves = 0;
-    size_t depth = 0;
-    p_start(g);
+    size_t depth = 0, nodes = p_nodes(g);
+    p_link(nodes);
+    p_start(g, nodes);
     p_made = 0;
     if (!p_join_goals(g, NULL, &moves)) {
         ps.moves = moves + 1;

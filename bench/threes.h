@@ -147,7 +147,9 @@ static void p3_start(const p_list *g)
 {
     if (!p3_class[1])
         p3_classes();
-    p_start(g);
+    size_t nodes = p_nodes(g);
+    p_link(nodes);
+    p_start(g, nodes);
     memset(p3.class, 0, sizeof p3.class);
     memset(p3.set, 0, sizeof p3.set);
     memset(p3.summary, 0, sizeof p3.summary);

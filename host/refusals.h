@@ -26,7 +26,7 @@ static const struct refusal refusals[] = {
     { 13, ABOUT_TABLE, "a byte behind the block's records is not zero", "block", READS_TABLE },
     { 14, ABOUT_TABLE, "the record's kind is unknown, or a field that must be zero is not", "node", READS_TABLE },
     { 15, ABOUT_TABLE, "the point is over 1,023, or an operand is not an earlier node", "node", READS_TABLE },
-    { 16, ABOUT_TABLE, "both operands are the same node, or they stand in the wrong order", "node", READS_TABLE },
+    { 16, ABOUT_TABLE, "two operands are the same node, or they stand in the wrong order", "node", READS_TABLE },
     { 17, ABOUT_TABLE, "the record repeats an earlier one", "node", READS_TABLE },
     { 20, ABOUT_GOAL, "the literal is not below twice the node count", "goal", "record, evaluate, decide, clash, wishes, overview, derive, check, rooms_open, rooms_turn" },
     { 21, ABOUT_FILE, "the settings are under 1,024 bytes", "0", "evaluate, decide, wishes, rooms_open, rooms_turn" },

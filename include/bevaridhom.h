@@ -18,7 +18,7 @@
  *
  * Damage. Where exactly one byte of a readable table is changed to another value, every call that reads it answers 11, and place is the
  * block of that byte; of a derivation whose blocks pass 41 to 43, bev_open and bev_check answer 41 there, and so does bev_step of a step
- * in that block.
+ * in that block. bev_step of a step in another block looks at one byte of block 0, its letter, and not at that block's check.
  *
  * Threads. Calls keep no state and share none: they may run at the same time where no area that one of them may write is lent to
  * another. A call allocates nothing and takes at most BEV_STACK bytes of stack. */
@@ -119,9 +119,10 @@ bev_answered bev_overview(const uint8_t *table, size_t table_len, const uint16_t
  * finding that all clauses are met. Answers, for the `count` questions, the turns made in this call and the verdicts: 0 impossible, 1
  * possible, 2 unfinished; the other values are 0. A verdict comes with the turn that reaches it, and with it the question's settings
  * bytes where it is possible; both are those of bev_decide for the question, however the turns are split into calls, and later calls
- * repeat the verdict. An area whose literals are not those of a search of its question is taken for one at its start. Every refusal leaves
- * the areas as they were. Refusals, of both calls: 69 no questions or over BEV_QUESTIONS, before all others; 10 to 17; 20 at the index of
- * the question; 21 under 1,024 settings bytes a question; 23 under BEV_WORK numbers a question. */
+ * repeat the verdict. An area of other contents is safe: a verdict that stands in its number 0 (0 or 1) is repeated, whoever wrote it, and
+ * with any other number there, literals that are not those of a search of its question are taken for none. Every refusal leaves the areas
+ * as they were. Refusals, of both calls: 69 no questions or over BEV_QUESTIONS, before all others; 10 to 17; 20 at the index of the
+ * question; 21 under 1,024 settings bytes a question; 23 under BEV_WORK numbers a question. */
 bev_turned bev_rooms_open(const uint8_t *table, size_t table_len, const uint16_t *questions, size_t questions_len, const uint8_t *settings,
                           size_t settings_len, uint16_t *work, size_t work_len);
 bev_turned bev_rooms_turn(const uint8_t *table, size_t table_len, const uint16_t *questions, size_t questions_len, uint8_t *settings,
@@ -138,8 +139,8 @@ bev_derived bev_derive(const uint8_t *table, size_t table_len, const uint16_t *g
 /* Whether a derivation, by whatever author, shows that the goals are impossible together: number 0 accepted. One whose first step is a G
  * is accepted for the goals that it names and no other list; in version one it need not name them. The letter of its first block says
  * the version. The work area as for bev_decide, free also after 45, 46, 47 and 64. Refusals: 10 to 17, 62, 20, 23, 40 to 44 and 65 for
- * its form, then 46, 64 (a G wrong, missing or late) and 45 at the step where it fails, 47 at the step count where its steps end with a
- * branch open. */
+ * its form, then 46, 64 (a G wrong, missing or late) and 45 at the step where it fails, 64 at the step count where the steps end before
+ * every goal is named, 47 there where they end with a branch open. */
 bev_checked bev_check(const uint8_t *table, size_t table_len, const uint16_t *goals, size_t goals_len, uint16_t *work, size_t work_len,
                       const uint8_t *derivation, size_t derivation_len);
 

@@ -445,7 +445,8 @@ pub struct BevStep {
 }
 
 // The reader as an entry: the step at an index (left 1), or that none is left there (left 0). Of the derivation it looks at the length
-// (row 40), at the block of the index or, behind all blocks, the last (rows 41 to 43), and at the step (row 44).
+// (row 40), at the first byte, which says the version, at the block of the index or, behind all blocks, the last (rows 41 to 43), and at
+// the step (rows 44 and 65).
 #[no_mangle]
 pub extern "C" fn bev_step(d: &[u8], index: usize) -> BevStep
     ensures { λ r. ⌜ r ≡ stepAnswer (stepHanded (now (d .entry)) index) ⌝ }

@@ -13,9 +13,10 @@ use Rattle.codec.specs.Valid.{Bytes}
 use Rattle.calculus.specs.Expansion.{expand}
 use Rattle.calculus.specs.Order.{unfinished, answerOf}
 use Rattle.calculus.specs.Model.{Below}
-use Rattle.calculus.specs.Decide.{nodesOf, searchOf, settingsOn}
+use Rattle.calculus.specs.Decide.{nodesOf, searchOf, settingsOn, Decided, decide}
 use Rattle.calculus.proofs.Lists.{all-at}
 use Rattle.asking.proofs.Models.{table-of}
+use Rattle.meaning.proofs.Decisions.{decide-plain}
 use Rattle.turns.specs.Turn.{Search, running, verdictOf, resumes, replays, turnsOf}
 use Rattle.turns.specs.Round.{Round, opening, turnFor, spend, turnsFor, total, sum, written}
 use Rattle.turns.proofs.Rounds.{spend-add}
@@ -88,14 +89,14 @@ module _ {t questions : List ℕ} {rs : List Node} {s₀ : List ℕ} where
     goals-below : (j : ℕ) → j < length questions → goalOf questions j < 2 * length rs
     goals-below j h = all-at (λ x. x < 2 * length rs) questions j 0 (session-read b .1) h
 
-    -- a verdict that is there is decide's
+    -- a verdict that is there is that of the plain order
     pub session-verdict : verdictOf (roundOf rs questions w .searches i)
         ≡ cond (ltb (turnsFor (turnOf questions rs) (length questions) (sum ms) opening i) (turnsOf (searchOf rs (goalsOf questions i)))) unfinished (answerOf (searchOf rs (goalsOf questions i)))
     session-verdict =
         ap verdictOf (session-round b .searches i l)
         ∙ room-verdict (length rs) (nodesOf rs) (table-of t rs all (session-read b .0)) (goalOf questions) (length questions) goals-below (sum ms) i l
 
-    -- .. and with enough turns it is there, with decide's setting
+    -- .. and with enough turns it is there, with its setting
     module _ (h : enough ≤ sum ms) where
       pub session-ends : verdictOf (roundOf rs questions w .searches i) ≡ answerOf (searchOf rs (goalsOf questions i))
       session-ends =
@@ -104,3 +105,16 @@ module _ {t questions : List ℕ} {rs : List Node} {s₀ : List ℕ} where
 
       pub session-written : partOf pointsSize i s ≡ settingsOn rs (partOf pointsSize i s₀) (answerOf (searchOf rs (goalsOf questions i)))
       session-written = session-settings b i l ∙ ap (settingsOn rs (partOf pointsSize i s₀)) session-ends
+
+      -- .. as decide answers, lent the question's settings bytes
+      pub session-decides : (v : List ℕ) {d : Decided} → decide t (goalsOf questions i) (partOf pointsSize i s₀) v ≡ answer d
+          → (verdictOf (roundOf rs questions w .searches i) ≡ d .verdict) × (partOf pointsSize i s ≡ d .settings)
+      session-decides v {d} e =
+          let p = decide-plain t (goalsOf questions i) (partOf pointsSize i s₀) v all e in
+          let reads : decode t ≡ answer (p .0) = p .1 in
+          let known : decode t ≡ answer rs = session-read b .0 in
+          let same : p .0 ≡ rs = cc in
+          let verdict : d .verdict ≡ answerOf (searchOf rs (goalsOf questions i)) = p .2 .verdict ∙ ap (λ (qs : List Node). answerOf (searchOf qs (goalsOf questions i))) same in
+          let settings : d .settings ≡ settingsOn rs (partOf pointsSize i s₀) (answerOf (searchOf rs (goalsOf questions i))) =
+          p .2 .settings ∙ ap (λ (qs : List Node). settingsOn qs (partOf pointsSize i s₀) (answerOf (searchOf qs (goalsOf questions i)))) same in
+          (session-ends ∙ sym verdict, session-written ∙ sym settings)

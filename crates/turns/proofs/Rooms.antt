@@ -50,7 +50,7 @@ module _ (n : ℕ) (t : ℕ → Node) (T : Table n t) (goal : ℕ → ℕ) (q : 
   abbrev turnOf : ℕ → Search → Search
   turnOf = turnFor (expand t) goal
 
-  -- the search that decide makes for a question
+  -- the search of a question in the plain order
   abbrev searched : ℕ → Tree
   searched i = tree (expand t) (goal i ∷ []) n []
 
