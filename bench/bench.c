@@ -134,15 +134,16 @@ static void decides_each(const a_case *c, int side)
 #ifdef HAVE_DERIVE
 static uint8_t *derivation[2];
 static uint64_t steps;
+static int letter; /* 68 version one, 86 version two */
 
 static void derive(const a_case *c, int side)
 {
     if (side == LIB) {
-        bev_derived v = bev_derive(c->table, c->len, c->goals.goal, c->goals.count, 0, work, BEV_WORK, derivation[LIB], ROOM);
+        bev_derived v = bev_derive(c->table, c->len, c->goals.goal, c->goals.count, letter == 86, work, BEV_WORK, derivation[LIB], ROOM);
         say(LIB, v.number, v.place, v.steps, 0);
     } else {
         p_refusal v;
-        steps = p_derive(c->table, c->len, &c->goals, derivation[PLAIN], ROOM, &v);
+        steps = p_derive(c->table, c->len, &c->goals, letter, derivation[PLAIN], ROOM, &v);
         say(PLAIN, v.number, v.place, steps, 0);
     }
 }
@@ -353,7 +354,7 @@ static void jumps(void (*make)(a_case *, unsigned), unsigned low, unsigned step,
             1e6 * t.seconds[LIB], 1e6 * t.seconds[PLAIN], ratio(t));
         if (n <= last) {
             clock_t from = clock();
-            p_sink s = { 0, NULL };
+            p_sink s = { 0, NULL, 68 };
             p_read(now.table, now.len);
             p_search(&now.goals, &s);
             printf("  without jumps %12.1f us, %9.0f steps", 1e6 * (double)(clock() - from) / CLOCKS_PER_SEC, (double)s.steps);
@@ -399,6 +400,23 @@ static void wide(void)
 }
 
 #ifdef HAVE_DERIVE
+/* Derive and check in the version at hand. */
+static void derives_in_version(void)
+{
+    times t = measure(derive, &now, "derive");
+    if (memcmp(derivation[LIB], derivation[PLAIN], size_of_steps())) {
+        printf("%s: the derivations differ\n", now.name);
+        exit(1);
+    }
+    times c = measure(check, &now, "check");
+    report(&now, letter == 68 ? "derive" : "derive two", t, (double)steps, "steps");
+    report(&now, letter == 68 ? "check" : "check two", c, (double)steps, "steps");
+    if (letter == 86)
+        return;
+    at_most(&worst.derive, (double)steps / t.seconds[LIB] / 1e6);
+    at_most(&worst.check, (double)steps / c.seconds[LIB] / 1e6);
+}
+
 static void derives(void)
 {
     derivation[LIB] = calloc(2, ROOM);
@@ -419,16 +437,8 @@ static void derives(void)
         case 9: pigeons(&now, 6, 1); break;
         case 10: clauses_of_three(&now, 70, 8, 1); break;
         }
-        times t = measure(derive, &now, "derive");
-        if (memcmp(derivation[LIB], derivation[PLAIN], size_of_steps())) {
-            printf("%s: the derivations differ\n", now.name);
-            exit(1);
-        }
-        times c = measure(check, &now, "check");
-        report(&now, "derive", t, (double)steps, "steps");
-        report(&now, "check", c, (double)steps, "steps");
-        at_most(&worst.derive, (double)steps / t.seconds[LIB] / 1e6);
-        at_most(&worst.check, (double)steps / c.seconds[LIB] / 1e6);
+        for (letter = 68; letter <= 86; letter += 18)
+            derives_in_version();
     }
 }
 #endif

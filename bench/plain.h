@@ -405,7 +405,7 @@ static inline unsigned p_literal(unsigned place)
 }
 
 /* Where steps go: counted, and written from the second search on. */
-typedef struct { uint64_t steps; uint8_t *out; } p_sink;
+typedef struct { uint64_t steps; uint8_t *out; int letter; } p_sink;
 
 static inline void p_step(p_sink *s, unsigned rule, unsigned position, unsigned value)
 {
@@ -417,7 +417,7 @@ static inline void p_step(p_sink *s, unsigned rule, unsigned position, unsigned 
     uint32_t step = rule | position << 8 | value << 16;
     if (i == 0) {
         memset(b, 0, 512);
-        b[0] = 68;
+        b[0] = (uint8_t)s->letter;
         b[2] = (uint8_t)(k / 126);
         b[3] = (uint8_t)(k / 126 >> 8);
     }
@@ -427,14 +427,21 @@ static inline void p_step(p_sink *s, unsigned rule, unsigned position, unsigned 
         p_seal(b);
 }
 
-/* The steps of a UNIT or CONFLICT: the false literals, then the clause. */
+/* The steps of a UNIT or CONFLICT: in version one the false literals, then the clause. */
 static inline void p_steps(p_sink *s, unsigned rule, unsigned place)
 {
     unsigned pair = (unsigned)(ps.clauses[place / 2] >> 32 * (place & 1)), k = ps.number[place / 2] + (place & 1);
-    for (unsigned i = 0; i < 2; i++, pair >>= 16)
+    for (unsigned i = 0; s->letter == 68 && i < 2; i++, pair >>= 16)
         if ((pair & 65535) < P_TRUE && ps.value[pair & 65535] == 2)
             p_step(s, 'R', i, k);
     p_step(s, rule, 0, k);
+}
+
+/* The goals of a derivation, in front of its steps. */
+static inline void p_names(const p_list *g, p_sink *s)
+{
+    for (size_t i = 0; s && i < g->count; i++)
+        p_step(s, 'G', 0, g->goal[i]);
 }
 
 /* The nodes up to the highest goal's. */
@@ -481,7 +488,8 @@ static inline int p_join_goals(const p_list *g, p_sink *steps, uint64_t *moves)
         size_t k = p_false_goal(g, i);
         if (k < g->count) {
             if (steps) {
-                p_step(steps, 'R', 0, (unsigned)k);
+                if (steps->letter == 68)
+                    p_step(steps, 'R', 0, (unsigned)k);
                 p_step(steps, 'C', 0, (unsigned)k);
             }
             return 0;
@@ -495,6 +503,7 @@ static inline int p_put(const p_list *g, size_t nodes, p_sink *steps)
 {
     uint64_t moves = 0;
     p_start(g, nodes);
+    p_names(g, steps);
     if (!p_join_goals(g, steps, &moves)) {
         ps.moves = moves + 1;
         return 0;
@@ -532,8 +541,6 @@ static inline int p_search(const p_list *g, p_sink *steps)
     p_link(nodes);
     return p_put(g, nodes, steps);
 }
-
-#include "threes.h"
 
 /* What the literal at a position rests on, as two words of 64 splits; position 0 rests on nothing. */
 typedef struct { uint64_t w[2]; } p_set;
@@ -605,6 +612,8 @@ static inline int p_jump(const p_list *g)
     return !ps.summary[P_CONFLICT];
 }
 
+#include "threes.h"
+
 /* The table's rows, then rows 62 and 20. */
 static p_refusal p_asked(const uint8_t *t, size_t len, const p_list *g)
 {
@@ -625,7 +634,7 @@ static int p_decide(const uint8_t *t, size_t len, const p_list *g, uint8_t *sett
     *no = p_asked(t, len, g);
     if (!no->number && points < 1024)
         *no = p_no(21, 0);
-    if (no->number || !(p_table.threes ? p3_search(g, NULL) : p_jump(g)))
+    if (no->number || !(p_table.threes ? p3_jump(g) : p_jump(g)))
         return 0;
     memset(settings, 2, 1024);
     for (size_t q = 1; q <= ps.held; q++) {
@@ -691,13 +700,13 @@ static void p_overview(const uint8_t *t, size_t len, const uint16_t *goals, size
     ps.moves = moves;
 }
 
-/* Derive: the step count, or the refusal; a first search counts. */
-static size_t p_derive(const uint8_t *t, size_t len, const p_list *g, uint8_t *out, size_t room, p_refusal *no)
+/* Derive, of the version of a letter: the step count, or the refusal; a first search counts. */
+static size_t p_derive(const uint8_t *t, size_t len, const p_list *g, int letter, uint8_t *out, size_t room, p_refusal *no)
 {
     *no = p_asked(t, len, g);
     if (no->number)
         return 0;
-    p_sink s = { 0, NULL };
+    p_sink s = { 0, NULL, letter };
     *no = p_no((p_table.threes ? p3_search(g, &s) : p_search(g, &s)) ? 30 : 0, 0);
     if (no->number)
         return 0;
@@ -833,21 +842,45 @@ static inline int p_apply(unsigned rule, unsigned i, unsigned k)
     }
 }
 
-/* Rows 40 to 44. */
+/* The same in version two: U and C by the values under G alone. */
+static inline int p_apply_two(unsigned rule, unsigned k)
+{
+    if (rule == 'S')
+        return p_apply('S', 0, k);
+    if (k >= pc.clauses)
+        return 0;
+    uint64_t lits = pc.lits[k];
+    unsigned left = 0, x = 0;
+    for (unsigned i = 0; i < pc.size[k]; i++, lits >>= 16)
+        if (pc.value[lits & 65535] != 2) {
+            left++;
+            x = lits & 65535;
+        }
+    if (rule != 'U')
+        return left ? 0 : p_turn() ? 1 : 2;
+    if (left != 1 || pc.value[x])
+        return 0;
+    p_join(x);
+    return 1;
+}
+
+/* Rows 40 to 44 and 65. */
 static p_refusal p_form(const uint8_t *d, size_t len)
 {
     if (len == 0 || len % 512 || len > 33554432)
         return p_no(40, 0);
     for (size_t j = 0; j < len / 512; j++) {
-        unsigned row = p_block(d + 512 * j, j, j + 1 == len / 512, 68, 126, 4);
+        unsigned row = p_block(d + 512 * j, j, j + 1 == len / 512, d[0] == 86 ? 86 : 68, 126, 4);
         if (row)
             return p_no(40 + row, j);
     }
     for (size_t j = 0; j < len / 512; j++)
         for (unsigned i = 0; i < d[512 * j + 1]; i++) {
             const uint8_t *s = d + 512 * j + 4 + 4 * i;
-            if (s[0] == 'R' ? s[1] > 2 : s[1] || (s[0] != 'U' && s[0] != 'E' && s[0] != 'C' && s[0] != 'S'))
+            if (s[0] == 'R' ? s[1] > 2 : s[1] || (s[0] != 'U' && s[0] != 'E' && s[0] != 'C' && s[0] != 'S' && s[0] != 'G'))
                 return p_no(44, 126 * j + i);
+            if (d[0] == 86 && (s[0] == 'R' || s[0] == 'E'))
+                return p_no(65, 126 * j + i);
         }
     return p_no(0, 0);
 }
@@ -863,7 +896,7 @@ static p_refusal p_checked(const uint8_t *t, size_t len, const p_list *g, const 
     pc.held = pc.clauses = pc.notes = pc.levels = 0;
     for (size_t i = 0; i < g->count; i++)
         p_clause(g->goal[i] | (unsigned)P_FALSE << 16);
-    int state = 1;
+    int state = 1, two = d[0] == 86, names = two || d[4] == 'G';
     size_t steps = 0;
     for (size_t j = 0; j < size / 512; j++) {
         const uint8_t *b = d + 512 * j;
@@ -871,12 +904,19 @@ static p_refusal p_checked(const uint8_t *t, size_t len, const p_list *g, const 
             const uint8_t *s = b + 4 + 4 * i;
             if (state == 2)
                 return p_no(46, steps);
-            state = p_apply(s[0], s[1], p_word(s + 2));
+            if (names && steps < g->count) {
+                if (s[0] != 'G' || p_word(s + 2) != g->goal[steps])
+                    return p_no(64, steps);
+                continue;
+            }
+            if (s[0] == 'G')
+                return p_no(64, steps);
+            state = two ? p_apply_two(s[0], p_word(s + 2)) : p_apply(s[0], s[1], p_word(s + 2));
             if (!state)
                 return p_no(45, steps);
         }
     }
-    return state == 2 ? p_no(0, 0) : p_no(47, steps);
+    return state == 2 ? p_no(0, 0) : p_no(names && steps < g->count ? 64 : 47, steps);
 }
 
 #endif

@@ -137,7 +137,7 @@ static inline void p3_steps(p_sink *s, unsigned rule, unsigned place)
 {
     uint64_t c = p3.clause[place];
     unsigned k = ps.number[place / 4] + (place & 3);
-    for (unsigned i = 0; i < 3; i++, c >>= 16)
+    for (unsigned i = 0; s->letter == 68 && i < 3; i++, c >>= 16)
         if ((c & 65535) < P_TRUE && ps.value[c & 65535] == 2)
             p_step(s, 'R', i, k);
     p_step(s, rule, 0, k);
@@ -168,7 +168,8 @@ static inline int p3_join_goals(const p_list *g, p_sink *steps, uint64_t *moves)
         size_t k = p_false_goal(g, i);
         if (k < g->count) {
             if (steps) {
-                p_step(steps, 'R', 0, (unsigned)k);
+                if (steps->letter == 68)
+                    p_step(steps, 'R', 0, (unsigned)k);
                 p_step(steps, 'C', 0, (unsigned)k);
             }
             return 0;
@@ -181,6 +182,7 @@ static int p3_search(const p_list *g, p_sink *steps)
 {
     uint64_t moves = 0;
     p3_start(g);
+    p_names(g, steps);
     if (!p3_join_goals(g, steps, &moves)) {
         ps.moves = moves + 1;
         return 0;
@@ -205,6 +207,73 @@ static int p3_search(const p_list *g, p_sink *steps)
             if (steps)
                 p_step(steps, 'S', 0, l);
             p3_assume(l);
+        } else
+            break;
+    }
+    ps.moves = moves + 1;
+    return !p3_some(P_CONFLICT);
+}
+
+/* What the clause at a place rests on, as in `p_why`. */
+static inline p_set p3_why(unsigned place)
+{
+    uint64_t c = p3.clause[place];
+    p_set s = p_rests[place / 4];
+    for (unsigned i = 0; i < 3; i++, c >>= 16) {
+        unsigned x = c & 65535;
+        p_set a = p_rests[x < P_TRUE ? ps.position[x / 2] : 0];
+        s.w[0] |= a.w[0];
+        s.w[1] |= a.w[1];
+    }
+    return s;
+}
+
+static inline void p3_assume_on(unsigned l, p_set s)
+{
+    p_rests[ps.held + 1] = s;
+    p3_assume(l);
+}
+
+/* The same search, jumping as in `p_jump`. */
+static int p3_jump(const p_list *g)
+{
+    static const p_set none = { { 0, 0 } };
+    uint64_t moves = 0;
+    size_t depth = 0;
+    p3_start(g);
+    p_made = 0;
+    if (!p3_join_goals(g, NULL, &moves)) {
+        ps.moves = moves + 1;
+        return 0;
+    }
+    for (size_t q = 0; q <= ps.held; q++)
+        p_rests[q] = none;
+    for (;; moves++) {
+        if (p3_some(P_CONFLICT)) {
+            p_set why = p3_why(p3_first(P_CONFLICT));
+            while (ps.levels && p_depth[ps.levels - 1] < 128 && !(why.w[p_depth[ps.levels - 1] / 64] >> p_depth[ps.levels - 1] % 64 & 1))
+                ps.levels--;
+            if (!ps.levels)
+                break;
+            unsigned l = p3_back(), d = p_depth[ps.levels];
+            if (d < 128)
+                why.w[d / 64] &= ~((uint64_t)1 << d % 64);
+            depth = d + 1;
+            p3_assume_on(l ^ 1, why);
+        } else if (p3_some(P_UNIT)) {
+            unsigned place = p3_first(P_UNIT);
+            p3_assume_on(p3_literal(place), p3_why(place));
+        } else if (p3_some(P_OPEN)) {
+            unsigned l = p3_literal(p3_first(P_OPEN));
+            p_set own = none;
+            if (depth < 128)
+                own.w[depth / 64] = (uint64_t)1 << depth % 64;
+            p_made++;
+            ps.level[ps.levels].literal = (uint16_t)l;
+            ps.level[ps.levels].held = (uint16_t)ps.held;
+            p_depth[ps.levels] = (uint16_t)depth++;
+            ps.level[ps.levels++].notes = (uint32_t)ps.notes;
+            p3_assume_on(l, own);
         } else
             break;
     }
