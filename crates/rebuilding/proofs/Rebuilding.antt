@@ -1,5 +1,5 @@
--- The rebuild of a readable table on its bytes: what the rebuilt literals mean (`rebuild-means`), which refusals there are
--- (`rebuild-refused`), what it leaves in a buffer as long as the table (`rebuild-whole`), and that without kind 5 it is the table byte
+-- The rebuild of a readable table on its bytes: what the rebuilt literals mean (`rebuild-means`), which refusals there are and what the
+-- literals before one mean (`rebuild-refused`), what it leaves in a buffer as long as the table (`rebuild-whole`), and that without kind 5 it is the table byte
 -- for byte (`rebuild-plain`). Assumes nothing.
 use mathlib.Core.Path.{_≡_, refl, sym, ap, _∙_, subst}
 use mathlib.Core.List.{List, [], _∷_, _++_, append-assoc, append-nil, map}
@@ -10,7 +10,7 @@ use native.Mathlib.Nat.{add-zero, zero-add}
 use native.Mathlib.Omega.{arith}
 use lib.Dec.{eqb, ltb, leb}
 use lib.ListN.{length, getD, take, length-append, List·getD-append}
-use lib.Seq.{getD-append-seam}
+use lib.Seq.{getD-append-seam, getD-take, length-take-le, take-length}
 use borrow.Author.Tests.{eqb-true, eqb-false, ltb-true, le-leb, lt-ltb, le-ltb}
 use Rattle.scope.specs.declared.Node.{Node}
 use Rattle.scope.specs.Outcome.{Outcome, answer, refused, require, _>>_, _>>=_}
@@ -32,9 +32,9 @@ use Rattle.codec.proofs.Normal.{with-operands, normalized-bytes, normal-same, n
 use Rattle.codec.proofs.Adds.{add-reads-back, add-bytes, found, more, by-add}
 use Rattle.truth.specs.Evaluated.{Low}
 use Rattle.truth.proofs.Low.{reads-low}
-use Rattle.truth.proofs.Truths.{length-truths}
+use Rattle.truth.proofs.Truths.{length-truths, lit-prefix}
 use Rattle.rebuilding.specs.Rebuild.{rebuilt, mapped, rebuildFrom, rebuild, Rebuilt, following, nodesFrom}
-use Rattle.rebuilding.specs.Promised.{Even, Rebuilds}
+use Rattle.rebuilding.specs.Promised.{Even, Rebuilds, Ends}
 use Rattle.rebuilding.proofs.Logics.{classical-even, kleene-even}
 use Rattle.rebuilding.proofs.Means.{rebuilt-means}
 use Rattle.rebuilding.proofs.Steps.{rebuilt-node, mapped-reads, mapped-small, add-mapped}
@@ -75,6 +75,15 @@ pub record Read (m : List ℕ) (qs xs : List Node) (b : Built) : Type 0 where
   pub table : decodeUsed (take (b .used) (b .bytes)) ≡ answer (out .nodes)
   pub literals : b .literals ≡ out .literals
   pub bytes : Bytes (b .bytes)
+  pub within : b .used ≤ length (b .bytes)
+
+-- the used part stays within the buffer
+within-after : (buf : List ℕ) (used : ℕ) (qs : List Node) (y : Node) (out : Added) → used ≤ length buf
+    → addNode buf used qs y ≡ answer out → out .used ≤ length (out .bytes)
+within-after buf used qs y out h e =
+    by-add buf used qs y out e
+    (λ here q. rw (← q) h)
+    (λ new few fits q. rw (← q) (omega (arith, written-length (encode (qs ++ y ∷ [])) buf fits)))
 
 -- one record further
 module _ (m : List ℕ) (buf : List ℕ) (used k : ℕ) (qs : List Node) (x : Node) (out : Added) (all : Bytes buf)
@@ -97,72 +106,82 @@ module _ (m : List ℕ) (buf : List ℕ) (used k : ℕ) (qs : List Node) (x : No
         rw is (ap (λ (a : ℕ). m ++ a ∷ []) (back .literal)),
       )
 
-read-all : (xs : List Node) (m : List ℕ) (buf : List ℕ) (used k : ℕ) (qs : List Node) (b : Built) → Bytes buf
+  within : used ≤ length buf → out .used ≤ length (out .bytes)
+  within h =
+      let is = add-mapped m x k qs l form (sound .inside) buf used h d in
+      within-after buf used qs (normal (mapped m x)) out h
+      (row (apart (operands (mapped m x))) 16 (length qs) (addNode buf used qs (normal (mapped m x))) (sym is ∙ a) .1)
+
+read-all : (xs : List Node) (m : List ℕ) (buf : List ℕ) (used k : ℕ) (qs : List Node) (b : Built) → Bytes buf → used ≤ length buf
     → decodeUsed (take used buf) ≡ answer qs → Sound k qs m → k + length xs ≤ 2016 → Records k xs
     → rebuildFrom m buf used xs ≡ answer b → Read m qs xs b
 unfolding rebuildFrom nodesFrom
-read-all [] m buf used k qs b all d sound few g e =
+read-all [] m buf used k qs b all h d sound few g e =
     let p : record { literals = m; used = used; bytes = buf } ≡ b = cc in
-    rw (← p) (record { out = record { nodes = qs; literals = m }; run = refl; table = d; literals = refl; bytes = all })
-read-all (x ∷ xs) m buf used k qs b all d sound few g e =
+    rw (← p) (record { out = record { nodes = qs; literals = m }; run = refl; table = d; literals = refl; bytes = all; within = h })
+read-all (x ∷ xs) m buf used k qs b all h d sound few g e =
     let (out, a, rest) = bound (add buf used (nodeBytes (mapped m x))) (λ out. rebuildFrom (m ++ out .literal ∷ []) (out .bytes) (out .used) xs) e in
     let (l, form) = first-record g in
     let t = after m buf used k qs x out all d sound (omega arith) l form a in
     let more = read-all xs (following m qs x .literals) (out .bytes) (out .used) (suc k) (following m qs x .nodes) b
-    (bytes-after m buf used k qs x out all d sound (omega arith) l form a) (t .1) (sound-more k qs m x sound l) (omega arith) (rest-records g)
-    (rw (t .2) at rest) in
-    record { out = more .out; run = rw (t .0) (more .run); table = more .table; literals = more .literals; bytes = more .bytes }
+    (bytes-after m buf used k qs x out all d sound (omega arith) l form a) (within m buf used k qs x out all d sound (omega arith) l form a h) (t .1)
+    (sound-more k qs m x sound l) (omega arith) (rest-records g) (rw (t .2) at rest) in
+    record { out = more .out; run = rw (t .0) (more .run); table = more .table; literals = more .literals; bytes = more .bytes; within = more .within }
 
 -- ---- which refusals there are
 
 -- what is not found is refused where the buffer is too short, or the nodes are full
 only-short : {A : Type 0} (found few fits : Bool) (n : ℕ) (a b : A) {number place : ℕ} → few ≡ true
-    → cond found (answer a) (require few 51 n >> (require fits 52 n >> answer b)) ≡ refused number place → number ≡ 52
+    → cond found (answer a) (require few 51 n >> (require fits 52 n >> answer b)) ≡ refused number place → (number ≡ 52) × (place ≡ n)
 only-short true few fits n a b h e = refused-no (sym e)
-only-short false true false n a b h e = cc
+only-short false true false n a b h e = (cc, cc)
 only-short false true true n a b h e = refused-no (sym e)
 only-short false false fits n a b h e = absurd (false≢true h)
 
--- a row, and what comes after it: the row's number, or that of what comes after
+-- a row, and what comes after it: the row's refusal, or that of what comes after
 by-row : {A : Type 0} {P : Type 0} (t : Bool) (number place : ℕ) (next : Outcome A) {number′ place′ : ℕ}
-    → (require t number place >> next) ≡ refused number′ place′ → (number ≡ number′ → P) → (next ≡ refused number′ place′ → P) → P
+    → (require t number place >> next) ≡ refused number′ place′ → (t ≡ false → number′ ≡ number → place′ ≡ place → P) → (next ≡ refused number′ place′ → P) → P
 by-row true number place next e f g = g e
-by-row false number place next e f g = f (cc)
+by-row false number place next e f g = f refl (cc) (cc)
 
 by-bind : {A B : Type 0} {P : Type 0} (x : Outcome A) (next : A → Outcome B) {number place : ℕ}
     → (x >>= next) ≡ refused number place → (x ≡ refused number place → P) → ((a : A) → x ≡ answer a → next a ≡ refused number place → P) → P
 by-bind (answer a) next e f g = g a refl e
 by-bind (refused number place) next e f g = f (cc)
 
--- the used part stays within the buffer
-within-after : (buf : List ℕ) (used : ℕ) (qs : List Node) (y : Node) (out : Added) → used ≤ length buf
-    → addNode buf used qs y ≡ answer out → out .used ≤ length (out .bytes)
-within-after buf used qs y out h e =
-    by-add buf used qs y out e
-    (λ here q. rw (← q) h)
-    (λ new few fits q. rw (← q) (omega (arith, written-length (encode (qs ++ y ∷ [])) buf fits)))
+-- of one record: 16, where two operands have become one node, or 52; both at the nodes so far
+module _ (m : List ℕ) (buf : List ℕ) (used k : ℕ) (qs : List Node) (x : Node) (h : used ≤ length buf)
+    (d : decodeUsed (take used buf) ≡ answer qs) (sound : Sound k qs m) (few : k < 2016) (l : Low x k) (form : formOk x 0 ≡ true) where
+  only-two : {number place : ℕ} → add buf used (nodeBytes (mapped m x)) ≡ refused number place
+      → (((number ≡ 16) × (apart (operands (mapped m x)) ≡ false)) ⊎ (number ≡ 52)) × (place ≡ length qs)
+  unfolding addNode addNew
+  only-two q =
+      let y : Node = normal (mapped m x) in
+      by-row (apart (operands (mapped m x))) 16 (length qs) (addNode buf used qs y) (sym (add-mapped m x k qs l form (sound .inside) buf used h d) ∙ q)
+      (λ one n p. (inl (n, one), p))
+      (λ next.
+      let r = only-short (ltb (indexOf y qs) (length qs)) (ltb (length qs) 2016) (leb (length (encode (qs ++ y ∷ []))) (length buf)) (length qs)
+      (found buf used qs y) (more buf qs y) (lt-ltb (length qs) 2016 (omega (arith, sound .fewer))) next in
+      (inr (r .0), r .1))
 
-only-two : (xs : List Node) (m : List ℕ) (buf : List ℕ) (used k : ℕ) (qs : List Node) {number place : ℕ} → Bytes buf → used ≤ length buf
-    → decodeUsed (take used buf) ≡ answer qs → Sound k qs m → k + length xs ≤ 2016 → Records k xs
-    → rebuildFrom m buf used xs ≡ refused number place → (number ≡ 16) ⊎ (number ≡ 52)
-unfolding rebuildFrom addNode addNew
-only-two [] m buf used k qs all h d sound few g e = refused-no (sym e)
-only-two (x ∷ xs) m buf used k qs all h d sound few g e =
-    let (l, form) = first-record g in
-    let y : Node = normal (mapped m x) in
-    let is = add-mapped m x k qs l form (sound .inside) buf used h d in
+-- the record that add refuses, and what stood before it
+record Stop (m buf : List ℕ) (used : ℕ) (xs : List Node) (number place : ℕ) : Type 0 where
+  done : ℕ
+  few : done < length xs
+  built : Built
+  before : rebuildFrom m buf used (take done xs) ≡ answer built
+  refuses : add (built .bytes) (built .used) (nodeBytes (mapped (built .literals) (getD xs done noNode))) ≡ refused number place
+
+stops : (xs : List Node) (m : List ℕ) (buf : List ℕ) (used : ℕ) {number place : ℕ} → rebuildFrom m buf used xs ≡ refused number place
+    → Stop m buf used xs number place
+unfolding rebuildFrom
+stops [] m buf used e = refused-no (sym e)
+stops (x ∷ xs) m buf used e =
     by-bind (add buf used (nodeBytes (mapped m x))) (λ out. rebuildFrom (m ++ out .literal ∷ []) (out .bytes) (out .used) xs) e
-    (λ q.
-    by-row (apart (operands (mapped m x))) 16 (length qs) (addNode buf used qs y) (sym is ∙ q)
-    (λ n. inl (sym n))
-    (λ n. inr (only-short (ltb (indexOf y qs) (length qs)) (ltb (length qs) 2016) (leb (length (encode (qs ++ y ∷ []))) (length buf)) (length qs)
-    (found buf used qs y) (more buf qs y) (lt-ltb (length qs) 2016 (omega (arith, sound .fewer))) n)))
+    (λ q. record { done = 0; few = omega arith; built = record { literals = m; used = used; bytes = buf }; before = refl; refuses = q })
     (λ out a rest.
-    let t = after m buf used k qs x out all d sound (omega arith) l form a in
-    only-two xs (following m qs x .literals) (out .bytes) (out .used) (suc k) (following m qs x .nodes)
-    (bytes-after m buf used k qs x out all d sound (omega arith) l form a)
-    (within-after buf used qs y out h (row (apart (operands (mapped m x))) 16 (length qs) (addNode buf used qs y) (sym is ∙ a) .1))
-    (t .1) (sound-more k qs m x sound l) (omega arith) (rest-records g) (rw (t .2) at rest))
+    let s = stops xs (m ++ out .literal ∷ []) (out .bytes) (out .used) rest in
+    record { done = suc (s .done); few = omega (arith, s .few); built = s .built; before = rw a (s .before); refuses = s .refuses })
 
 -- ---- into a buffer as long as the table
 
@@ -284,52 +303,72 @@ module _ (t buf : List ℕ) (rs : List Node) (all : Bytes t) (e : decode t ≡ a
   unfolding rebuild
   run-is = rw e
 
-  -- ---- what the rebuilt literals mean
+  -- ---- what the rebuilt literals of the first k records mean
 
-  module _ (some : Bytes buf) (b : Built) (run : rebuild t buf ≡ answer b) where
-    ended : Read [] [] rs b
-    ended = read-all rs [] buf 0 0 [] b some (nothing-used buf) sound-none (rw zero-add (valid .few)) records (sym run-is ∙ run)
+  module _ (some : Bytes buf) (k : ℕ) (most : k ≤ length rs) (b : Built) (run : rebuildFrom [] buf 0 (take k rs) ≡ answer b) where
+    abbrev firsts : List Node
+    firsts = take k rs
 
-    kept : {A : Type 0} (L : Logic A) (even : Even L) (s : List ℕ) → Kept L even s (truthsFrom L s [] rs) (ended .out .nodes) (b .literals)
+    size : length firsts ≡ k
+    size = length-take-le k rs most
+
+    first-records : Records 0 firsts
+    first-records = record {
+      low = λ i h. rw (getD-take k rs i noNode (omega (arith, size))) (records .low i (omega (arith, size)));
+      form = λ i h. rw (getD-take k rs i noNode (omega (arith, size))) (records .form i (omega (arith, size)));
+    }
+
+    ended : Read [] [] firsts b
+    ended =
+        read-all firsts [] buf 0 0 [] b some (omega arith) (nothing-used buf) sound-none (omega (arith, size, valid .few)) first-records run
+
+    kept : {A : Type 0} (L : Logic A) (even : Even L) (s : List ℕ) → Kept L even s (truthsFrom L s [] firsts) (ended .out .nodes) (b .literals)
     kept L even s =
-        subst (λ (m : List ℕ). Kept L even s (truthsFrom L s [] rs) (ended .out .nodes) m) (sym (ended .literals))
-        (kept-all L even s rs [] [] [] (ended .out)
-        (record { sound = sound-none; means = λ j h. absurd (omega arith) }) (records .low) (ended .run))
+        subst (λ (m : List ℕ). Kept L even s (truthsFrom L s [] firsts) (ended .out .nodes) m) (sym (ended .literals))
+        (kept-all L even s firsts [] [] [] (ended .out)
+        (record { sound = sound-none; means = λ j h. absurd (omega arith) }) (first-records .low) (ended .run))
 
-    truths : {A : Type 0} (L : Logic A) (s : List ℕ) → length (truthsFrom L s [] rs) ≡ length rs
-    truths L s = length-truths L s rs [] ∙ zero-add (length rs)
+    truths : {A : Type 0} (L : Logic A) (s : List ℕ) → length (truthsFrom L s [] firsts) ≡ k
+    truths L s = length-truths L s firsts [] ∙ zero-add (length firsts) ∙ size
 
-    sound : Sound (length rs) (ended .out .nodes) (b .literals)
+    sound : Sound k (ended .out .nodes) (b .literals)
     sound = rw (truths classical []) at (kept classical classical-even [] .sound)
 
-    inside : (l : ℕ) → l < 2 * length rs → rebuilt (b .literals) l < 2 * length (ended .out .nodes)
+    inside : (l : ℕ) → l < 2 * k → rebuilt (b .literals) l < 2 * length (ended .out .nodes)
     inside l h = omega (arith, rebuilt-node (b .literals) l, sound .inside (l / 2) (omega arith))
 
-    means : {A : Type 0} (L : Logic A) → Even L → (s : List ℕ) (l : ℕ) → l < 2 * length rs
+    means : {A : Type 0} (L : Logic A) → Even L → (s : List ℕ) (l : ℕ) → l < 2 * k
         → truthIn L s (ended .out .nodes) (rebuilt (b .literals) l) ≡ truthIn L s rs l
     unfolding truthIn
     means L even s l h =
-        rebuilt-means L even s (truthsFrom L s [] rs) (truthsFrom L s [] (ended .out .nodes)) (b .literals) l
+        rebuilt-means L even s (truthsFrom L s [] firsts) (truthsFrom L s [] (ended .out .nodes)) (b .literals) l
         (kept L even s .means (l / 2) (omega (arith, truths L s)))
+        ∙ sym (lit-prefix L s rs k l most (omega arith))
 
-    -- the rebuilt table is not empty
-    table-reads : decode (take (b .used) (b .bytes)) ≡ answer (ended .out .nodes)
+    -- where there was a record, the rebuilt table is not empty
+    table-reads : 0 < k → decode (take (b .used) (b .bytes)) ≡ answer (ended .out .nodes)
     unfolding decodeUsed
-    table-reads =
+    table-reads one =
         by-test (eqb (length (take (b .used) (b .bytes))) 0)
         (λ q.
         let none : _≡_ {A = Outcome (List Node)} (answer []) (answer (ended .out .nodes)) = rw q at (ended .table) in
         let nil : [] ≡ ended .out .nodes = cc in
-        absurd (omega (arith, ap length nil, sound .inside 0 (valid .some))))
+        absurd (omega (arith, ap length nil, sound .inside 0 one)))
         (λ q. rw q at (ended .table))
 
-    evaluates : (s : List ℕ) (l : ℕ) → l < 2 * length rs → evaluate (take (b .used) (b .bytes)) (rebuilt (b .literals) l) s ≡ evaluate t l s
+    evaluates : (s : List ℕ) (l : ℕ) → l < 2 * k → evaluate (take (b .used) (b .bytes)) (rebuilt (b .literals) l) s ≡ evaluate t l s
     unfolding evaluate
     evaluates s l h =
-        rw (table-reads, e, lt-ltb (rebuilt (b .literals) l) (2 * length (ended .out .nodes)) (inside l h), lt-ltb l (2 * length rs) h, means kleene kleene-even s l h)
+        rw (
+          table-reads (omega arith),
+          e,
+          lt-ltb (rebuilt (b .literals) l) (2 * length (ended .out .nodes)) (inside l h),
+          lt-ltb l (2 * length rs) (omega arith),
+          means kleene kleene-even s l h,
+        )
 
-    pub rebuild-means : Rebuilds t rs b
-    rebuild-means = record {
+    rebuilds : Rebuilds t rs k b
+    rebuilds = record {
       nodes = ended .out .nodes;
       table = ended .table;
       retired = sound .retired;
@@ -338,10 +377,29 @@ module _ (t buf : List ℕ) (rs : List Node) (all : Bytes t) (e : decode t ≡ a
       evaluates = evaluates;
     }
 
-  -- 16 is the only one of the rows 14 to 16; and 51 is none of them, since no table grows
-  pub rebuild-refused : Bytes buf → {number place : ℕ} → rebuild t buf ≡ refused number place → (number ≡ 16) ⊎ (number ≡ 52)
+  -- where it comes to its end, those of all
+  pub rebuild-means : Bytes buf → (b : Built) → rebuild t buf ≡ answer b → Rebuilds t rs (length rs) b
+  rebuild-means some b run = rebuilds some (length rs) (omega arith) b (rw (take-length rs) (sym run-is ∙ run))
+
+  -- .. else those before the record that add refuses
+  pub rebuild-refused : Bytes buf → {number place : ℕ} → rebuild t buf ≡ refused number place → Ends t rs buf number place
+  unfolding rebuilds
   rebuild-refused some q =
-      only-two rs [] buf 0 0 [] some (omega arith) (nothing-used buf) sound-none (rw zero-add (valid .few)) records (sym run-is ∙ q)
+      let s = stops rs [] buf 0 (sym run-is ∙ q) in
+      let most : s .done ≤ length rs = omega (arith, s .few) in
+      let r = ended some (s .done) most (s .built) (s .before) in
+      let only = only-two (s .built .literals) (s .built .bytes) (s .built .used) (s .done) (r .out .nodes) (getD rs (s .done) noNode) (r .within) (r .table)
+      (sound some (s .done) most (s .built) (s .before)) (omega (arith, s .few, valid .few)) (rw zero-add at (records .low (s .done) (s .few))) (records .form (s .done) (s .few)) (s .refuses) in
+      record {
+        done = s .done;
+        few = s .few;
+        built = s .built;
+        before = s .before;
+        refuses = s .refuses;
+        rebuilds = rebuilds some (s .done) most (s .built) (s .before);
+        which = only .0;
+        at = only .1;
+      }
 
   module _ (fits : length t ≤ length buf) where
     -- all of it: the nodes written to the buffer's start, or 16
