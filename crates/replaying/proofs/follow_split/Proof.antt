@@ -52,9 +52,14 @@ same-length-5 c = search needs
 
 returns-3 : tie.Need-returns-3
 returns-3 c =
-    let p = c .before .before .before .before .before .before .before .before .before .before .before .before .before .before .before .pre in
-    let a = c .before .before .before .before .assume .ensures in
-    went-right (p .1 .1 .0) (a .0) (a .1) (p .1 .1 .1) (c .before .before .before .before .before .before .before .before .before .if1 .left) (sym (c .before .before .before .before .before .before .before .before .negated .ensures) ∙ c .before .before .before .before .before .before .before .if2 .left)
+    let at-assume = c .before .before .before .before in
+    let at-if2 = at-assume .before .before .before in
+    let at-negated = at-if2 .before in
+    let at-if1 = at-negated .before in
+    let start = at-if1 .before .before .before .before .before .before in
+    let p = start .pre in
+    let a = at-assume .assume .ensures in
+    went-right (p .1 .1 .0) (a .0) (a .1) (p .1 .1 .1) (at-if1 .if1 .left) (sym (at-negated .negated .ensures) ∙ at-if2 .if2 .left)
 
 pub follow-split-spec : {M : Type 1} → statement M
 follow-split-spec =

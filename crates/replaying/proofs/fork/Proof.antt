@@ -30,9 +30,13 @@ same-length-3 c = search needs
 
 returns : tie.Need-returns
 returns c =
-    let p = c .before .before .before .before .before .before .before .before .before .before .before .before .before .before .before .before .before .before .pre in
-    let a = c .before .before .before .before .assume .ensures in
-    (stands-forked (p .1 .1 .0) (a .0) (a .1) (p .1 .1 .1) (c .before .before .before .before .before .before .before .before .before .before .before .count .ensures) (c .before .before .before .before .before .before .before .before .before .push .kept .0) (c .before .before .before .before .before .before .before .before .before .push .ensures), a .1)
+    let at-assume = c .before .before .before .before in
+    let at-push = at-assume .before .before .before .before .before in
+    let at-count = at-push .before .before in
+    let start = at-count .before .before .before .before .before .before .before in
+    let p = start .pre in
+    let a = at-assume .assume .ensures in
+    (stands-forked (p .1 .1 .0) (a .0) (a .1) (p .1 .1 .1) (at-count .count .ensures) (at-push .push .kept .0) (at-push .push .ensures), a .1)
 
 pub fork-spec : {M : Type 1} → statement M
 fork-spec =

@@ -46,7 +46,11 @@ same-length-3 : tie.Need-same-length-3 Inv-loop μ-loop
 same-length-3 c = c .before .before .before .before .before .before .before .follow .kept .1 .1 .1 .1 .1 .0 ∙ c .before .before .before .before .before .before .before .before .before .before .before .before .before .loop .inv .1 .opens
 
 returns : tie.Need-returns Inv-loop μ-loop
-returns c = replay-stops (c .before .before .before .before .before .before .before .before .before .before .before .before .before .loop .inv .1) (c .before .before .before .before .before .before .before .follow .ensures) (c .before .before .before .before .before .before .before .before .before .before .before .before .loop-test .taken) (not-true _ (c .if1 .taken))
+returns c =
+    let at-follow = c .before .before .before .before .before .before .before in
+    let at-loop-test = at-follow .before .before .before .before .before in
+    let at-loop = at-loop-test .before in
+    replay-stops (at-loop .loop .inv .1) (at-follow .follow .ensures) (at-loop-test .loop-test .taken) (not-true _ (c .if1 .taken))
 
 add-q : tie.Need-add-q Inv-loop μ-loop
 add-q c = omega (arith, c .before .before .before .before .before .before .before .before .before .before .before .before .loop-test .taken)
@@ -55,7 +59,11 @@ loop-less : tie.Need-loop-less Inv-loop μ-loop
 loop-less c = omega (arith, c .before .before .before .before .before .before .before .before .before .before .before .before .loop-test .taken)
 
 loop-again : tie.Need-loop-again Inv-loop μ-loop
-loop-again c = (omega (arith, c .before .before .before .before .before .before .before .before .before .before .before .before .loop-test .taken), going-more (c .before .before .before .before .before .before .before .before .before .before .before .before .before .loop .inv .1) (c .before .before .before .before .before .before .before .follow .ensures) (not-false _ (c .if1 .left)) (c .before .before .before .before .before .before .before .follow .kept .1 .1 .1 .0) (c .before .before .before .before .before .before .before .follow .kept .1 .1 .1 .1 .0) (c .before .before .before .before .before .before .before .follow .kept .1 .1 .1 .1 .1 .0))
+loop-again c =
+    let at-follow = c .before .before .before .before .before .before .before in
+    let at-loop-test = at-follow .before .before .before .before .before in
+    let at-loop = at-loop-test .before in
+    (omega (arith, at-loop-test .loop-test .taken), going-more (at-loop .loop .inv .1) (at-follow .follow .ensures) (not-false _ (c .if1 .left)) (at-follow .follow .kept .1 .1 .1 .0) (at-follow .follow .kept .1 .1 .1 .1 .0) (at-follow .follow .kept .1 .1 .1 .1 .1 .0))
 
 same-length-4 : tie.Need-same-length-4 Inv-loop μ-loop
 same-length-4 c = c .before .loop .inv .1 .work

@@ -33,25 +33,37 @@ same-length-3 c = search needs
 
 returns : tie.Need-returns
 returns c =
-    let p = c .before .before .before .before .before .before .before .before .before .before .before .before .before .before .before .before .before .before .before .before .before .before .pre in
-    let b = c .before .before .before .before .before .before .before .begin .ensures in
-    (b .0, b .1 ∙ sym (taken-long (p .0 .table) (p .1 .0) (p .0 .few) (c .before .before .before .before .before .before .before .before .before .before .before .before .copy .ensures) (omega (arith, c .if1 .taken, c .before .before .before .before .before .before .before .before .before .before .before .before .before .before .before .count .ensures))))
+    let at-begin = c .before .before .before .before .before .before .before in
+    let at-copy = at-begin .before .before .before .before .before in
+    let at-count = at-copy .before .before .before in
+    let start = at-count .before .before .before .before .before .before .before in
+    let p = start .pre in
+    let b = at-begin .begin .ensures in
+    (b .0, b .1 ∙ sym (taken-long (p .0 .table) (p .1 .0) (p .0 .few) (at-copy .copy .ensures) (omega (arith, c .if1 .taken, at-count .count .ensures))))
 
 slice-aggregate-replay : tie.Need-slice-aggregate-replay
 slice-aggregate-replay c = search needs
 
 replay-requires : tie.Need-replay-requires
 replay-requires c κs =
-    let p = c .before .before .before .before .before .before .before .before .before .before .before .before .before .before .before .before .before .before .before .before .before .before .before .before .before .before .pre in
-    let b = c .before .before .before .before .before .before .before .before .before .before .before .begin .ensures in
-    let k = c .before .before .before .before .before .before .before .before .before .before .before .before .before .before .before .before .copy .ensures in
-    (p .0, (p .1 .0, (b .0, (b .1, (k .size, few-copied (p .0 .table) (p .1 .0) (p .0 .few) k (omega (arith, c .before .before .before .before .if1 .left, c .before .before .before .before .before .before .before .before .before .before .before .before .before .before .before .before .before .before .before .count .ensures)))))))
+    let at-if1 = c .before .before .before .before in
+    let at-begin = at-if1 .before .before .before .before .before .before .before in
+    let at-copy = at-begin .before .before .before .before .before in
+    let at-count = at-copy .before .before .before in
+    let start = at-count .before .before .before .before .before .before .before in
+    let p = start .pre in
+    let b = at-begin .begin .ensures in
+    let k = at-copy .copy .ensures in
+    (p .0, (p .1 .0, (b .0, (b .1, (k .size, few-copied (p .0 .table) (p .1 .0) (p .0 .few) k (omega (arith, at-if1 .if1 .left, at-count .count .ensures)))))))
 
 begin-requires-2 : tie.Need-begin-requires-2
 begin-requires-2 c κs =
-    let p = c .before .before .before .before .before .before .before .before .before .before .before .before .before .before .before .before .before .before .before .before .before .before .before .before .before .before .before .before .before .before .before .before .before .before .before .before .before .pre in
-    let a = c .before .before .before .before .before .before .before .before .before .before .replay in
-    let b = c .before .before .before .before .before .before .before .before .before .before .before .before .before .before .before .before .before .before .before .before .before .before .begin in
+    let at-replay = c .before .before .before .before .before .before .before .before .before .before in
+    let at-begin = at-replay .before .before .before .before .before .before .before .before .before .before .before .before in
+    let start = at-begin .before .before .before .before .before .before .before .before .before .before .before .before .before .before .before in
+    let p = start .pre in
+    let a = at-replay .replay in
+    let b = at-begin .begin in
     (p .0, (p .1 .0, (omega (arith, p .1 .1 .0, a .kept .1 .1 .1 .0, b .kept .1 .1 .1 .0), a .kept .1 .1 .1 .1 .0 ∙ b .kept .1 .1 .1 .1 .0 ∙ p .1 .1 .1, a .kept .1 .1 .1 .1 .1 .0 ∙ b .kept .1 .1 .1 .1 .1 .0 ∙ p .1 .1 .2)))
 
 same-length-4 : tie.Need-same-length-4
@@ -65,9 +77,16 @@ same-length-6 c = search needs
 
 returns-2 : tie.Need-returns-2
 returns-2 c =
-    let p = c .before .before .before .before .before .before .before .before .before .before .before .before .before .before .before .before .before .before .before .before .before .before .before .before .before .before .before .before .before .before .before .before .before .before .before .before .before .before .before .before .before .before .before .before .pre in
-    let b = c .before .before .before .before .before .before .begin2 .ensures in
-    (b .0, b .1 ∙ sym (taken-back (p .0 .table) (p .1 .0) (p .0 .few) (c .before .before .before .before .before .before .before .before .before .before .before .before .before .before .before .before .before .before .before .before .before .before .before .before .before .before .before .before .before .before .before .before .before .before .copy .ensures) (omega (arith, c .before .before .before .before .before .before .before .before .before .before .before .before .before .before .before .before .before .before .before .before .before .before .if1 .left, c .before .before .before .before .before .before .before .before .before .before .before .before .before .before .before .before .before .before .before .before .before .before .before .before .before .before .before .before .before .before .before .before .before .before .before .before .before .count .ensures)) (c .before .before .before .before .before .before .before .before .before .before .before .before .before .before .before .before .before .replay .ensures) (not-true _ (c .before .before .before .before .before .before .before .before .before .before .if2 .taken))))
+    let at-begin2 = c .before .before .before .before .before .before in
+    let at-if2 = at-begin2 .before .before .before .before in
+    let at-replay = at-if2 .before .before .before .before .before .before .before in
+    let at-if1 = at-replay .before .before .before .before .before in
+    let at-copy = at-if1 .before .before .before .before .before .before .before .before .before .before .before .before in
+    let at-count = at-copy .before .before .before in
+    let start = at-count .before .before .before .before .before .before .before in
+    let p = start .pre in
+    let b = at-begin2 .begin2 .ensures in
+    (b .0, b .1 ∙ sym (taken-back (p .0 .table) (p .1 .0) (p .0 .few) (at-copy .copy .ensures) (omega (arith, at-if1 .if1 .left, at-count .count .ensures)) (at-replay .replay .ensures) (not-true _ (at-if2 .if2 .taken))))
 
 same-length-7 : tie.Need-same-length-7
 same-length-7 c = search needs
@@ -80,10 +99,15 @@ same-length-9 c = search needs
 
 returns-3 : tie.Need-returns-3
 returns-3 c =
-    let p = c .before .before .before .before .before .before .before .before .before .before .before .before .before .before .before .before .before .before .before .before .before .before .before .before .before .before .before .before .before .before .before .before .before .before .pre in
-    let a = c .before .before .before .before .before .before .before .replay .ensures in
+    let at-replay = c .before .before .before .before .before .before .before in
+    let at-if1 = at-replay .before .before .before .before .before in
+    let at-copy = at-if1 .before .before .before .before .before .before .before .before .before .before .before .before in
+    let at-count = at-copy .before .before .before in
+    let start = at-count .before .before .before .before .before .before .before in
+    let p = start .pre in
+    let a = at-replay .replay .ensures in
     let e = not-false _ (c .if2 .left) in
-    (a .stands e, taken-up (p .0 .table) (p .1 .0) (p .0 .few) (c .before .before .before .before .before .before .before .before .before .before .before .before .before .before .before .before .before .before .before .before .before .before .before .before .copy .ensures) (omega (arith, c .before .before .before .before .before .before .before .before .before .before .before .before .if1 .left, c .before .before .before .before .before .before .before .before .before .before .before .before .before .before .before .before .before .before .before .before .before .before .before .before .before .before .before .count .ensures)) a e)
+    (a .stands e, taken-up (p .0 .table) (p .1 .0) (p .0 .few) (at-copy .copy .ensures) (omega (arith, at-if1 .if1 .left, at-count .count .ensures)) a e)
 
 pub resume-spec : {M : Type 1} → statement M
 resume-spec =

@@ -56,11 +56,15 @@ same-length-3 c = search needs
 
 returns : tie.Need-returns
 returns c =
-    let p = c .before .before .before .before .before .before .before .before .before .before .before .before .before .before .before .before .before .before .before .before .before .before .pre in
-    let v = c .before .before .before .before .before .before .before .before .before .before .before .before .before .before .next-move .ensures in
+    let at-turn-right = c .before .before .before .before .before .before in
+    let at-enum-told = at-turn-right .before .before .before .before in
+    let at-next-move = at-enum-told .before .before .before .before in
+    let start = at-next-move .before .before .before .before .before .before .before .before in
+    let p = start .pre in
+    let v = at-next-move .next-move .ensures in
     let g = v .1 .1 .0 in
     let s = looked (p .1 .1) (v .1 .0) g in
-    (made-back s g (ap (move _ _) g ∙ sym (v .0) ∙ c .before .before .before .before .before .before .before .before .before .before .enum-told .given .1) (c .before .before .before .before .before .before .turn-right .ensures .0), c .before .before .before .before .before .before .turn-right .ensures .1)
+    (made-back s g (ap (move _ _) g ∙ sym (v .0) ∙ at-enum-told .enum-told .given .1) (at-turn-right .turn-right .ensures .0), at-turn-right .turn-right .ensures .1)
 
 same-length-4 : tie.Need-same-length-4
 same-length-4 c = search needs

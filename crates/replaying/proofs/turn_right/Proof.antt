@@ -86,13 +86,17 @@ negated-requires c κs =
 
 assume-requires : tie.Need-assume-requires
 assume-requires c κs =
-    let p = c .before .before .before .before .before .before .before .before .before .before .before .before .before .before .before .before .before .before .before .before .pre in
+    let at-undo-to = c .before .before .before .before .before .before .before in
+    let at-literal = at-undo-to .before .before .before in
+    let at-if1 = at-literal .before .before .before in
+    let start = at-if1 .before .before .before .before .before .before .before in
+    let p = start .pre in
     let s = p .1 .1 in
     let T = p .0 .table in
     let B = p .1 .0 .below in
     let few = p .0 .few in
-    let u = c .before .before .before .before .before .before .before .undo-to .ensures in
-    (p .0, (p .1 .0, (u .0, right-fresh s T B few (c .before .before .before .before .before .before .before .before .before .before .before .before .before .if1 .left) (u .0) (u .1) (c .before .before .before .before .before .before .before .before .before .before .literal .ensures) (c .negated .ensures))))
+    let u = at-undo-to .undo-to .ensures in
+    (p .0, (p .1 .0, (u .0, right-fresh s T B few (at-if1 .if1 .left) (u .0) (u .1) (at-literal .literal .ensures) (c .negated .ensures))))
 
 same-length : tie.Need-same-length
 same-length c = search needs
@@ -105,14 +109,20 @@ same-length-3 c = search needs
 
 returns-2 : tie.Need-returns-2
 returns-2 c =
-    let p = c .before .before .before .before .before .before .before .before .before .before .before .before .before .before .before .before .before .before .before .before .before .before .before .before .before .pre in
+    let at-assume = c .before .before .before .before in
+    let at-negated = at-assume .before in
+    let at-undo-to = at-negated .before .before .before .before .before .before .before in
+    let at-literal = at-undo-to .before .before .before in
+    let at-if1 = at-literal .before .before .before in
+    let start = at-if1 .before .before .before .before .before .before .before in
+    let p = start .pre in
     let s = p .1 .1 in
     let T = p .0 .table in
     let B = p .1 .0 .below in
     let few = p .0 .few in
-    let u = c .before .before .before .before .before .before .before .before .before .before .before .before .undo-to .ensures in
-    let a = c .before .before .before .before .assume .ensures in
-    (made-right s T B few (c .before .before .before .before .before .before .before .before .before .before .before .before .before .before .before .before .before .before .if1 .left) (u .0) (u .1) (c .before .before .before .before .before .before .before .before .before .before .before .before .before .before .before .literal .ensures) (c .before .before .before .before .before .negated .ensures) (a .0) (a .1), a .0 .ready)
+    let u = at-undo-to .undo-to .ensures in
+    let a = at-assume .assume .ensures in
+    (made-right s T B few (at-if1 .if1 .left) (u .0) (u .1) (at-literal .literal .ensures) (at-negated .negated .ensures) (a .0) (a .1), a .0 .ready)
 
 pub turn-right-spec : {M : Type 1} → statement M
 turn-right-spec =

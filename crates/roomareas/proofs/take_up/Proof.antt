@@ -30,8 +30,12 @@ same-length-3 c = search needs
 
 returns-3 : tie.Need-returns-3
 returns-3 c =
-    let a = c .before .before .before .before .before .before .resume .ensures in
-    taken-running (c .before .before .before .before .before .before .before .before .before .before .before .before .before .before .before .before .before .before .args .work .now) (c .before .before .before .before .before .before .before .before .before .before .before .if1 .left) (c .before .before .before .before .before .before .before .before .before .before .if2 .left) (a .0) (a .1)
+    let at-resume = c .before .before .before .before .before .before in
+    let at-if2 = at-resume .before .before .before .before in
+    let at-if1 = at-if2 .before in
+    let start = at-if1 .before .before .before .before .before .before .before in
+    let a = at-resume .resume .ensures in
+    taken-running (start .args .work .now) (at-if1 .if1 .left) (at-if2 .if2 .left) (a .0) (a .1)
 
 pub take-up-spec : {M : Type 1} → statement M
 take-up-spec =

@@ -33,7 +33,11 @@ take-up-at-requires c κs =
     (p .0, ((goal-below (p .1 .0) h, omega (arith, r .few, h), omega (arith, k .work, r .work, h)), (k .masks ∙ r .masks, k .stacks ∙ r .stacks)))
 
 slice-write-verdicts : tie.Need-slice-write-verdicts Inv-loop μ-loop
-slice-write-verdicts c = omega (arith, c .before .before .before .before .before .before .before .before .before .before .before .before .loop .inv .1 .verdicts, c .before .before .before .before .before .before .before .before .before .before .before .before .before .before .before .before .before .before .before .pre .1 .1 .verdicts, c .before .before .before .before .before .before .before .before .before .before .before .before .before .before .before .before .before .before .before .pre .1 .1 .few, c .before .before .before .before .before .before .before .before .before .before .before .loop-test .taken)
+slice-write-verdicts c =
+    let at-loop-test = c .before .before .before .before .before .before .before .before .before .before .before in
+    let at-loop = at-loop-test .before in
+    let start = at-loop .before .before .before .before .before .before .before in
+    omega (arith, at-loop .loop .inv .1 .verdicts, start .pre .1 .1 .verdicts, start .pre .1 .1 .few, at-loop-test .loop-test .taken)
 
 add-i : tie.Need-add-i Inv-loop μ-loop
 add-i c = omega (arith, c .before .before .before .before .before .before .before .before .before .before .before .loop-test .taken)

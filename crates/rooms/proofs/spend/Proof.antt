@@ -40,15 +40,22 @@ spend-requires c κs =
 
 cast-put-down : tie.Need-cast-put-down
 cast-put-down c =
-    let p = c .before .before .before .before .before .before .before .before .before .before .before .before .before .before .before .before .before .before .before .before .before .before .before .before .before .before .before .before .before .before .before .before .before .before .before .before .before .before .pre in
-    omega (arith, up-low (c .before .before .before .before .before .before .before .before .before .before .before .before .before .before .before .before .before .before .before .before .before .before .before .before .before .before .before .before .before .before .next .ensures) (c .before .before .before .before .before .before .before .before .before .before .before .before .before .before .before .before .before .before .before .before .before .before .before .before .before .take-up-all .ensures) (c .before .before .before .before .before .before .before .before .before .before .before .before .spend .ensures) (search needs) (p .1 .1 .1 .0 .few))
+    let at-spend = c .before .before .before .before .before .before .before .before .before .before .before .before in
+    let at-take-up-all = at-spend .before .before .before .before .before .before .before .before .before .before .before .before .before in
+    let at-next = at-take-up-all .before .before .before .before .before in
+    let start = at-next .before .before .before .before .before .before .before .before in
+    let p = start .pre in
+    omega (arith, up-low (at-next .next .ensures) (at-take-up-all .take-up-all .ensures) (at-spend .spend .ensures) (search needs) (p .1 .1 .1 .0 .few))
 
 put-down-requires : tie.Need-put-down-requires
 put-down-requires c κs =
-    let p = c .before .before .before .before .before .before .before .before .before .before .before .before .before .before .before .before .before .before .before .before .before .before .before .before .before .before .before .before .before .before .before .before .before .before .before .before .before .before .pre in
+    let at-spend = c .before .before .before .before .before .before .before .before .before .before .before .before in
+    let at-take-up-all = at-spend .before .before .before .before .before .before .before .before .before .before .before .before .before in
+    let start = at-take-up-all .before .before .before .before .before .before .before .before .before .before .before .before .before in
+    let p = start .pre in
     let f = p .1 .1 .1 .0 in
-    let u = c .before .before .before .before .before .before .before .before .before .before .before .before .before .before .before .before .before .before .before .before .before .before .before .before .before .take-up-all in
-    let v = c .before .before .before .before .before .before .before .before .before .before .before .before .spend in
+    let u = at-take-up-all .take-up-all in
+    let v = at-spend .spend in
     (f .some, f .few, omega (arith, f .work, u .kept .1 .1 .1 .0, v .kept .1 .1 .1 .1 .0), v .kept .1 .1 .1 .1 .1 .1 .1 .0 ∙ u .kept .1 .1 .1 .1 .1 .1 .0 ∙ p .1 .1 .1 .1 .0 .1)
 
 same-length : tie.Need-same-length
@@ -65,12 +72,16 @@ same-length-4 c = search needs
 
 returns : tie.Need-returns
 returns c =
-    let p = c .before .before .before .before .before .before .before .before .before .before .before .before .before .before .before .before .before .before .before .before .before .before .before .before .before .before .before .before .before .before .before .before .before .before .before .before .before .before .before .before .before .pre in
-    let u = c .before .before .before .before .before .before .before .before .before .before .before .before .before .before .before .before .before .before .before .before .before .before .before .before .before .before .before .before .take-up-all in
-    let v = c .before .before .before .before .before .before .before .before .before .before .before .before .before .before .before .spend in
+    let at-spend = c .before .before .before .before .before .before .before .before .before .before .before .before .before .before .before in
+    let at-take-up-all = at-spend .before .before .before .before .before .before .before .before .before .before .before .before .before in
+    let at-next = at-take-up-all .before .before .before .before .before in
+    let start = at-next .before .before .before .before .before .before .before .before in
+    let p = start .pre in
+    let u = at-take-up-all .take-up-all in
+    let v = at-spend .spend in
     let z = p .1 .1 .1 .1 in (
-      went (c .before .before .before .before .before .before .before .before .before .before .before .before .before .before .before .before .before .before .before .before .before .before .before .before .before .before .before .before .before .before .before .before .before .next .ensures) (u .ensures) (v .ensures) (c .before .before .put-down .ensures) (v .kept .1 .1 .1 .0),
-      reported (c .before .before .before .before .before .before .before .before .before .before .before .before .before .before .before .before .before .before .before .before .before .before .before .before .before .before .before .before .before .before .before .before .before .next .ensures) (u .ensures) (v .ensures) (v .kept .1 .1 .1 .1 .1 .1 .1 .1 .0 ∙ z .0 .0) (v .kept .1 .1 .1 .1 .1 .1 .1 .0 ∙ u .kept .1 .1 .1 .1 .1 .1 .0 ∙ z .0 .1) (z .1 .1),
+      went (at-next .next .ensures) (u .ensures) (v .ensures) (c .before .before .put-down .ensures) (v .kept .1 .1 .1 .0),
+      reported (at-next .next .ensures) (u .ensures) (v .ensures) (v .kept .1 .1 .1 .1 .1 .1 .1 .1 .0 ∙ z .0 .0) (v .kept .1 .1 .1 .1 .1 .1 .1 .0 ∙ u .kept .1 .1 .1 .1 .1 .1 .0 ∙ z .0 .1) (z .1 .1),
     )
 
 pub spend-spec : {M : Type 1} → statement M

@@ -39,8 +39,11 @@ same-length-4 c = search needs
 
 returns : tie.Need-returns
 returns c =
-    let u = c .before .before .before .before .before .before .before .before .before .before .before .before .turn-at in
-    served-found (c .before .before .before .before .before .before .before .before .before .before .before .before .before .before .before .before .before .before .before .before .before .before .before .args .questions .now) (c .before .before .before .before .before .before .before .before .before .before .before .before .before .before .before .before .before .before .before .before .before .before .before .args .settings .now) (u .ensures .0) (c .before .before .before .before .before .if1 .taken) (c .before .before .mark .ensures)
+    let at-if1 = c .before .before .before .before .before in
+    let at-turn-at = at-if1 .before .before .before .before .before .before .before in
+    let start = at-turn-at .before .before .before .before .before .before .before .before .before .before .before in
+    let u = at-turn-at .turn-at in
+    served-found (start .args .questions .now) (start .args .settings .now) (u .ensures .0) (at-if1 .if1 .taken) (c .before .before .mark .ensures)
 
 same-length-5 : tie.Need-same-length-5
 same-length-5 c = search needs
@@ -53,8 +56,10 @@ same-length-7 c = search needs
 
 returns-2 : tie.Need-returns-2
 returns-2 c =
-    let u = c .before .before .before .before .before .before .before .turn-at in
-    served-else (c .before .before .before .before .before .before .before .before .before .before .before .before .before .before .before .before .before .before .args .questions .now) (c .before .before .before .before .before .before .before .before .before .before .before .before .before .before .before .before .before .before .args .settings .now) (u .ensures .0) (c .if1 .left)
+    let at-turn-at = c .before .before .before .before .before .before .before in
+    let start = at-turn-at .before .before .before .before .before .before .before .before .before .before .before in
+    let u = at-turn-at .turn-at in
+    served-else (start .args .questions .now) (start .args .settings .now) (u .ensures .0) (c .if1 .left)
 
 pub serve-spec : {M : Type 1} → statement M
 serve-spec =

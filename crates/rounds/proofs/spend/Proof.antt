@@ -9,7 +9,10 @@ use Rattle.rounds.proofs.spend.Statement.{statement}
 use Rattle.rounds.proofs.spend.Tie as tie
 
 abbrev Inv-loop : tie.InvT-loop
-Inv-loop x n questions settings₀ work₀ masks₀ opens₀ verdicts₀ turns₀ first allowance next₀ k₀ settings work masks opens verdicts turns next k = (k ≤ allowance) × Spent (indexNode x) n questions settings₀ work₀ verdicts₀ first k settings work masks opens verdicts turns next × Long settings₀ work₀ masks₀ opens₀ verdicts₀ turns₀ settings work masks opens verdicts turns
+Inv-loop x n questions settings₀ work₀ masks₀ opens₀ verdicts₀ turns₀ first allowance next₀ k₀ settings work masks opens verdicts turns next k =
+    (k ≤ allowance)
+    × Spent (indexNode x) n questions settings₀ work₀ verdicts₀ first k settings work masks opens verdicts turns next
+    × Long settings₀ work₀ masks₀ opens₀ verdicts₀ turns₀ settings work masks opens verdicts turns
 
 abbrev μ-loop : tie.MeasureT-loop
 μ-loop x n questions settings₀ work₀ masks₀ opens₀ verdicts₀ turns₀ first allowance next₀ k₀ settings work masks opens verdicts turns next k = allowance - k
@@ -67,29 +70,45 @@ serve-requires c κs =
 
 slice-write-verdicts : tie.Need-slice-write-verdicts Inv-loop μ-loop
 slice-write-verdicts c =
-    let r = c .before .before .before .before .before .before .before .before .before .before .before .before .before .before .before .before .before .before .before .before .before .before .before .before .before .before .pre .1 .1 .1 .0 in
-    omega (arith, c .before .before .before .before .before .before .before .before .before .before .before .before .before .if1 .left, r .few, r .verdicts, c .before .before .before .before .before .before .before .before .before .before .before .before .before .before .before .before .before .loop .inv .2 .verdicts)
+    let at-if1 = c .before .before .before .before .before .before .before .before .before .before .before .before .before in
+    let at-loop = at-if1 .before .before .before .before in
+    let start = at-loop .before .before .before .before .before .before .before .before .before in
+    let r = start .pre .1 .1 .1 .0 in
+    omega (arith, at-if1 .if1 .left, r .few, r .verdicts, at-loop .loop .inv .2 .verdicts)
 
 mul-turns : tie.Need-mul-turns Inv-loop μ-loop
-mul-turns c = omega (arith, c .before .before .before .before .before .before .before .before .before .before .before .before .before .if1 .left, c .before .before .before .before .before .before .before .before .before .before .before .before .before .before .before .before .before .before .before .before .before .before .before .before .before .before .pre .1 .1 .1 .0 .few)
+mul-turns c =
+    let at-if1 = c .before .before .before .before .before .before .before .before .before .before .before .before .before in
+    let start = at-if1 .before .before .before .before .before .before .before .before .before .before .before .before .before in
+    omega (arith, at-if1 .if1 .left, start .pre .1 .1 .1 .0 .few)
 
 slice-read-turns : tie.Need-slice-read-turns Inv-loop μ-loop
 slice-read-turns c =
-    let p = c .before .before .before .before .before .before .before .before .before .before .before .before .before .before .before .before .before .before .before .before .before .before .before .before .before .before .before .pre in
-    omega (arith, c .before .before .before .before .before .before .before .before .before .before .before .before .before .before .if1 .left, p .1 .1 .1 .0 .few, p .1 .1 .1 .1 .0 .1, c .before .before .before .before .before .before .before .before .before .before .before .before .before .before .before .before .before .before .loop .inv .2 .turns)
+    let at-if1 = c .before .before .before .before .before .before .before .before .before .before .before .before .before .before in
+    let at-loop = at-if1 .before .before .before .before in
+    let start = at-loop .before .before .before .before .before .before .before .before .before in
+    let p = start .pre in
+    omega (arith, at-if1 .if1 .left, p .1 .1 .1 .0 .few, p .1 .1 .1 .1 .0 .1, at-loop .loop .inv .2 .turns)
 
 add-turns : tie.Need-add-turns Inv-loop μ-loop
 add-turns c =
     let h = c .before .before .before .before .before .before .before .before .before .before .before .before .before .before .if1 .left in
-    omega (arith, turns-few (c .before .before .before .before .before .before .before .before .before .before .before .before .before .before .before .before .before .before .loop .inv .1) (c .before .before .before .before .before .before .before .before .before .before .before .before .before .before .before .up-next .result) (omega (arith, h)), c .before .before .before .before .before .before .before .before .before .before .before .before .before .before .before .before .before .loop-test .taken)
+    let few = turns-few (c .before .before .before .before .before .before .before .before .before .before .before .before .before .before .before .before .before .before .loop .inv .1) (c .before .before .before .before .before .before .before .before .before .before .before .before .before .before .before .up-next .result) (omega (arith, h)) in
+    omega (arith, few, c .before .before .before .before .before .before .before .before .before .before .before .before .before .before .before .before .before .loop-test .taken)
 
 slice-write-turns : tie.Need-slice-write-turns Inv-loop μ-loop
 slice-write-turns c =
-    let p = c .before .before .before .before .before .before .before .before .before .before .before .before .before .before .before .before .before .before .before .before .before .before .before .before .before .before .before .pre in
-    omega (arith, c .before .before .before .before .before .before .before .before .before .before .before .before .before .before .if1 .left, p .1 .1 .1 .0 .few, p .1 .1 .1 .1 .0 .1, c .before .before .before .before .before .before .before .before .before .before .before .before .before .before .before .before .before .before .loop .inv .2 .turns)
+    let at-if1 = c .before .before .before .before .before .before .before .before .before .before .before .before .before .before in
+    let at-loop = at-if1 .before .before .before .before in
+    let start = at-loop .before .before .before .before .before .before .before .before .before in
+    let p = start .pre in
+    omega (arith, at-if1 .if1 .left, p .1 .1 .1 .0 .few, p .1 .1 .1 .1 .0 .1, at-loop .loop .inv .2 .turns)
 
 add-next : tie.Need-add-next Inv-loop μ-loop
-add-next c = omega (arith, c .before .before .before .before .before .before .before .before .before .before .before .before .before .before .if1 .left, c .before .before .before .before .before .before .before .before .before .before .before .before .before .before .before .before .before .before .before .before .before .before .before .before .before .before .before .pre .1 .1 .1 .0 .few)
+add-next c =
+    let at-if1 = c .before .before .before .before .before .before .before .before .before .before .before .before .before .before in
+    let start = at-if1 .before .before .before .before .before .before .before .before .before .before .before .before .before in
+    omega (arith, at-if1 .if1 .left, start .pre .1 .1 .1 .0 .few)
 
 add-k : tie.Need-add-k Inv-loop μ-loop
 add-k c = omega (arith, c .before .before .before .before .before .before .before .before .before .before .before .before .before .before .before .before .before .loop-test .taken)
@@ -99,13 +118,19 @@ loop-less c = omega (arith, c .before .before .before .before .before .before .b
 
 loop-again : tie.Need-loop-again Inv-loop μ-loop
 loop-again c =
-    let p = c .before .before .before .before .before .before .before .before .before .before .before .before .before .before .before .before .before .before .before .before .before .before .before .before .before .before .before .pre in
+    let at-serve = c .before .before .before .before .before .before .before .before .before in
+    let at-if1 = at-serve .before .before .before .before .before in
+    let at-up-next = at-if1 .before in
+    let at-loop-test = at-up-next .before .before in
+    let at-loop = at-loop-test .before in
+    let start = at-loop .before .before .before .before .before .before .before .before .before in
+    let p = start .pre in
     let r = p .1 .1 .1 .0 in
-    let l = c .before .before .before .before .before .before .before .before .before .before .before .before .before .before .before .before .before .before .loop .inv .2 in
-    let h = c .before .before .before .before .before .before .before .before .before .before .before .before .before .before .if1 .left in
-    let u = c .before .before .before .before .before .before .before .before .before .serve in (
-      omega (arith, c .before .before .before .before .before .before .before .before .before .before .before .before .before .before .before .before .before .loop-test .taken),
-      spent-more (c .before .before .before .before .before .before .before .before .before .before .before .before .before .before .before .before .before .before .loop .inv .1) (c .before .before .before .before .before .before .before .before .before .before .before .before .before .before .before .up-next .ensures) (omega (arith, h)) (u .ensures) (omega (arith, h, r .few, r .verdicts, l .verdicts)) (omega (arith, h, r .few, p .1 .1 .1 .1 .0 .1, l .turns)),
+    let l = at-loop .loop .inv .2 in
+    let h = at-if1 .if1 .left in
+    let u = at-serve .serve in (
+      omega (arith, at-loop-test .loop-test .taken),
+      spent-more (at-loop .loop .inv .1) (at-up-next .up-next .ensures) (omega (arith, h)) (u .ensures) (omega (arith, h, r .few, r .verdicts, l .verdicts)) (omega (arith, h, r .few, p .1 .1 .1 .1 .0 .1, l .turns)),
       long-more _ _ _ l (u .kept .1 .1 .1 .0) (u .kept .1 .1 .1 .1 .0) (u .kept .1 .1 .1 .1 .1 .0) (u .kept .1 .1 .1 .1 .1 .1 .0),
     )
 
