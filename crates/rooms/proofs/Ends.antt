@@ -33,6 +33,7 @@ use Rattle.rooms.specs.declared.Turned.{Turned}
 use Rattle.rooms.specs.Rooms.{admitted, eight, openRooms, roundAfter, turnsAfter, turnRooms}
 use Rattle.rooms.specs.Calls.{Went, Reported, OpensRooms, TurnsRooms}
 use Rattle.rooms.proofs.Goes.{went-same, reported-same}
+use Rattle.rooms.proofs.Rows.{admitted-few}
 
 -- ---- eight values
 
@@ -155,6 +156,15 @@ module _ (t questions s w : List ℕ) where
         verdicts = λ qs z i l. rw (sym (one-table z)) (b .reached i l ∙ ap numberOf (sym (a .searches i l)));
         waits = λ qs z i l h y. rw (sym (one-table z)) (waits-few turnOf (length questions) begun i l (rw (sym (one-table z)) at h) m (sym (b .made i l) ∙ y));
       }
+
+    -- the turns reported of a question, of whatever call
+    pub turns-told : (m : ℕ) {s′ w′ : List ℕ} {r : Turned} → TurnsRooms t questions s w m s′ w′ r → (i : ℕ) → i < length questions
+        → getD (r .turns) i 0 ≡ turnsAfter rs questions m (roundOf rs questions w) i
+    unfolding turnRooms
+    turns-told m a i l =
+        ap (λ (x : Turned). getD (x .turns) i 0) (rw e at (a .answered))
+        ∙ eight-at (length questions) (turnsAfter rs questions m (roundOf rs questions w)) i (omega (arith, admitted-few t questions (length s) (length w) e))
+        ∙ rw (lt-ltb i (length questions) l)
 
 -- over the index that was asked for
 module _ {t questions : List ℕ} {needed lent room : ℕ} {x : List ℕ} {n : ℕ} (p : Prepared (listRow questions) t questions needed lent room x n) (w : List ℕ) (m : ℕ) where

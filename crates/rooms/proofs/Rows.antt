@@ -86,13 +86,19 @@ module _ (t questions : List ℕ) (points area : ℕ) where
           (pointsSize * length questions, points, area / length questions, p, admitted-asked ∙ p .answered);
     }
 
-  -- a table to which the questions may be put reads, and each question is a literal of it
-  pub admitted-read : {rs : List Node} → admitted t questions points area ≡ answer rs → (decode t ≡ answer rs) × Below (length rs) questions
-  unfolding admitted
-  admitted-read {rs} e =
-      let b = required (ltb 0 (length questions) && leb (length questions) mostQuestions) 69 0 (then-first (questionsRow questions) _ e) in
-      let a = asked-read t questions (pointsSize * length questions) points (area / length questions) (sym (admitted-asked b) ∙ e) in
-      (a .0, a .1 .below)
+  module _ {rs : List Node} (e : admitted t questions points area ≡ answer rs) where
+    passed : (ltb 0 (length questions) && leb (length questions) mostQuestions) ≡ true
+    unfolding admitted
+    passed = required (ltb 0 (length questions) && leb (length questions) mostQuestions) 69 0 (then-first (questionsRow questions) _ e)
+
+    pub admitted-few : length questions ≤ mostQuestions
+    admitted-few = few passed
+
+    -- a table to which the questions may be put reads, and each question is a literal of it
+    pub admitted-read : (decode t ≡ answer rs) × Below (length rs) questions
+    admitted-read =
+        let a = asked-read t questions (pointsSize * length questions) points (area / length questions) (sym (admitted-asked passed) ∙ e) in
+        (a .0, a .1 .below)
 
   -- what the calls take from it: a refusal is that of the definition
   pub rooms-refused : {x : List ℕ} (r : Counted) {f : Refusal} → AsksRooms t questions points area x r → r ≡ Refused f
