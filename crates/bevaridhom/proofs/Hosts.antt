@@ -21,7 +21,7 @@ use Rattle.codec.specs.Valid.{Bytes}
 use Rattle.codec.proofs.Bytes.{bytes-take}
 use Rattle.calculus.specs.Model.{All}
 use Rattle.calculus.specs.Order.{Answer}
-use Rattle.calculus.specs.Decide.{settingsAfter, decide, Unsatisfiable, _⇔_}
+use Rattle.calculus.specs.Decide.{asked, settingsAfter, decide, Satisfies, Unsatisfiable, _⇔_}
 use Rattle.truth.proofs.Says.{two-valued}
 use Rattle.asking.proofs.Models.{points-of, evaluated-filled}
 use Rattle.meaning.proofs.Decisions.{decide-exact}
@@ -166,6 +166,7 @@ module _ (t goals wishes : List ℕ) (m : ℕ) (s w s′ w′ : List ℕ) where
     bound = λ z. h .bound g refl;
     within = λ z. h .within g refl;
     stopped = λ z. h .stopped g refl;
+    sooner = λ z. h .sooner g refl;
     larger = λ z. h .larger g refl;
     enough = λ z. h .enough g refl;
   }
@@ -181,6 +182,7 @@ module _ (t goals wishes : List ℕ) (m : ℕ) (s w s′ w′ : List ℕ) where
     bound = not-zero f h;
     within = not-zero f h;
     stopped = not-zero f h;
+    sooner = not-zero f h;
     larger = not-zero f h;
     enough = not-zero f h;
   }
@@ -239,6 +241,11 @@ module _ (v : Version) (t goals w d w′ d′ : List ℕ) where
   by-steps (NotDerived f) h p e =
       absurd (omega (arith, derive-numbered v t goals w d .positive (f .number) (f .place) (of-refused (derive v t goals w d) (λ x. x .steps) (h .answered))))
 
+  complete-by : (r : Derived) → Derives v t goals w d w′ d′ r → deriveAnswer (derivedOf r) .number ≡ 30
+      → (rs : List Node) → asked t goals 0 0 (length w) ≡ answer rs → (v : List ℕ) × Satisfies t goals v
+  complete-by (Steps k) h e = absurd (omega arith)
+  complete-by (NotDerived f) h e = h .complete (f .place) (rw e)
+
   pub told-derive : (r : Derived) {r′ : Derived} → Derives v t goals w d w′ d′ r → r ≡ r′ → HostDerives v t goals w d w′ d′ (deriveAnswer (derivedOf r′))
   told-derive r {r′} k e =
       let h : Derives v t goals w d w′ d′ r′ = rw e at k in
@@ -249,6 +256,7 @@ module _ (v : Version) (t goals w d w′ d′ : List ℕ) where
         never = by-steps r′ h (h .never);
         accepted = by-steps r′ h (h .accepted);
         published = by-steps r′ h (h .published);
+        complete = complete-by r′ h;
       }
 
 -- ---- open

@@ -144,7 +144,8 @@ abbrev pub versionAsked : ℕ → Version
 versionAsked n = cond (eqb n 0) One Two
 
 -- derive for a host: its step count, the derivation bytes, a work area that a refusal by the rows 10 to 17, 62, 20 and 23 leaves as it
--- was, and what the derivation means: no setting makes all goals true, bev_check accepts it, and it is one by the published rules
+-- was, and what the derivation means: no setting makes all goals true, bev_check accepts it, and it is one by the published rules; behind
+-- these rows 30 means that one setting makes all goals true
 pub record HostDerives (v : Version) (t goals w d w′ d′ : List ℕ) (r : BevDerived) : Type 0 where
   pub answered : r ≡ deriveAnswer (derive v t goals w d >>= λ x. answer (x .steps))
   pub bytes : d′ ≡ derivedAfter d (derive v t goals w d)
@@ -152,6 +153,7 @@ pub record HostDerives (v : Version) (t goals w d w′ d′ : List ℕ) (r : Bev
   pub never : r .number ≡ 0 → Unsatisfiable t goals
   pub accepted : r .number ≡ 0 → check t goals w (blocks (r .steps) d′) ≡ fine
   pub published : r .number ≡ 0 → PublishedBytes t goals (blocks (r .steps) d′)
+  pub complete : r .number ≡ 30 → (rs : List Node) → asked t goals 0 0 (length w) ≡ answer rs → (v : List ℕ) × Satisfies t goals v
 
 -- 0 is 'accepted'
 abbrev pub checkAnswer : Outcome (Unit {0}) → BevChecked
@@ -177,9 +179,9 @@ wishesAnswer (refused n p) = record { number = n; place = p; met = 0; bound = 0;
 
 -- wishes for a host: its numbers, the settings bytes, a work area that a refusal up to 23 leaves as it was, and what the answer means: for
 -- every way of filling the settings' 2s all goals are true and `met` wishes, no setting that makes all goals true makes more than `bound`
--- wishes true, the questions put do not exceed the allowance, which is spent where `met` is below `bound`; a larger allowance never lowers
--- `met` or raises `bound`, and 2 ^ wishes - 1 questions are enough for both to be equal. Behind these rows 67 is said exactly when no
--- setting makes all goals true
+-- wishes true, the questions put do not exceed the allowance, which is spent where `met` is below `bound`, and none of them was put when
+-- both were equal; a larger allowance never lowers `met` or raises `bound`, and 2 ^ wishes - 1 questions are enough for both to be equal.
+-- Behind these rows 67 is said exactly when no setting makes all goals true
 pub record HostWishes (t goals wishes : List ℕ) (m : ℕ) (s w s′ w′ : List ℕ) (r : BevWished) : Type 0 where
   pub answered : r ≡ wishesAnswer (grant t goals wishes m s w >>= λ d. answer (grantOf (d .wished)))
   pub settings : s′ ≡ grantedAfter s (grant t goals wishes m s w)
@@ -191,6 +193,8 @@ pub record HostWishes (t goals wishes : List ℕ) (m : ℕ) (s w s′ w′ : Lis
       → count (truth v rs) wishes ≤ r .bound
   pub within : r .number ≡ 0 → r .questions ≤ m
   pub stopped : r .number ≡ 0 → (r .met ≡ r .bound) ⊎ (r .questions ≡ m)
+  pub sooner : r .number ≡ 0 → (l : ℕ) → l < r .questions
+      → (h : Granted) × (grant t goals wishes l s w ≡ answer h) × ((h .wished .questions ≡ l) × (h .wished .k < h .wished .u))
   pub larger : r .number ≡ 0 → (l : ℕ) → m ≤ l
       → (h : Granted) × (grant t goals wishes l s w ≡ answer h) × ((r .met ≤ h .wished .k) × (h .wished .u ≤ r .bound))
   pub enough : r .number ≡ 0 → 2 ^ length wishes ≤ suc m → r .met ≡ r .bound
