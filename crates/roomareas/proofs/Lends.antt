@@ -10,7 +10,7 @@ use Rattle.units.specs.Units.{words}
 use Rattle.turns.specs.Turn.{Search}
 use Rattle.replaying.specs.Standing.{stackSize, Made}
 use Rattle.roomareas.specs.Areas.{areaSize}
-use Rattle.roomareas.specs.Changes.{mostQuestions, MadeAt}
+use Rattle.roomareas.specs.Changes.{Roomy, Lendable, MadeAt}
 use Rattle.roomareas.proofs.Parts.{part-length, lent, part-back, beside-back}
 
 -- what is lent, and what the whole is when it is back
@@ -23,8 +23,12 @@ backOf size i xs ys = putMid (size * i) (size * i + size - size * i) xs ys
 pub lent-length : (size i : ℕ) (xs : List ℕ) → size * i + size ≤ length xs → length (lentOf size i xs) ≡ size
 lent-length size i xs h = ap length (lent size i xs) ∙ part-length size i xs h
 
-module _ (i : ℕ) (w m o : List ℕ) (h : i < mostQuestions) (work : areaSize * (i + 1) ≤ length w) (masks : length m ≡ words * mostQuestions)
-    (stacks : length o ≡ stackSize * mostQuestions) where
+-- with room for q questions, those of each can be lent, as long as nothing gets shorter
+pub lendable : {q : ℕ} {w₀ m₀ o₀ v : List ℕ} (i : ℕ) (w m o : List ℕ) → Roomy q w₀ m₀ o₀ v → i < q → length w ≡ length w₀ → length m ≡ length m₀
+    → length o ≡ length o₀ → Lendable i w m o
+lendable i w m o r h a b c = record { few = omega (arith, r .few); work = omega (arith, r .work); masks = b ∙ r .masks; stacks = c ∙ r .stacks }
+
+module _ {i : ℕ} {w m o : List ℕ} (h : Lendable i w m o) where
   pub lent-work : length (lentOf areaSize i w) ≡ areaSize
   lent-work = lent-length areaSize i w (omega arith)
 

@@ -1,7 +1,7 @@
 -- What a call holds of the questions' searches, and what the functions of this crate leave. Assumes nothing.
 use mathlib.Core.Path.{_≡_}
 use mathlib.Core.List.{List, []}
-use Prim.Native.Nat.{ℕ, _*_, _<_, _≤_}
+use Prim.Native.Nat.{ℕ, _+_, _*_, _<_, _≤_}
 use lib.ListN.{length, getD}
 use Rattle.scope.specs.declared.Node.{Node}
 use Rattle.calculus.specs.Expansion.{expand}
@@ -22,6 +22,13 @@ pub record Roomy (q : ℕ) (w m o v : List ℕ) : Type 0 where
   pub masks : length m ≡ words * mostQuestions
   pub stacks : length o ≡ stackSize * mostQuestions
   pub verdicts : length v ≡ mostQuestions
+
+-- question i's parts can be lent: an area, a set of units, a stack
+pub record Lendable (i : ℕ) (w m o : List ℕ) : Type 0 where
+  pub few : i < mostQuestions
+  pub work : areaSize * (i + 1) ≤ length w
+  pub masks : length m ≡ words * mostQuestions
+  pub stacks : length o ≡ stackSize * mostQuestions
 
 -- question i's part may have changed, and no other
 pub record Beside (size i : ℕ) (xs ys : List ℕ) : Type 0 where

@@ -2,7 +2,7 @@
 // specs/Areas.antt.
 ghost use mathlib.Core.Path.{_≡_};
 ghost use mathlib.Core.List.{_∷_, []};
-ghost use Prim.Native.Nat.{_+_, _*_, _≤_, _<_};
+ghost use Prim.Native.Nat.{_*_, _≤_, _<_};
 ghost use lib.ListN.{length, getD};
 ghost use Rattle.calculus.specs.Expansion.{expand};
 ghost use Rattle.calculus.specs.Model.{Goals};
@@ -12,7 +12,7 @@ ghost use Rattle.units.specs.Units.{words};
 ghost use Rattle.turns.specs.Turn.{resumed};
 ghost use Rattle.replaying.specs.Standing.{stackSize, Made};
 ghost use Rattle.roomareas.specs.Areas.{areaSize, partOf, stored, nextAt};
-ghost use Rattle.roomareas.specs.Changes.{mostQuestions, Roomy, MadeAt, TakenUp, PutDown, Opened};
+ghost use Rattle.roomareas.specs.Changes.{mostQuestions, Roomy, Lendable, MadeAt, TakenUp, PutDown, Opened};
 
 // The numbers of an area, of a set of units and of a stack.
 const AREA: usize = 32768;
@@ -82,8 +82,8 @@ fn take_up_at(
     i: usize,
 ) -> u8
     requires { ⌜ Indexed (now x) n ⌝ }
-    requires { ⌜ (goal < 2 * n) × (i < mostQuestions) × (areaSize * (i + 1) ≤ length (now work)) ⌝ }
-    requires { ⌜ (length (now masks) ≡ words * mostQuestions) × (length (now opens) ≡ stackSize * mostQuestions) ⌝ }
+    requires { ⌜ goal < 2 * n ⌝ }
+    requires { ⌜ Lendable i (now work) (now masks) (now opens) ⌝ }
     ensures { λ r. ⌜ MadeAt (indexNode (now (x .entry))) n (goal ∷ []) i (now (work .entry)) (now (masks .entry)) (now (opens .entry)) (now (work .exit)) (now (masks .exit)) (now (opens .exit)) (resumed (expand (indexNode (now (x .entry)))) (goal ∷ []) (stored (partOf areaSize i (now (work .entry))))) r ⌝ }
 {
     let goals = [goal];

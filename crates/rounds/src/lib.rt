@@ -13,7 +13,7 @@ ghost use Rattle.turns.specs.Turn.{running, turn};
 ghost use Rattle.turns.specs.Round.{seek as seekFrom, upNext};
 ghost use Rattle.replaying.specs.Standing.{stackSize, Stands};
 ghost use Rattle.roomareas.specs.Areas.{areaSize, pointsSize, partOf, goalsOf};
-ghost use Rattle.roomareas.specs.Changes.{mostQuestions, Roomy, MadeAt, Sits};
+ghost use Rattle.roomareas.specs.Changes.{mostQuestions, Roomy, Lendable, MadeAt, Sits};
 ghost use Rattle.rounds.specs.Spent.{runsBy, Pointed, MarkedAt, Served, Spent};
 
 // The numbers of an area, of a set of units and of a stack, and the setting bytes of a question.
@@ -68,8 +68,8 @@ fn turn_at(
     i: usize,
 ) -> u8
     requires { ⌜ Indexed (now x) n ⌝ }
-    requires { ⌜ (goal < 2 * n) × (i < mostQuestions) × (areaSize * (i + 1) ≤ length (now work)) ⌝ }
-    requires { ⌜ (length (now masks) ≡ words * mostQuestions) × (length (now opens) ≡ stackSize * mostQuestions) ⌝ }
+    requires { ⌜ goal < 2 * n ⌝ }
+    requires { ⌜ Lendable i (now work) (now masks) (now opens) ⌝ }
     requires { ⌜ Stands (indexNode (now x)) n (goal ∷ []) (partOf areaSize i (now work)) (partOf words i (now masks)) (partOf stackSize i (now opens)) ⌝ }
     ensures { λ r. ⌜ MadeAt (indexNode (now (x .entry))) n (goal ∷ []) i (now (work .entry)) (now (masks .entry)) (now (opens .entry)) (now (work .exit)) (now (masks .exit)) (now (opens .exit)) (turn (expand (indexNode (now (x .entry)))) (goal ∷ []) (running (gOf (partOf areaSize i (now (work .entry)))))) r ⌝ }
     ensures { λ _. ⌜ Ready n (partOf areaSize i (now (work .exit))) ⌝ }
@@ -115,8 +115,8 @@ fn serve(
     requires { ⌜ Indexed (now x) n ⌝ }
     requires { ⌜ Pointed (now x) n ⌝ }
     requires { ⌜ Goals n (now questions) ⌝ }
-    requires { ⌜ (i < length (now questions)) × (i < mostQuestions) × (areaSize * (i + 1) ≤ length (now work)) × (pointsSize * (i + 1) ≤ length (now settings)) ⌝ }
-    requires { ⌜ (length (now masks) ≡ words * mostQuestions) × (length (now opens) ≡ stackSize * mostQuestions) ⌝ }
+    requires { ⌜ (i < length (now questions)) × (pointsSize * (i + 1) ≤ length (now settings)) ⌝ }
+    requires { ⌜ Lendable i (now work) (now masks) (now opens) ⌝ }
     requires { ⌜ Stands (indexNode (now x)) n (goalsOf (now questions) i) (partOf areaSize i (now work)) (partOf words i (now masks)) (partOf stackSize i (now opens)) ⌝ }
     ensures { λ r. ⌜ Served (indexNode (now (x .entry))) n (now (questions .entry)) i (now (settings .entry)) (now (work .entry)) (now (masks .entry)) (now (opens .entry)) (now (settings .exit)) (now (work .exit)) (now (masks .exit)) (now (opens .exit)) r ⌝ }
 {

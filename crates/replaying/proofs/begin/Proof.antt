@@ -21,8 +21,10 @@ same-length-3 c = search needs
 
 returns : tie.Need-returns
 returns c =
-    let a = c .before .before .before .before .start .ensures in
-    (stands-none (c .before .before .before .before .before .before .before .before .before .before .before .before .args .opens .now) (a .0) (a .1) (c .before .before .before .before .before .before .before .before .before .before .before .before .pre .1 .1 .2), a .1)
+    let at-start = c .before .before .before .before in
+    let start = at-start .before .before .before .before .before .before .before .before in
+    let a = at-start .start .ensures in
+    (stands-none (start .args .opens .now) (a .0) (a .1) (start .pre .1 .1 .2), a .1)
 
 pub begin-spec : {M : Type 1} → statement M
 begin-spec =

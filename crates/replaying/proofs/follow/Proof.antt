@@ -73,12 +73,17 @@ same-length-6 c = search needs
 
 returns-3 : tie.Need-returns-3
 returns-3 c =
-    let p = c .before .before .before .before .before .before .before .before .before .before .before .before .before .before .before .before .before .before .before .before .before .pre in
-    let v = c .before .before .before .before .before .before .before .before .before .before .before .before .before .next-move .ensures in
+    let at-assume = c .before .before .before .before in
+    let at-if1 = at-assume .before .before .before in
+    let at-m = at-if1 .before .before in
+    let at-next-move = at-m .before .before .before .before in
+    let start = at-next-move .before .before .before .before .before .before .before .before in
+    let p = start .pre in
+    let v = at-next-move .next-move .ensures in
     let g = v .1 .1 .0 in
     let s = looked (p .1 .1) (v .1 .0) g in
-    let a = c .before .before .before .before .assume .ensures in
-    followed-looked g (went-unit s (a .0) (a .1) (ap (move _ _) g ∙ sym (v .0) ∙ c .before .before .before .before .before .before .before .before .before .m .given .1) (c .before .before .before .before .before .before .before .if1 .left))
+    let a = at-assume .assume .ensures in
+    followed-looked g (went-unit s (a .0) (a .1) (ap (move _ _) g ∙ sym (v .0) ∙ at-m .m .given .1) (at-if1 .if1 .left))
 
 same-length-7 : tie.Need-same-length-7
 same-length-7 c = search needs

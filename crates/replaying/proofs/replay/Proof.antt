@@ -31,7 +31,10 @@ mul-follow : tie.Need-mul-follow Inv-loop μ-loop
 mul-follow c = let p = c .before .before .before .before .before .before .before .before .before .before .before .before .pre in omega (arith, p .1 .1 .1 .1, c .before .before .before .loop-test .taken)
 
 shared-slice-read-follow : tie.Need-shared-slice-read-follow Inv-loop μ-loop
-shared-slice-read-follow c = let p = c .before .before .before .before .before .before .before .before .before .before .before .before .before .pre in omega (arith, p .1 .1 .1 .1, c .before .before .before .before .loop-test .taken)
+shared-slice-read-follow c =
+    let at-loop-test = c .before .before .before .before in
+    let start = at-loop-test .before .before .before .before .before .before .before .before .before in
+    let p = start .pre in omega (arith, p .1 .1 .1 .1, at-loop-test .loop-test .taken)
 
 follow-requires : tie.Need-follow-requires Inv-loop μ-loop
 follow-requires c κs = let p = c .before .before .before .before .before .before .before .before .before .before .before .before .before .pre in (p .0, (p .1 .0, c .before .before .before .before .before .loop .inv .1 .stands))
@@ -40,10 +43,16 @@ same-length : tie.Need-same-length Inv-loop μ-loop
 same-length c = c .before .before .before .before .before .before .before .follow .kept .1 .1 .1 .0 ∙ c .before .before .before .before .before .before .before .before .before .before .before .before .before .loop .inv .1 .work
 
 same-length-2 : tie.Need-same-length-2 Inv-loop μ-loop
-same-length-2 c = c .before .before .before .before .before .before .before .follow .kept .1 .1 .1 .1 .0 ∙ c .before .before .before .before .before .before .before .before .before .before .before .before .before .loop .inv .1 .masks
+same-length-2 c =
+    let at-follow = c .before .before .before .before .before .before .before in
+    let at-loop = at-follow .before .before .before .before .before .before in
+    at-follow .follow .kept .1 .1 .1 .1 .0 ∙ at-loop .loop .inv .1 .masks
 
 same-length-3 : tie.Need-same-length-3 Inv-loop μ-loop
-same-length-3 c = c .before .before .before .before .before .before .before .follow .kept .1 .1 .1 .1 .1 .0 ∙ c .before .before .before .before .before .before .before .before .before .before .before .before .before .loop .inv .1 .opens
+same-length-3 c =
+    let at-follow = c .before .before .before .before .before .before .before in
+    let at-loop = at-follow .before .before .before .before .before .before in
+    at-follow .follow .kept .1 .1 .1 .1 .1 .0 ∙ at-loop .loop .inv .1 .opens
 
 returns : tie.Need-returns Inv-loop μ-loop
 returns c =

@@ -76,13 +76,17 @@ undo-to-requires c κs =
 
 negated-requires : tie.Need-negated-requires
 negated-requires c κs =
-    let p = c .before .before .before .before .before .before .before .before .before .before .before .before .before .before .before .before .before .before .before .pre in
+    let at-undo-to = c .before .before .before .before .before .before in
+    let at-literal = at-undo-to .before .before .before in
+    let at-if1 = at-literal .before .before .before in
+    let start = at-if1 .before .before .before .before .before .before .before in
+    let p = start .pre in
     let s = p .1 .1 in
     let T = p .0 .table in
     let B = p .1 .0 .below in
     let few = p .0 .few in
-    let u = c .before .before .before .before .before .before .undo-to .ensures in
-    literal-low s T B few (c .before .before .before .before .before .before .before .before .before .before .before .before .if1 .left) (u .0) (u .1) (c .before .before .before .before .before .before .before .before .before .literal .ensures)
+    let u = at-undo-to .undo-to .ensures in
+    literal-low s T B few (at-if1 .if1 .left) (u .0) (u .1) (at-literal .literal .ensures)
 
 assume-requires : tie.Need-assume-requires
 assume-requires c κs =

@@ -1,10 +1,10 @@
 -- `roomareas::take_up_all` meets its contract: before each turn the searches passed are taken up. Assumes nothing.
-use mathlib.Core.Path.{_∙_}
 use Prim.Native.Nat.{_≤_, _-_}
 use native.Mathlib.Omega.{arith}
 use lib.ListN.{length}
 use borrow.Author.Needs.{needs}
 use Rattle.index.specs.Index.{indexNode}
+use Rattle.roomareas.proofs.Lends.{lendable}
 use Rattle.roomareas.proofs.Sitting.{goal-below, Taking, taking-none, taking-more, taking-all}
 use Rattle.roomareas.proofs.take_up_all.Statement.{statement}
 use Rattle.roomareas.proofs.take_up_all.Tie as tie
@@ -27,10 +27,9 @@ shared-slice-read-take-up-at c = search needs
 take-up-at-requires : tie.Need-take-up-at-requires Inv-loop μ-loop
 take-up-at-requires c κs =
     let p = c .before .before .before .before .before .before .before .before .before .before .before .before .pre in
-    let r = p .1 .1 in
     let k = c .before .before .before .before .before .loop .inv .1 in
     let h = c .before .before .before .before .loop-test .taken in
-    (p .0, ((goal-below (p .1 .0) h, omega (arith, r .few, h), omega (arith, k .work, r .work, h)), (k .masks ∙ r .masks, k .stacks ∙ r .stacks)))
+    (p .0, (goal-below (p .1 .0) h, lendable _ _ _ _ (p .1 .1) h (k .work) (k .masks) (k .stacks)))
 
 slice-write-verdicts : tie.Need-slice-write-verdicts Inv-loop μ-loop
 slice-write-verdicts c =
@@ -47,9 +46,13 @@ loop-less c = omega (arith, c .before .before .before .before .before .before .b
 
 loop-again : tie.Need-loop-again Inv-loop μ-loop
 loop-again c =
-    let r = c .before .before .before .before .before .before .before .before .before .before .before .before .before .before .before .before .before .before .before .pre .1 .1 in
-    let h = c .before .before .before .before .before .before .before .before .before .before .before .loop-test .taken in
-    (omega (arith, h), taking-more (c .before .before .before .before .before .before .before .before .before .before .before .before .loop .inv .1) (omega (arith, h, r .few, r .verdicts)) (c .before .before .before .before .before .before .take-up-at .ensures))
+    let at-take-up-at = c .before .before .before .before .before .before in
+    let at-loop-test = at-take-up-at .before .before .before .before .before in
+    let at-loop = at-loop-test .before in
+    let start = at-loop .before .before .before .before .before .before .before in
+    let r = start .pre .1 .1 in
+    let h = at-loop-test .loop-test .taken in
+    (omega (arith, h), taking-more (at-loop .loop .inv .1) (omega (arith, h, r .few, r .verdicts)) (at-take-up-at .take-up-at .ensures))
 
 same-length : tie.Need-same-length Inv-loop μ-loop
 same-length c = c .before .loop .inv .1 .work

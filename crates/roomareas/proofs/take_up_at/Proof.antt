@@ -65,20 +65,9 @@ part-take-up-end-3 c = search needs
 
 take-up-requires : tie.Need-take-up-requires
 take-up-requires c κs =
-    let a = c .before .before .before .before .before .before .before .before .args in
     let p = c .before .before .before .before .before .before .before .before .pre in
-    let f = p .1 .0 in
-    let z = p .1 .1 in (
-      p .0,
-      (
-        record { most = omega arith; below = (f .0, tt) },
-        (
-          lent-work (a .i) (a .work .now) (a .masks .now) (a .opens .now) (f .1) (f .2) (z .0) (z .1),
-          lent-masks (a .i) (a .work .now) (a .masks .now) (a .opens .now) (f .1) (f .2) (z .0) (z .1),
-          lent-stack (a .i) (a .work .now) (a .masks .now) (a .opens .now) (f .1) (f .2) (z .0) (z .1),
-        ),
-      ),
-    )
+    let h = p .1 .1 in
+    (p .0, (record { most = omega arith; below = (p .1 .0, tt) }, (lent-work h, lent-masks h, lent-stack h)))
 
 same-length : tie.Need-same-length
 same-length c = search needs
@@ -91,13 +80,10 @@ same-length-3 c = search needs
 
 returns : tie.Need-returns
 returns c =
-    let a = c .before .before .before .before .before .before .before .before .before .before .before .before .before .before .before .args in
-    let p = c .before .before .before .before .before .before .before .before .before .before .before .before .before .before .before .pre in
-    let f = p .1 .0 in
-    let z = p .1 .1 in
     let u = c .before .before .before .before .before .before .take-up in
-    rw (← lent 32768 (a .i) (a .work .now))
-    (made-at (a .i) (a .work .now) (a .masks .now) (a .opens .now) (f .1) (f .2) (z .0) (z .1) (u .kept .1 .1 .1 .0) (u .kept .1 .1 .1 .1 .0) (u .kept .1 .1 .1 .1 .1 .0) (u .ensures))
+    let start = c .before .before .before .before .before .before .before .before .before .before .before .before .before .before .before in
+    rw (← lent 32768 (start .args .i) (start .args .work .now))
+    (made-at (start .pre .1 .1) (u .kept .1 .1 .1 .0) (u .kept .1 .1 .1 .1 .0) (u .kept .1 .1 .1 .1 .1 .0) (u .ensures))
 
 pub take-up-at-spec : {M : Type 1} → statement M
 take-up-at-spec =

@@ -32,10 +32,12 @@ cast-spend c = search needs
 
 spend-requires : tie.Need-spend-requires
 spend-requires c κs =
-    let p = c .before .before .before .before .before .before .before .before .before .before .before .before .before .before .before .before .before .before .before .before .before .before .before .before .before .pre in
+    let at-take-up-all = c .before .before .before .before .before .before .before .before .before .before .before .before in
+    let start = at-take-up-all .before .before .before .before .before .before .before .before .before .before .before .before .before in
+    let p = start .pre in
     let f = p .1 .1 .1 .0 in
     let z = p .1 .1 .1 .1 in
-    let u = c .before .before .before .before .before .before .before .before .before .before .before .before .take-up-all in
+    let u = at-take-up-all .take-up-all in
     (p .0, (p .1 .0, (p .1 .1 .0, (record { few = f .few; work = omega (arith, f .work, u .kept .1 .1 .1 .0); masks = u .kept .1 .1 .1 .1 .0; stacks = u .kept .1 .1 .1 .1 .1 .0; verdicts = u .kept .1 .1 .1 .1 .1 .1 .0 ∙ z .0 .1 }, ((f .settings, z .0 .0), (z .1 .0, u .ensures .sits))))))
 
 cast-put-down : tie.Need-cast-put-down

@@ -46,9 +46,12 @@ same-length-2 c = search needs
 
 returns-2 : tie.Need-returns-2
 returns-2 c =
-    let q = c .before .before .before .before .before .before .before .before .before .before .before .before .before .before .before .before .ask .ensures .prepared _ (c .before .before .before .before .before .before .before .before .before .before .before .before .before .a2 .given .1) in
+    let at-spend = c .before .before .before .before .before .before in
+    let at-a2 = at-spend .before .before .before .before .before .before .before in
+    let at-ask = at-a2 .before .before .before in
+    let q = at-ask .ask .ensures .prepared _ (at-a2 .a2 .given .1) in
     let p = q .3 in
-    let u = c .before .before .before .before .before .before .spend .ensures in
+    let u = at-spend .spend .ensures in
     turn-done _ _ _ _ (q .4) _ (index-went p _ _ (u .0)) (index-reported p _ _ (u .1))
 
 pub turn-spec : {M : Type 1} → statement M

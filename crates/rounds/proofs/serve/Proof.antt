@@ -15,15 +15,14 @@ shared-slice-read-turn-at c = search needs
 turn-at-requires : tie.Need-turn-at-requires
 turn-at-requires c κs =
     let p = c .before .before .before .before .before .before .before .before .before .before .pre in
-    let f = p .1 .1 .1 .0 in
-    (p .0, ((goal-below (p .1 .1 .0) (f .0), f .1, f .2), (p .1 .1 .1 .1 .0, p .1 .1 .1 .1 .1)))
+    (p .0, (goal-below (p .1 .1 .0) (p .1 .1 .1 .0 .0), (p .1 .1 .1 .1 .0, p .1 .1 .1 .1 .1)))
 
 mark-requires : tie.Need-mark-requires
 mark-requires c κs =
     let p = c .before .before .before .before .before .before .before .before .before .before .before .before .before .before .before .before .before .before .before .before .pre in
-    let f = p .1 .1 .1 .0 in
+    let h = p .1 .1 .1 .1 .0 in
     let u = c .before .before .before .before .before .before .before .before .before .turn-at in
-    (p .0, (p .1 .0, ((f .1, omega (arith, f .2, u .kept .1 .1 .1 .0), f .3), u .ensures .1)))
+    (p .0, (p .1 .0, ((h .few, omega (arith, h .work, u .kept .1 .1 .1 .0), p .1 .1 .1 .0 .1), u .ensures .1)))
 
 same-length : tie.Need-same-length
 same-length c = search needs

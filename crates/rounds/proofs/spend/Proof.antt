@@ -1,8 +1,9 @@
 -- `rounds::spend` meets its contract: before each turn the call has come to the round after the turns so far. Assumes nothing.
-use mathlib.Core.Path.{_≡_, _∙_}
+use mathlib.Core.Path.{_≡_}
 use Prim.Native.Nat.{_≤_, _-_}
 use native.Mathlib.Omega.{arith}
 use Rattle.index.specs.Index.{indexNode}
+use Rattle.roomareas.proofs.Lends.{lendable}
 use Rattle.rounds.proofs.Spending.{Long, long-starts, long-more, spent-starts, spent-all, up-stands, turns-few, spent-more}
 use Rattle.rounds.specs.Spent.{Spent}
 use Rattle.rounds.proofs.spend.Statement.{statement}
@@ -51,18 +52,21 @@ returns c = spent-all (c .before .before .before .before .loop .inv .1) (c .befo
 
 serve-requires : tie.Need-serve-requires Inv-loop μ-loop
 serve-requires c κs =
-    let p = c .before .before .before .before .before .before .before .before .before .before .before .before .before .before .before .before .before .pre in
-    let r = p .1 .1 .1 .0 in
-    let l = c .before .before .before .before .before .before .before .before .loop .inv .2 in
-    let h = c .before .before .before .before .if1 .left in (
+    let at-if1 = c .before .before .before .before in
+    let at-up-next = at-if1 .before in
+    let at-loop = at-up-next .before .before .before in
+    let start = at-loop .before .before .before .before .before .before .before .before .before in
+    let p = start .pre in
+    let l = at-loop .loop .inv .2 in
+    let h = at-if1 .if1 .left in (
       p .0,
       (
         p .1 .0,
         (
           p .1 .1 .0,
           (
-            (omega (arith, h), omega (arith, h, r .few), omega (arith, h, r .work, l .work), omega (arith, h, p .1 .1 .1 .1 .0 .0, l .settings)),
-            ((l .masks ∙ r .masks, l .stacks ∙ r .stacks), up-stands (c .before .before .before .before .before .before .before .before .loop .inv .1) (c .before .before .before .before .before .up-next .ensures) (omega (arith, h))),
+            (omega (arith, h), omega (arith, h, p .1 .1 .1 .1 .0 .0, l .settings)),
+            (lendable _ _ _ _ (p .1 .1 .1 .0) (omega (arith, h)) (l .work) (l .masks) (l .stacks), up-stands (at-loop .loop .inv .1) (at-up-next .up-next .ensures) (omega (arith, h))),
           ),
         ),
       ),
