@@ -1,5 +1,4 @@
 -- `roomareas::put_down` meets its contract: before each turn the searches passed are put down. Assumes nothing.
-use mathlib.Core.Path.{_∙_}
 use Prim.Native.Nat.{_≤_, _-_}
 use native.Mathlib.Omega.{arith}
 use lib.ListN.{length-set}
@@ -50,7 +49,7 @@ slice-write-work-2 : tie.Need-slice-write-work-2 Inv-loop μ-loop
 slice-write-work-2 c = omega (arith, c .before .loop .inv .1 .size, c .before .before .pre .0)
 
 same-length : tie.Need-same-length Inv-loop μ-loop
-same-length c = length-set (c .before .loop .work) 1 (c .before .before .args .next) ∙ c .before .loop .inv .1 .size
+same-length c = simp length-set (c .before .loop .inv .1 .size)
 
 returns : tie.Need-returns Inv-loop μ-loop
 returns c =
