@@ -244,7 +244,9 @@ module _ (v : Version) (t goals w d w′ d′ : List ℕ) where
   complete-by : (r : Derived) → Derives v t goals w d w′ d′ r → deriveAnswer (derivedOf r) .number ≡ 30
       → (rs : List Node) → asked t goals 0 0 (length w) ≡ answer rs → (v : List ℕ) × Satisfies t goals v
   complete-by (Steps k) h e = absurd (omega arith)
-  complete-by (NotDerived f) h e = h .complete (f .place) (rw e)
+  complete-by (NotDerived f) h e =
+      let number : f .number ≡ 30 = omega arith in
+      h .complete (f .place) (rw number)
 
   pub told-derive : (r : Derived) {r′ : Derived} → Derives v t goals w d w′ d′ r → r ≡ r′ → HostDerives v t goals w d w′ d′ (deriveAnswer (derivedOf r′))
   told-derive r {r′} k e =
