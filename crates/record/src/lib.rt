@@ -1,10 +1,12 @@
-// Records: where they stand in a table, and reading one.
+// Records: where they stand in a table, and reading one; and a quick test of one that is read as two numbers of 32 bits.
 ghost use mathlib.Core.Path.{_≡_};
-ghost use Prim.Native.Nat.{_+_, _<_, _≤_};
+ghost use Prim.Native.Nat.{_+_, _%_, _<_, _≤_};
 ghost use lib.ListN.{length};
 ghost use Rattle.scope.specs.Outcome.{verdictOf};
 ghost use Rattle.scope.specs.Table.{nodeOf, nodeAt, formOk, rangeOk, orderOk, readRecord};
+ghost use mathlib.Core.Bool.{true};
 ghost use Rattle.record.specs.Place.{placeOf};
+ghost use Rattle.record.specs.Halves.{Passes};
 ghost use Rattle.record.specs.Read.{readOf, readVerdict};
 use scope::Node;
 use scope::Refusal;
@@ -84,6 +86,76 @@ fn order_ok(x: Node) -> bool
         return false;
     }
     x.b / 2 < x.c / 2
+}
+
+// Kinds 1 and 2.
+fn leaf_ok(low: u32, high: u32, n: usize) -> bool
+    requires { ⌜ low % 65536 < 3 ⌝ }
+    ensures { λ r. ⌜ (r ≡ true → Passes low high n) ⌝ }
+{
+    if high != 0 {
+        return false;
+    }
+    if low == 1 {
+        return true;
+    }
+    if low % 65536 != 2 {
+        return false;
+    }
+    low < 67108864
+}
+
+// Kinds 3 to 6, the usual order first. Half of b and c together is below n only where c is 0.
+fn pair_ok(low: u32, high: u32, n: usize) -> bool
+    requires { ⌜ (2 < low % 65536) × (low % 65536 < 7) × (n < 32768) ⌝ }
+    ensures { λ r. ⌜ (r ≡ true → Passes low high n) ⌝ }
+{
+    let a = low / 131072;
+    let b = high / 2;
+    if a < b {
+        return (b as usize) < n;
+    }
+    if low % 65536 != 5 {
+        return false;
+    }
+    if a == b {
+        return false;
+    }
+    (a as usize) < n
+}
+
+// Kinds 7 and 8.
+fn three_ok(low: u32, high: u32, n: usize) -> bool
+    requires { ⌜ (6 < low % 65536) × (low % 65536 < 9) ⌝ }
+    ensures { λ r. ⌜ (r ≡ true → Passes low high n) ⌝ }
+{
+    let b = high % 65536 / 2;
+    let c = high / 131072;
+    if b <= low / 131072 {
+        return false;
+    }
+    if c <= b {
+        return false;
+    }
+    (c as usize) < n
+}
+
+// Whether a record, as two numbers, passes as node n: yes is certain, and where it says no, the tests in order say which row.
+pub fn passes(low: u32, high: u32, n: usize) -> bool
+    requires { ⌜ n < 32768 ⌝ }
+    ensures { λ r. ⌜ (r ≡ true → Passes low high n) ⌝ }
+{
+    let kind = low % 65536;
+    if kind < 3 {
+        return leaf_ok(low, high, n);
+    }
+    if kind < 7 {
+        return pair_ok(low, high, n);
+    }
+    if 8 < kind {
+        return false;
+    }
+    three_ok(low, high, n)
 }
 
 // Where the record of node n starts.

@@ -3,7 +3,7 @@
 use mathlib.Core.Path.{_≡_, _∙_, ap, sym, refl}
 use mathlib.Core.List.{List, [], _∷_}
 use mathlib.Core.Bool.{Bool, true, false, cond, _||_}
-use Prim.Native.Nat.{ℕ, zero, suc, _+_, _-_, _%_, _≤_, _<_}
+use Prim.Native.Nat.{ℕ, zero, suc, _+_, _-_, _≤_, _<_}
 use native.Mathlib.Numerals.{add-one}
 use native.Mathlib.Omega.{arith}
 use lib.Dec.{eqb}
@@ -12,18 +12,20 @@ use lib.Seq.{getD-set-same, getD-set-other}
 use borrow.Author.Tests.{eq-eqb, ne-eqb, eqb-true, eqb-false}
 use Rattle.scope.specs.Table.{anyBelow, repeats}
 use Rattle.scope.proofs.Lists.{zeros-at}
+use Rattle.scope.proofs.Tests.{by-test}
 use Rattle.codec.specs.Valid.{Bytes}
-use Rattle.repeats.specs.Chains.{withHash, Chain, stop, link, Chains}
-use Rattle.repeats.proofs.Keys.{keyAt, hasKey, repeats-key}
+use Rattle.repeats.specs.Chains.{keyAt, hashOf, withHash, Chain, stop, link, Plain, Chains}
+use Rattle.repeats.proofs.Keys.{hasKey, repeats-key}
 
 -- arrays of zeros are the chains of no record
-pub no-chains : (t : List ℕ) → Chains t (replicate 4093 0) (replicate 2016 0) 0
+pub no-chains : (t : List ℕ) → Chains t (replicate 4096 0) (replicate 2016 0) 0
 unfolding withHash
 no-chains t = record {
-  heads = length-replicate {A = ℕ} 4093 0;
+  heads = length-replicate {A = ℕ} 4096 0;
   links = length-replicate {A = ℕ} 2016 0;
-  low = λ h. rw (zeros-at 4093 h) (omega arith);
-  leads = λ h. rw (zeros-at 4093 h) stop;
+  low = λ h. rw (zeros-at 4096 h) (omega arith);
+  leads = λ h. rw (zeros-at 4096 h) stop;
+  plain = λ m l. absurd (omega arith);
 }
 
 -- a store past a chain leaves it
@@ -34,7 +36,7 @@ past next n v (link s l p c) h =
     link s l (rw e p) (rw e (past next n v c (omega arith)))
 
 -- node n goes in front of the chain at the head h₀, and each other chain is as it was
-module _ {t head next : List ℕ} {n h₀ : ℕ} (g : Chains t head next n) (k : h₀ < 4093) (m : n < 2016) where
+module _ {t head next : List ℕ} {n h₀ : ℕ} (g : Chains t head next n) (k : h₀ < 4096) (m : n < 2016) where
   in-heads : h₀ < length head
   in-heads = omega (arith, g .heads)
 
@@ -53,13 +55,17 @@ module _ {t head next : List ℕ} {n h₀ : ℕ} (g : Chains t head next n) (k :
   low-more true h e = rw (← (eqb-true h₀ h e)) (omega (arith, getD-set-same head h₀ (n + 1) 0 in-heads))
   low-more false h e = omega (arith, getD-set-other head h₀ h (n + 1) 0 (λ q. eqb-false h₀ h e (sym q)), g .low h)
 
-  pub inserted : h₀ ≡ keyAt t n % 4093 → Chains t (set head h₀ (n + 1)) (set next n (getD head h₀ 0)) (n + 1)
+  plain-more : Plain t n → (i : ℕ) → i < n + 1 → Plain t i
+  plain-more z i l = by-test (eqb i n) (λ e. rw (eqb-true i n e) z) (λ e. g .plain i (let d = eqb-false i n e in omega arith))
+
+  pub inserted : h₀ ≡ hashOf (keyAt t n) → Plain t n → Chains t (set head h₀ (n + 1)) (set next n (getD head h₀ 0)) (n + 1)
   unfolding withHash
-  inserted e = record {
+  inserted e z = record {
     heads = length-set head h₀ (n + 1) ∙ g .heads;
     links = length-set next n (getD head h₀ 0) ∙ g .links;
     low = λ h. low-more (eqb h₀ h) h refl;
     leads = λ h. rw (add-one n, ← e) (simp add-one at (leads-more (eqb h₀ h) h refl));
+    plain = plain-more z;
   }
 
 -- some element passes the test
@@ -69,15 +75,15 @@ anyIn p (x ∷ l) = p x || anyIn p l
 
 -- a node with the key k has the hash of k: the search may keep to that chain
 module _ (t : List ℕ) (k : ℕ) where
-  any-hash : (n : ℕ) → anyIn (hasKey t k) (withHash t (k % 4093) n) ≡ anyBelow (hasKey t k) n
+  any-hash : (n : ℕ) → anyIn (hasKey t k) (withHash t (hashOf k) n) ≡ anyBelow (hasKey t k) n
   unfolding anyIn withHash anyBelow
   any-hash zero = refl
-  any-hash (suc n) = go (any-hash n) (eqb (keyAt t n % 4093) (k % 4093)) refl
+  any-hash (suc n) = go (any-hash n) (eqb (hashOf (keyAt t n)) (hashOf k)) refl
     where
-      go : anyIn (hasKey t k) (withHash t (k % 4093) n) ≡ anyBelow (hasKey t k) n → (is : Bool) → eqb (keyAt t n % 4093) (k % 4093) ≡ is
-          → anyIn (hasKey t k) (cond is (n ∷ withHash t (k % 4093) n) (withHash t (k % 4093) n)) ≡ (hasKey t k n || anyBelow (hasKey t k) n)
+      go : anyIn (hasKey t k) (withHash t (hashOf k) n) ≡ anyBelow (hasKey t k) n → (is : Bool) → eqb (hashOf (keyAt t n)) (hashOf k) ≡ is
+          → anyIn (hasKey t k) (cond is (n ∷ withHash t (hashOf k) n) (withHash t (hashOf k) n)) ≡ (hasKey t k n || anyBelow (hasKey t k) n)
       go i true e = ap (hasKey t k n ||_) i
-      go i false e = rw (ne-eqb (keyAt t n) k (λ q. eqb-false (keyAt t n % 4093) (k % 4093) e (ap (_% 4093) q))) i
+      go i false e = rw (ne-eqb (keyAt t n) k (λ q. eqb-false (hashOf (keyAt t n)) (hashOf k) e (ap hashOf q))) i
 
 -- What is left of a search for the key k along a chain, at the link s: whether one of the nodes that the links from s on lead
 -- through has it is the answer.
@@ -88,12 +94,12 @@ pub record Left (t next : List ℕ) (n k s : ℕ) : Type 0 where
   pub answers : anyIn (hasKey t k) rest ≡ repeats t n
 
 -- the search starts at the head of the key's hash
-pub at-head : {t head next : List ℕ} {n k : ℕ} → Bytes t → Chains t head next n → k ≡ keyAt t n → Left t next n k (getD head (k % 4093) 0)
-at-head {t} {head} {next} {n} {k} b g e = record {
-  low = g .low (k % 4093);
-  rest = withHash t (k % 4093) n;
-  chain = g .leads (k % 4093);
-  answers = any-hash t k n ∙ rw e (sym (repeats-key t n b));
+pub at-head : {t head next : List ℕ} {n k : ℕ} → Bytes t → Chains t head next n → Plain t n → k ≡ keyAt t n → Left t next n k (getD head (hashOf k) 0)
+at-head {t} {head} {next} {n} {k} b g z e = record {
+  low = g .low (hashOf k);
+  rest = withHash t (hashOf k) n;
+  chain = g .leads (hashOf k);
+  answers = any-hash t k n ∙ rw e (sym (repeats-key t n b (g .plain) z));
 }
 
 -- no link leads through no node

@@ -2,29 +2,41 @@
 use mathlib.Core.Path.{_≡_}
 use mathlib.Core.List.{List, [], _∷_}
 use mathlib.Core.Bool.{cond}
-use Prim.Native.Nat.{ℕ, zero, suc, _+_, _*_, _%_, _≤_}
+use Prim.Native.Nat.{ℕ, zero, suc, _+_, _*_, _/_, _%_, _<_, _≤_}
 use lib.Dec.{eqb}
 use lib.ListN.{length, getD}
-use Rattle.scope.specs.declared.Node.{Node}
-use Rattle.scope.specs.Table.{nodeAt}
+use Rattle.record.specs.Place.{placeOf}
+use Rattle.record.specs.Halves.{doubleAt}
 
--- a node's fields as one number
-abbrev pub keyOf : Node → ℕ
-keyOf x = x .kind + 256 * x .a + 16777216 * x .b + 1099511627776 * x .c
+-- two numbers of 32 bits as one; the record of node n as one number
+abbrev pub joint : ℕ → ℕ → ℕ
+joint low high = low + 4294967296 * high
+
+abbrev pub keyAt : List ℕ → ℕ → ℕ
+keyAt t n = joint (doubleAt t (placeOf n)) (doubleAt t (placeOf n + 4))
+
+-- the hash of a key, below 4,096
+unfoldable pub hashOf : ℕ → ℕ
+hashOf k = (3266489917 * (k % 4294967296) + 668265263 * (k / 4294967296)) / 1048576 % 4096
 
 -- the nodes below n whose key's hash is h, the last first
 unfoldable pub withHash : List ℕ → ℕ → ℕ → List ℕ
 withHash t h zero = []
-withHash t h (suc n) = cond (eqb (keyOf (nodeAt t n) % 4093) h) (n ∷ withHash t h n) (withHash t h n)
+withHash t h (suc n) = cond (eqb (hashOf (keyAt t n)) h) (n ∷ withHash t h n) (withHash t h n)
 
 -- the links from s on lead through these nodes; s is one more than the first, and 0 ends the chain
 pub data Chain (next : List ℕ) : ℕ → List ℕ → Type 0 where
   stop : Chain next 0 []
   link : (s : ℕ) (l : List ℕ) → getD next s 0 ≤ s → Chain next (getD next s 0) l → Chain next (suc s) (s ∷ l)
 
+-- byte 1 of the record of node n is 0
+abbrev pub Plain : List ℕ → ℕ → Type 0
+Plain t n = getD t (placeOf n + 1) 0 ≡ 0
+
 -- from each head the chain leads through the nodes below n with that hash
 pub record Chains (t head next : List ℕ) (n : ℕ) : Type 0 where
-  pub heads : length head ≡ 4093
+  pub heads : length head ≡ 4096
   pub links : length next ≡ 2016
   pub low : (h : ℕ) → getD head h 0 ≤ n
   pub leads : (h : ℕ) → Chain next (getD head h 0) (withHash t h n)
+  pub plain : (m : ℕ) → m < n → Plain t m

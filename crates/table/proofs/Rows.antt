@@ -1,7 +1,7 @@
 -- The rows of a table as its loops meet them: a record's, a block's, then the answers of the calls. Assumes nothing.
-use mathlib.Core.Path.{_≡_, _∙_, ap, sym}
+use mathlib.Core.Path.{_≡_, _∙_, ap, sym, refl}
 use mathlib.Core.List.{List}
-use mathlib.Core.Bool.{true, false}
+use mathlib.Core.Bool.{true, false, not}
 use Prim.Native.Nat.{ℕ, suc, _+_, _-_, _*_, _/_, _<_, _≤_}
 use native.Mathlib.Nat.{add-sub-cancel-left, zero-add}
 use native.Mathlib.Omega.{arith}
@@ -10,25 +10,28 @@ use lib.ListN.{length, getD}
 use borrow.Author.Tests.{ne-eqb, eqb-true, lt-ltb, le-ltb}
 use Rattle.scope.specs.declared.Format.{Format}
 use Rattle.scope.specs.declared.Node.{Node}
-use Rattle.scope.specs.declared.Refusal.{Refusal}
 use Rattle.scope.specs.declared.Verdict.{Verdict}
 use Rattle.scope.specs.Outcome.{Outcome, answer, refused, fine, verdictOf, first, require, _>>_}
 use Rattle.scope.specs.Block.{blockTest, blockAt, recordAt, recordsIn}
-use Rattle.scope.specs.Table.{tables, nodeAt, readRecord, repeats, recordTest, lengthOk, blockRows, tableTest, listFrom, decode}
+use Rattle.scope.specs.Table.{tables, nodeAt, formOk, readRecord, repeats, recordTest, lengthOk, blockRows, tableTest, listFrom, decode}
 use Rattle.scope.specs.Calls.{tableCount, tableRecord, noNode}
 use Rattle.scope.proofs.Tests.{refused-no, then-first, bound, passed-on}
 use Rattle.scope.proofs.Lists.{length-listFrom, getD-listFrom}
 use Rattle.scope.proofs.Records.{count-at}
 use Rattle.block.specs.Format.{Fitting}
 use Rattle.record.specs.declared.NodeRead.{NodeRead}
-use Rattle.record.specs.declared.NodeRead.the-variants.{Refused as Unread}
+use Rattle.record.specs.declared.NodeRead.the-variants.{Found, Refused as Unread}
 use Rattle.record.specs.Read.{readOf, readVerdict}
 use Rattle.codec.specs.Valid.{Bytes}
+use Rattle.codec.proofs.Rows.{both}
+use Rattle.codec.proofs.Records.{reads, reading}
 use Rattle.codec.proofs.Blocks.{passed}
 use Rattle.codec.proofs.Tables.{answers, length-ok, block-of}
 use Rattle.record.specs.Place.{placeOf}
-use Rattle.repeats.specs.Chains.{Chains}
-use Rattle.table.specs.Counted.{Tested}
+use Rattle.record.specs.Halves.{doubleAt, Passes}
+use Rattle.repeats.specs.Chains.{Plain, Chains}
+use Rattle.repeats.proofs.Keys.{byte-at, halves-node, halves-one}
+use Rattle.table.specs.Counted.{ownRows, Tested}
 
 -- a refusal is the verdict of the tests, and nothing is said of the chains
 pub refuses : (t head next : List ℕ) (v : Verdict) (tests : Outcome (Unit {0})) (n : ℕ) {number place : ℕ}
@@ -37,23 +40,54 @@ refuses t head next v tests n e q = record { verdict = e ∙ sym q; entered = λ
 
 -- the rows of record n: its refusal; 17; none
 module _ (t : List ℕ) (n : ℕ) where
-  pub row-refused : {number place : ℕ} → readRecord (recordAt tables t n) n ≡ refused number place → recordTest t n ≡ refused number place
+  pub row-refused : {number place : ℕ} → ownRows t n ≡ refused number place → recordTest t n ≡ refused number place
   unfolding recordTest
-  row-refused e = rw e
+  row-refused e = go (readRecord (recordAt tables t n) n) e
+    where
+      go : {number place : ℕ} (o : Outcome Node) → (o >> fine) ≡ refused number place → (o >> require (not (repeats t n)) 17 n) ≡ refused number place
+      go (answer x) e = refused-no (sym e)
+      go (refused number place) e = cc
 
-  pub row-repeat : {x : Node} → readRecord (recordAt tables t n) n ≡ answer x → repeats t n ≡ true → recordTest t n ≡ refused 17 n
+  -- a record that reads is a node
+  pub reads-own : ownRows t n ≡ fine → (x : Node) × (readRecord (recordAt tables t n) n ≡ answer x)
+  reads-own e = go (readRecord (recordAt tables t n) n) e
+    where
+      go : (o : Outcome Node) → (o >> fine) ≡ fine → (x : Node) × (o ≡ answer x)
+      go (answer x) e = (x, refl)
+      go (refused number place) e = refused-no e
+
+  pub row-repeat : ownRows t n ≡ fine → repeats t n ≡ true → recordTest t n ≡ refused 17 n
   unfolding recordTest
-  row-repeat e q = rw (e, q)
+  row-repeat e q = rw (reads-own e .1, q)
 
-  pub row-fine : {x : Node} → readRecord (recordAt tables t n) n ≡ answer x → repeats t n ≡ false → recordTest t n ≡ fine
+  pub row-fine : ownRows t n ≡ fine → repeats t n ≡ false → recordTest t n ≡ fine
   unfolding recordTest
-  row-fine e q = rw (e, q)
+  row-fine e q = rw (reads-own e .1, q)
 
--- a record that is refused is its row's refusal, passed on
-pub passes-on : (t head next : List ℕ) (n m : ℕ) (v : Verdict) (r : NodeRead) (f : Refusal)
-    → verdictOf v ≡ readVerdict r → r ≡ Unread f → readOf r ≡ readRecord (recordAt tables t n) n → Tested t head next v (recordTest t n) m
-passes-on t head next n m v r f p q e =
-    refuses t head next v (recordTest t n) m (p ∙ ap readVerdict q) (row-refused t n (sym e ∙ ap readOf q))
+  -- byte 1 of a record that reads is 0
+  pub own-plain : ownRows t n ≡ fine → Plain t n
+  unfolding formOk
+  own-plain e =
+      let r = recordAt tables t n in
+      let p = reads r n (reads-own e .1) in
+      sym (byte-at t n 1 (lit< tt)) ∙ eqb-true (getD r 1 0) 0 (both (eqb (getD r 1 0) 0) _ (p .form) .0)
+
+  -- the quick test lets only records pass that read
+  pub own-passes : Bytes t → Passes (doubleAt t (placeOf n)) (doubleAt t (placeOf n + 4)) n → fine ≡ ownRows t n
+  own-passes b p =
+      let r = recordAt tables t n in
+      let x = halves-node t n b in
+      let e : readRecord r n ≡ answer (nodeAt t n) =
+      reading r n (record { node = refl; form = rw (x, halves-one t n b) at (p .form); range = rw x at (p .range); order = rw x at (p .order) }) in
+      rw e
+
+  -- what was read says the same
+  pub own-read : (r : NodeRead) → readOf r ≡ readRecord (recordAt tables t n) n → readVerdict r ≡ ownRows t n
+  own-read r e = go r ∙ ap (_>> fine) e
+    where
+      go : (r : NodeRead) → readVerdict r ≡ (readOf r >> fine)
+      go (Found x) = refl
+      go (Unread f) = refl
 
 pub fitting : (F : Format) → F ≡ tables → Fitting F
 fitting F e = rw e (record { room = lit≤ tt; numbered = lit< tt })

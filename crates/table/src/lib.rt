@@ -1,6 +1,6 @@
 // Reading a table: the first refusal of 10 to 17, the node count, the record of a literal's node.
 ghost use mathlib.Core.Path.{_≡_};
-ghost use Prim.Native.Nat.{ℕ, _+_, _*_, _-_, _<_, _≤_};
+ghost use Prim.Native.Nat.{ℕ, _+_, _*_, _-_, _%_, _<_, _≤_};
 ghost use lib.ListN.{length, getD};
 ghost use Rattle.scope.specs.Outcome.{verdictOf, first};
 ghost use Rattle.scope.specs.Block.{blockAt};
@@ -8,8 +8,9 @@ ghost use Rattle.scope.specs.Table.{tables, lengthOk, recordTest, blockRows, ta
 ghost use Rattle.scope.specs.Calls.{tableCount, tableRecord};
 ghost use Rattle.record.specs.Read.{readOf};
 ghost use Rattle.record.specs.Place.{placeOf};
+ghost use Rattle.record.specs.Halves.{doubleAt};
 ghost use Rattle.repeats.specs.Chains.{Chains};
-ghost use Rattle.table.specs.Counted.{countedOf, Tested};
+ghost use Rattle.table.specs.Counted.{countedOf, ownRows, Tested};
 use record::NodeRead;
 use scope::Format;
 use scope::Refusal;
@@ -46,18 +47,31 @@ fn length_ok(n: usize) -> bool
     n <= 16384
 }
 
-// Rows 14 to 17 of node n, which is then entered in the chains.
-fn record_verdict(t: &[u8], head: &mut [u16], next: &mut [u16], n: usize) -> Verdict
-    requires { ⌜ (n < 2016) × (placeOf n + 8 ≤ length (now t)) × Chains (now t) (now head) (now next) n ⌝ }
-    ensures { λ r. ⌜ Tested (now (t .entry)) (now (head .exit)) (now (next .exit)) r (recordTest (now (t .entry)) n) (n + 1) ⌝ }
+// Rows 14 to 16 of node n, whose record is low and high: where the quick test does not let it pass, they are asked in order.
+fn own_rows(t: &[u8], n: usize, at: usize, low: u32, high: u32) -> Verdict
+    requires { ⌜ (n < 2016) × (at ≡ placeOf n) × (placeOf n + 8 ≤ length (now t)) × (low ≡ doubleAt (now t) at) × (high ≡ doubleAt (now t) (at + 4)) ⌝ }
+    ensures { λ r. ⌜ verdictOf r ≡ ownRows (now (t .entry)) n ⌝ }
 {
-    let at = record::place(n);
+    if record::passes(low, high, n) {
+        return Verdict::Fine;
+    }
     let end = at + 8;
     let r = record::read_record(&t[at..end], n);
-    let NodeRead::Found(x) = r else {
-        return record::pass(r);
+    record::pass(r)
+}
+
+// Rows 14 to 17 of node n, whose record is at a place and which is then entered in the chains.
+fn record_verdict(t: &[u8], head: &mut [u16], next: &mut [u16], n: usize, at: usize) -> Verdict
+    requires { ⌜ (n < 2016) × (at ≡ placeOf n) × (placeOf n + 8 ≤ length (now t)) × Chains (now t) (now head) (now next) n ⌝ }
+    ensures { λ r. ⌜ Tested (now (t .entry)) (now (head .exit)) (now (next .exit)) r (recordTest (now (t .entry)) n) (n + 1) ⌝ }
+{
+    let low = words::double(t, at);
+    let high = words::double(t, at + 4);
+    let v = own_rows(t, n, at, low, high);
+    let Verdict::Fine = v else {
+        return v;
     };
-    if repeats::enter(t, head, next, n, x) {
+    if repeats::enter(t, head, next, n, low, high) {
         return Verdict::Refused(Refusal {
             number: 17,
             place: n,
@@ -66,18 +80,21 @@ fn record_verdict(t: &[u8], head: &mut [u16], next: &mut [u16], n: usize) -> Ver
     Verdict::Fine
 }
 
-// The records of nodes from base up to end, one after another.
+// The records of nodes from base up to end, one after another, all in one block.
 fn records(t: &[u8], head: &mut [u16], next: &mut [u16], base: usize, end: usize) -> Verdict
-    requires { ⌜ (base ≤ end) × (end ≤ 2016) × ((n : ℕ) → n < end → placeOf n + 8 ≤ length (now t)) × Chains (now t) (now head) (now next) base ⌝ }
+    requires { ⌜ (base % 63 ≡ 0) × (base ≤ end) × (end ≤ base + 63) × (end ≤ 2016) ⌝ }
+    requires { ⌜ ((n : ℕ) → n < end → placeOf n + 8 ≤ length (now t)) × Chains (now t) (now head) (now next) base ⌝ }
     ensures { λ r. ⌜ Tested (now (t .entry)) (now (head .exit)) (now (next .exit)) r (first (recordTest (now (t .entry))) base (end - base)) end ⌝ }
 {
     let mut n = base;
+    let mut at = record::place(base);
     while n < end {
-        let v = record_verdict(t, head, next, n);
+        let v = record_verdict(t, head, next, n, at);
         let Verdict::Fine = v else {
             return v;
         };
         n += 1;
+        at += 8;
     }
     Verdict::Fine
 }
@@ -108,7 +125,7 @@ pub fn verdict(t: &[u8]) -> Verdict
             place: 0,
         });
     }
-    let mut head = [0u16; 4093];
+    let mut head = [0u16; 4096];
     let mut next = [0u16; 2016];
     let blocks = t.len() / 512;
     let mut j = 0;

@@ -1,11 +1,13 @@
 -- `repeats::insert` meets its contract: one store for the link, one for the head. Assumes nothing.
-use mathlib.Core.Path.{ap}
-use Prim.Native.Nat.{_%_}
-use native.Mathlib.Omega.{arith}
+use mathlib.Core.Path.{_∙_, ap}
 use borrow.Author.Needs.{needs}
+use Rattle.repeats.specs.Chains.{hashOf}
 use Rattle.repeats.proofs.Chains.{inserted}
 use Rattle.repeats.proofs.insert.Statement.{statement}
 use Rattle.repeats.proofs.insert.Tie as tie
+
+hash-requires : tie.Need-hash-requires
+hash-requires c κs = search needs
 
 mul-next : tie.Need-mul-next
 mul-next c = search needs
@@ -38,12 +40,16 @@ same-length-2 : tie.Need-same-length-2
 same-length-2 c = search needs
 
 returns : tie.Need-returns
-returns c = inserted (c .before .pre .2) (omega arith) (c .before .pre .0) (ap (_% 4093) (c .before .pre .1))
+returns c =
+    let p = c .before .before .before .before .before .pre in
+    let h = c .before .hash .ensures in
+    inserted (p .3) (h .1) (p .0) (h .0 ∙ ap hashOf (p .1)) (p .2)
 
 pub insert-spec : {M : Type 1} → statement M
 insert-spec =
     tie.close
     (tie.spec
+    hash-requires
     mul-next
     slice-read-next
     mul-next-2

@@ -1,19 +1,24 @@
 -- `repeats::seen` meets its contract: the walk along the chain of the key's hash finds what `repeats` does. The invariant says what
 -- is left of that search; the links fall, so the measure is the link. Assumes nothing.
 use mathlib.Core.Path.{_∙_, sym}
-use Prim.Native.Nat.{_%_, _-_}
+use Prim.Native.Nat.{_-_}
 use native.Mathlib.Omega.{arith}
 use borrow.Author.Needs.{needs}
+use borrow.Author.Tests.{eqb-true, eqb-false}
+use Rattle.repeats.specs.Chains.{joint}
 use Rattle.repeats.proofs.Keys.{place-mono}
 use Rattle.repeats.proofs.Chains.{Left, at-head, at-end, falls, finds, goes-on}
 use Rattle.repeats.proofs.seen.Statement.{statement}
 use Rattle.repeats.proofs.seen.Tie as tie
 
 abbrev Inv-loop : tie.InvT-loop
-Inv-loop t head next n k s₀ s = Left t next n k s
+Inv-loop t head next n low high h s₀ s = Left t next n (joint low high) s
 
 abbrev μ-loop : tie.MeasureT-loop
-μ-loop t head next n k s₀ s = s
+μ-loop t head next n low high h s₀ s = s
+
+hash-requires : tie.Need-hash-requires Inv-loop μ-loop
+hash-requires c κs = search needs
 
 mul-s : tie.Need-mul-s Inv-loop μ-loop
 mul-s c = search needs
@@ -22,22 +27,24 @@ shared-slice-read-s : tie.Need-shared-slice-read-s Inv-loop μ-loop
 shared-slice-read-s c = search needs
 
 cast-s : tie.Need-cast-s Inv-loop μ-loop
-cast-s c = omega (arith, c .shared-slice-known4 .given (c .before .before .before .before .args .k % 4093))
+cast-s c = omega (arith, c .shared-slice-known4 .given (c .before .hash .result))
 
 loop-holds : tie.Need-loop-holds Inv-loop μ-loop
-loop-holds c = at-head (λ i. c .before .before .before .shared-slice-known .given i .fits) (c .before .before .before .before .pre .3) (c .before .before .before .before .pre .2)
+loop-holds c =
+    let p = c .before .before .before .before .before .pre in
+    rw (c .before .hash .ensures .0) (at-head (λ i. c .before .before .before .before .shared-slice-known .given i .fits) (p .4) (p .3) (p .2))
 
-sub-key-at : tie.Need-sub-key-at Inv-loop μ-loop
-sub-key-at c = search needs
+sub-same : tie.Need-sub-same Inv-loop μ-loop
+sub-same c = search needs
 
-key-at-requires : tie.Need-key-at-requires Inv-loop μ-loop
-key-at-requires c κs = (
+same-requires : tie.Need-same-requires Inv-loop μ-loop
+same-requires c κs = (
   omega arith,
-  omega (arith, place-mono (c .before .loop .s - 1) (c .before .before .before .before .before .before .args .n) (omega arith)),
+  omega (arith, place-mono (c .before .loop .s - 1) (c .before .before .before .before .before .before .before .args .n) (omega arith)),
 )
 
 returns : tie.Need-returns Inv-loop μ-loop
-returns c = finds (c .before .before .before .loop .inv) (λ z. omega arith) (sym (c .before .key-at .ensures) ∙ c .if1 .taken)
+returns c = finds (c .before .before .before .loop .inv) (λ z. omega arith) (eqb-true _ _ (sym (c .before .same .ensures) ∙ c .if1 .taken))
 
 sub-s : tie.Need-sub-s Inv-loop μ-loop
 sub-s c = search needs
@@ -59,7 +66,7 @@ loop-again c =
     goes-on
     (c .before .before .before .before .loop .inv)
     (λ z. omega arith)
-    (λ q. c .before .if1 .left (c .before .before .key-at .ensures ∙ q))
+    (eqb-false _ _ (sym (c .before .before .same .ensures) ∙ c .before .if1 .left))
 
 returns-2 : tie.Need-returns-2 Inv-loop μ-loop
 returns-2 c = at-end (c .before .loop .inv) (omega arith)
@@ -70,12 +77,13 @@ seen-spec =
     (tie.spec
     Inv-loop
     μ-loop
+    hash-requires
     mul-s
     shared-slice-read-s
     cast-s
     loop-holds
-    sub-key-at
-    key-at-requires
+    sub-same
+    same-requires
     returns
     sub-s
     mul-s-2

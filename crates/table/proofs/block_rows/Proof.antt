@@ -85,8 +85,10 @@ records-requires c κs =
     let at-rest = c .before .before .before in
     let start = at-rest .before .before .before .before .before .before .before .before in
     let p = start .pre in
-    let k = most (at-rest) in
-    (omega arith, omega (arith, p .0, k), λ n h. within (start .args .t .now) (start .args .j) n (p .1) (omega (arith, h, k)), p .2)
+    let k = most (at-rest) in (
+      (omega arith, omega arith, omega (arith, k), omega (arith, p .0, k)),
+      (λ n h. within (start .args .t .now) (start .args .j) n (p .1) (omega (arith, h, k)), p .2),
+    )
 
 same-length : tie.Need-same-length
 same-length c = search needs

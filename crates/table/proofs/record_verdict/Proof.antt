@@ -1,62 +1,54 @@
 -- `table::record_verdict` meets its contract: each return is the row that its tests led to. Assumes nothing.
 use mathlib.Core.Path.{_≡_, _∙_, ap, sym, refl}
-use mathlib.Core.List.{List}
-use Prim.Native.Nat.{ℕ}
-use Rattle.record.specs.Read.{readOf}
-use Rattle.scope.specs.Block.{recordAt}
-use Rattle.scope.specs.Table.{tables, readRecord}
-use Rattle.scope.proofs.Records.{part-record}
-use Rattle.codec.proofs.Records.{reads as record-reads}
-use Rattle.table.proofs.Rows.{refuses, row-repeat, row-fine, passes-on}
+use Prim.Native.Nat.{ℕ, _+_}
+use Rattle.scope.specs.Outcome.{fine, verdictOf}
+use Rattle.record.specs.Halves.{doubleAt}
+use Rattle.table.specs.Counted.{ownRows}
+use Rattle.table.proofs.Rows.{refuses, row-refused, row-repeat, row-fine, own-plain}
 use borrow.Author.Needs.{needs}
 use Rattle.table.proofs.record_verdict.Statement.{statement}
 use Rattle.table.proofs.record_verdict.Tie as tie
 
--- what was read is the record of node n
-reads : (c : tie.After-read-record) → let start = c .before .before .before .before .before .before in
-    readOf (c .read-record .result) ≡ readRecord (recordAt tables (start .args .t .now) (start .args .n)) (start .args .n)
-reads c =
-    let a = c .before .before .before .before .before .before .args in
-    c .read-record .ensures ∙ ap (λ (l : List ℕ). readRecord l (a .n)) (part-record tables (a .t .now) (a .n) _ (c .before .before .place .ensures))
+-- past the branch the record reads
+reads : (c : tie.After-enum-told) → let a = c .before .before .before .before .before .before .before .before .args in ownRows (a .t .now) (a .n) ≡ fine
+reads c = sym (c .before .before .own-rows .ensures) ∙ ap verdictOf (c .enum-told .given .1)
 
-place-requires : tie.Need-place-requires
-place-requires c κs = search needs
+double-requires : tie.Need-double-requires
+double-requires c κs = search needs
 
-add-end : tie.Need-add-end
-add-end c = search needs
+add-double : tie.Need-add-double
+add-double c = search needs
 
-sub-read-record : tie.Need-sub-read-record
-sub-read-record c = search needs
+double-requires-2 : tie.Need-double-requires-2
+double-requires-2 c κs = search needs
 
-part-read-record-start : tie.Need-part-read-record-start
-part-read-record-start c = search needs
-
-part-read-record-end : tie.Need-part-read-record-end
-part-read-record-end c = search needs
-
-read-record-requires : tie.Need-read-record-requires
-read-record-requires c κs = search needs
-
-enum-known-r : tie.Need-enum-known-r
-enum-known-r c = search needs
+own-rows-requires : tie.Need-own-rows-requires
+own-rows-requires c κs =
+    let p = c .before .before .before .before .before .pre in
+    (p .0, p .1, p .2, c .before .double .ensures, c .double2 .ensures)
 
 enum-told : tie.Need-enum-told
 enum-told c = search needs
 
-pass-requires : tie.Need-pass-requires
-pass-requires c κs = search needs
+enum-told-2 : tie.Need-enum-told-2
+enum-told-2 c = search needs
 
 returns : tie.Need-returns
 returns c =
-    let a = c .before .before .before .before .before .before .before .before .before .args in
-    passes-on (a .t .now) _ _ (a .n) _ _ _ _ (c .pass .ensures) (c .before .enum-told .given .1) (reads (c .before .before .before))
+    let a = c .before .before .before .before .before .before .before .before .args in
+    let told = ap verdictOf (c .enum-told2 .given .1) in
+    refuses _ _ _ _ _ _ told (row-refused (a .t .now) (a .n) (sym (c .before .before .own-rows .ensures) ∙ told))
 
 enter-requires : tie.Need-enter-requires
 enter-requires c κs =
-    let start = c .before .before .before .before .before .before .before .before .before .before .before in
-    let a = start .args in
-    let node = sym (reads (c .before .before .before .before .before)) ∙ ap readOf (c .before .before .before .r .given .1) in
-    (start .pre .0, start .pre .1, sym (record-reads (recordAt tables (a .t .now) (a .n)) (a .n) node .node), start .pre .2)
+    let at-told = c .before .before in
+    let at-double2 = at-told .before .before .before in
+    let start = at-double2 .before .before .before .before .before in
+    let t = start .args .t .now in
+    let p = start .pre in
+    let low = at-double2 .before .double .ensures ∙ ap (doubleAt t) (p .1) in
+    let high = at-double2 .double2 .ensures ∙ ap (λ (z : ℕ). doubleAt t (z + 4)) (p .1) in
+    (p .0, p .2, rw (low, high), own-plain t (start .args .n) (reads at-told), p .3)
 
 same-length : tie.Need-same-length
 same-length c = search needs
@@ -67,12 +59,9 @@ same-length-2 c = search needs
 returns-2 : tie.Need-returns-2
 returns-2 c =
     let at-enter = c .before .before .before .before .before in
-    let at-r = at-enter .before .before .before .before in
-    let at-rest = at-r .before .before in
-    let start = at-rest .before .before .before .before .before .before in
-    let a = start .args in
-    let node = sym (reads (at-rest)) ∙ ap readOf (at-r .r .given .1) in
-    refuses _ _ _ _ _ _ refl (row-repeat (a .t .now) (a .n) node (sym (at-enter .enter .ensures .0) ∙ c .if1 .taken))
+    let at-told = at-enter .before .before .before in
+    let a = at-told .before .before .before .before .before .before .before .before .args in
+    refuses _ _ _ _ _ _ refl (row-repeat (a .t .now) (a .n) (reads at-told) (sym (at-enter .enter .ensures .0) ∙ c .if1 .taken))
 
 same-length-3 : tie.Need-same-length-3
 same-length-3 c = search needs
@@ -83,26 +72,20 @@ same-length-4 c = search needs
 returns-3 : tie.Need-returns-3
 returns-3 c =
     let at-enter = c .before .before .before .before .before in
-    let at-r = at-enter .before .before .before .before in
-    let at-rest = at-r .before .before in
-    let start = at-rest .before .before .before .before .before .before in
-    let a = start .args in
-    let node = sym (reads (at-rest)) ∙ ap readOf (at-r .r .given .1) in
-    record { verdict = sym (row-fine (a .t .now) (a .n) node (sym (at-enter .enter .ensures .0) ∙ c .if1 .left)); entered = λ _. at-enter .enter .ensures .1 }
+    let at-told = at-enter .before .before .before in
+    let a = at-told .before .before .before .before .before .before .before .before .args in
+    record { verdict = sym (row-fine (a .t .now) (a .n) (reads at-told) (sym (at-enter .enter .ensures .0) ∙ c .if1 .left)); entered = λ _. at-enter .enter .ensures .1 }
 
 pub record-verdict-spec : {M : Type 1} → statement M
 record-verdict-spec =
     tie.close
     (tie.spec
-    place-requires
-    add-end
-    sub-read-record
-    part-read-record-start
-    part-read-record-end
-    read-record-requires
-    enum-known-r
+    double-requires
+    add-double
+    double-requires-2
+    own-rows-requires
     enum-told
-    pass-requires
+    enum-told-2
     returns
     enter-requires
     same-length

@@ -1,11 +1,12 @@
 -- `table::records` meets its contract: what is left of the tests at n is the answer, and the nodes below n are in the chains.
 -- Assumes nothing.
 use mathlib.Core.Path.{_≡_, _∙_, ap, sym, refl}
-use Prim.Native.Nat.{_≤_, _-_}
+use Prim.Native.Nat.{_+_, _*_, _≤_, _-_}
 use lib.ListN.{length}
 use Rattle.scope.specs.Outcome.{verdictOf, first}
 use Rattle.scope.specs.Table.{recordTest}
 use Rattle.scope.proofs.First.{stops, goes, done}
+use Rattle.record.specs.Place.{placeOf}
 use Rattle.repeats.specs.Chains.{Chains}
 use Rattle.table.proofs.Rows.{refuses}
 use native.Mathlib.Omega.{arith}
@@ -14,23 +15,32 @@ use Rattle.table.proofs.records.Statement.{statement}
 use Rattle.table.proofs.records.Tie as tie
 
 abbrev Inv-loop : tie.InvT-loop
-Inv-loop t head₀ next₀ base end n₀ head next n =
+Inv-loop t head₀ next₀ base end n₀ at₀ head next n at =
     (n ≤ end)
     × Chains t head next n
     × (first (recordTest t) n (end - n) ≡ first (recordTest t) base (end - base))
     × (length head ≡ length head₀)
     × (length next ≡ length next₀)
+    × (base ≤ n)
+    × (at + 8 * base ≡ placeOf base + 8 * n)
 
 abbrev μ-loop : tie.MeasureT-loop
-μ-loop t head₀ next₀ base end n₀ head next n = end - n
+μ-loop t head₀ next₀ base end n₀ at₀ head next n at = end - n
+
+place-requires : tie.Need-place-requires Inv-loop μ-loop
+place-requires c κs = omega (arith, c .before .before .before .pre .0)
 
 loop-holds : tie.Need-loop-holds Inv-loop μ-loop
-loop-holds c = (c .before .before .before .pre .0, c .before .before .before .pre .3, refl, refl, refl)
+loop-holds c =
+    let p = c .before .before .before .before .pre in
+    (p .0 .1, p .1 .1, refl, refl, refl, omega arith, omega (arith, c .place .ensures))
 
 record-verdict-requires : tie.Need-record-verdict-requires Inv-loop μ-loop
 record-verdict-requires c κs =
-    let p = c .before .before .before .before .before .before .before .pre in
-    (omega (arith, p .1), p .2 _ (c .before .before .loop-test .taken), c .before .before .before .loop .inv .1)
+    let p = c .before .before .before .before .before .before .before .before .pre in
+    let inv = c .before .before .before .loop .inv in
+    let less = c .before .before .loop-test .taken in
+    (omega (arith, p .0, less), omega (arith, p .0, less, inv .5, inv .6), p .1 .0 _ less, inv .1)
 
 enum-told : tie.Need-enum-told Inv-loop μ-loop
 enum-told c = search needs
@@ -56,6 +66,12 @@ returns c =
 add-n : tie.Need-add-n Inv-loop μ-loop
 add-n c = search needs
 
+add-at : tie.Need-add-at Inv-loop μ-loop
+add-at c =
+    let p = c .before .before .before .before .before .before .before .before .before .before .before .before .before .before .before .pre in
+    let inv = c .before .before .before .before .before .before .before .before .before .before .loop .inv in
+    omega (arith, p .0, inv .5, inv .6)
+
 loop-less : tie.Need-loop-less Inv-loop μ-loop
 loop-less c = search needs
 
@@ -69,6 +85,8 @@ loop-again c =
       sym (goes _ _ _ (c .before .before .before .before .before .before .before .before .before .loop-test .taken) (sym (v .verdict) ∙ told)) ∙ inv .2,
       c .before .before .before .before .before .before .record-verdict .kept .1 .0 ∙ inv .3,
       c .before .before .before .before .before .before .record-verdict .kept .1 .1 .0 ∙ inv .4,
+      omega (arith, inv .5),
+      omega (arith, inv .6),
     )
 
 same-length-3 : tie.Need-same-length-3 Inv-loop μ-loop
@@ -81,7 +99,7 @@ returns-2 : tie.Need-returns-2 Inv-loop μ-loop
 returns-2 c =
     let inv = c .before .loop .inv in
     let all = sym (done (recordTest _) _ _ (c .loop-test .left)) ∙ inv .2 in
-    let e : c .before .before .before .before .before .args .end ≡ c .before .loop .n = omega (arith, inv .0, c .loop-test .left) in
+    let e : c .before .before .before .before .before .before .args .end ≡ c .before .loop .n = omega (arith, inv .0, c .loop-test .left) in
     record { verdict = all; entered = λ _. rw e (inv .1) }
 
 pub records-spec : {M : Type 1} → statement M
@@ -90,6 +108,7 @@ records-spec =
     (tie.spec
     Inv-loop
     μ-loop
+    place-requires
     loop-holds
     record-verdict-requires
     enum-told
@@ -98,6 +117,7 @@ records-spec =
     same-length-2
     returns
     add-n
+    add-at
     loop-less
     loop-again
     same-length-3

@@ -25,7 +25,7 @@ Inv-loop t head₀ next₀ blocks j₀ head next j =
     × (lengthOk (length t) ≡ true)
     × (j < blocks → Chains t head next (63 * j))
     × (first (blockRows t) j (blocks - j) ≡ first (blockRows t) 0 blocks)
-    × (length head ≡ 4093)
+    × (length head ≡ 4096)
     × (length next ≡ 2016)
 
 abbrev μ-loop : tie.MeasureT-loop
