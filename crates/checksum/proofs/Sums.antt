@@ -68,33 +68,33 @@ across-none b zero = refl
 across-none b (suc n) = rw (across-none b n, zero-mul)
 
 -- a row more
-across-more : (b : List ℕ) (r n : ℕ) → across b (suc r) n ≡ across b r n + weight (85 * r) * weighted (drop (85 * r) b) n
+across-more : (b : List ℕ) (r n : ℕ) → across b (suc r) n ≡ across b r n + weight (34 * r) * weighted (drop (34 * r) b) n
 unfolding column weighted across
 across-more b r zero = rw mul-zero
 across-more b r (suc n) =
-    let w : ℕ = weight (85 * r) in
-    let x : ℕ = getD b (85 * r + n) 0 in
-    let e : n + 85 * r ≡ 85 * r + n = omega arith in
+    let w : ℕ = weight (34 * r) in
+    let x : ℕ = getD b (34 * r + n) 0 in
+    let e : n + 34 * r ≡ 34 * r + n = omega arith in
     let here : (column b n r + x * w) * weight n ≡ column b n r * weight n + w * (x * weight n) =
     rw (add-mul, mul-comm x w, mul-assoc w) in
-    rw (across-more b r n, e, here, getD-drop (85 * r) b n 0, mul-add) (omega arith)
+    rw (across-more b r n, e, here, getD-drop (34 * r) b n 0, mul-add) (omega arith)
 
 -- all rows
-across-rows : (b : List ℕ) (r : ℕ) → across b r 85 % 65521 ≡ weighted b (85 * r) % 65521
+across-rows : (b : List ℕ) (r : ℕ) → across b r 34 % 65521 ≡ weighted b (34 * r) % 65521
 unfolding weighted
 across-rows b zero = rw across-none
 across-rows b (suc r) =
-    rw (across-more b r 85, mul-suc)
-    (sum-mod _ _ _ _ (across-rows b r) refl ∙ weighted-from b (85 * r) 85)
+    rw (across-more b r 34, mul-suc)
+    (sum-mod _ _ _ _ (across-rows b r) refl ∙ weighted-from b (34 * r) 34)
 
 -- the columns' weighted sum is the block's check
-pub columns-check : {b s : List ℕ} → Columns b s → weighted s 85 % 65521 ≡ checkOf b
+pub columns-check : {b s : List ℕ} → Columns b s → weighted s 34 % 65521 ≡ checkOf b
 unfolding checkOf weighted across
-columns-check {b} {s} h = ap (_% 65521) (to 85 (omega arith)) ∙ across-rows b 6
+columns-check {b} {s} h = ap (_% 65521) (to 34 (omega arith)) ∙ across-rows b 15
   where
-    to : (n : ℕ) → n ≤ 85 → weighted s n ≡ across b 6 n
+    to : (n : ℕ) → n ≤ 34 → weighted s n ≡ across b 15 n
     to zero l = refl
-    to (suc n) l = rw (to n (omega arith), h .each n l)
+    to (suc n) l = rw (to n (omega arith), h .each n (omega arith))
 
 -- a column with one row more, and the power of the next row
 pub column-none : (b : List ℕ) (c : ℕ) → 0 ≡ column b c 0
@@ -102,7 +102,7 @@ unfolding column
 column-none b c = refl
 
 pub column-more : {sum power : ℕ} (b : List ℕ) (c r : ℕ)
-    → sum ≡ column b c r → power ≡ weight (85 * r) → sum + getD b (c + 85 * r) 0 * power ≡ column b c (r + 1)
+    → sum ≡ column b c r → power ≡ weight (34 * r) → sum + getD b (c + 34 * r) 0 * power ≡ column b c (r + 1)
 unfolding column
 column-more b c r p q = rw (add-one, p, q)
 
@@ -110,18 +110,18 @@ pub weight-first : 1 ≡ weight 0
 unfolding weight
 weight-first = refl
 
-pub row-next : {power : ℕ} (r : ℕ) → power ≡ weight (85 * r) → (power * 10800) % 65521 ≡ weight (85 * (r + 1))
+pub row-next : {power : ℕ} (r : ℕ) → power ≡ weight (34 * r) → (power * 37539) % 65521 ≡ weight (34 * (r + 1))
 unfolding weight
 row-next r p =
-    let e : 85 * (r + 1) ≡ 85 * r + 85 = omega arith in
-    rw (e, p) (sym (weight-add (85 * r) 85))
+    let e : 34 * (r + 1) ≡ 34 * r + 34 = omega arith in
+    rw (e, p) (sym (weight-add (34 * r) 34))
 
 -- one column more
-pub columns-more : (b s : List ℕ) (c v : ℕ) → c < length s → ((k : ℕ) → k < c → getD s k 0 ≡ column b k 6) → v ≡ column b c 6
-    → (k : ℕ) → k < c + 1 → getD (set s c v) k 0 ≡ column b k 6
+pub columns-more : (b s : List ℕ) (c v : ℕ) → c < length s → ((k : ℕ) → k < c → getD s k 0 ≡ column b k 15) → v ≡ column b c 15
+    → (k : ℕ) → k < c + 1 → getD (set s c v) k 0 ≡ column b k 15
 columns-more b s c v l each p k h = on (ℕ-discrete k c)
   where
-    on : Dec (k ≡ c) → getD (set s c v) k 0 ≡ column b k 6
+    on : Dec (k ≡ c) → getD (set s c v) k 0 ≡ column b k 15
     on (yes q) = rw (q, getD-set-same s c v 0 l) p
     on (no q) = rw (getD-set-other s c k v 0 q) (each k (omega arith))
 

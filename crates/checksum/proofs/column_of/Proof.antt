@@ -12,19 +12,19 @@ use Rattle.checksum.proofs.column_of.Statement.{statement}
 use Rattle.checksum.proofs.column_of.Tie as tie
 
 abbrev Inv-loop : tie.InvT-loop
-Inv-loop b c sum₀ power₀ row₀ sum power row = (row ≤ 6) × (sum ≡ column b c row) × (sum ≤ row * 16707600) × (power ≡ weight (85 * row))
+Inv-loop b c sum₀ power₀ row₀ sum power row = (row ≤ 15) × (sum ≡ column b c row) × (sum ≤ row * 16707600) × (power ≡ weight (34 * row))
 
 abbrev μ-loop : tie.MeasureT-loop
-μ-loop b c sum₀ power₀ row₀ sum power row = 6 - row
+μ-loop b c sum₀ power₀ row₀ sum power row = 15 - row
 
 -- in a turn: the byte that is read, and what it adds
 abbrev byte : tie.After-shared-slice-known Inv-loop μ-loop → ℕ
-byte c = getD (c .before .before .before .args .b .now) (c .before .before .before .args .c + 85 * c .before .before .loop .row) 0
+byte c = getD (c .before .before .before .args .b .now) (c .before .before .before .args .c + 34 * c .before .before .loop .row) 0
 
 product : (c : tie.After-shared-slice-known Inv-loop μ-loop) → byte c * c .before .before .loop .power ≤ 16707600
 product c =
     rw (c .before .before .loop .inv .3)
-    (product-small _ _ (c .shared-slice-known .given (c .before .before .before .args .c + 85 * c .before .before .loop .row) .fits))
+    (product-small _ _ (c .shared-slice-known .given (c .before .before .before .args .c + 34 * c .before .before .loop .row) .fits))
 
 loop-holds : tie.Need-loop-holds Inv-loop μ-loop
 loop-holds c = (omega arith, column-none _ _, omega arith, weight-first)
@@ -39,7 +39,7 @@ shared-slice-read-sum : tie.Need-shared-slice-read-sum Inv-loop μ-loop
 shared-slice-read-sum c = search needs
 
 cast-sum : tie.Need-cast-sum Inv-loop μ-loop
-cast-sum c = omega (arith, c .shared-slice-known .given (c .before .before .before .args .c + 85 * c .before .before .loop .row))
+cast-sum c = omega (arith, c .shared-slice-known .given (c .before .before .before .args .c + 34 * c .before .before .loop .row))
 
 mul-sum-2 : tie.Need-mul-sum-2 Inv-loop μ-loop
 mul-sum-2 c = omega (arith, product c)
@@ -48,7 +48,7 @@ add-sum-2 : tie.Need-add-sum-2 Inv-loop μ-loop
 add-sum-2 c = omega (arith, product c)
 
 mul-power : tie.Need-mul-power Inv-loop μ-loop
-mul-power c = omega (arith, weight-small (85 * c .before .before .loop .row))
+mul-power c = omega (arith, weight-small (34 * c .before .before .loop .row))
 
 add-row : tie.Need-add-row Inv-loop μ-loop
 add-row c = search needs
@@ -66,7 +66,7 @@ loop-again c = (
 
 returns : tie.Need-returns Inv-loop μ-loop
 returns c =
-    let whole : c .before .loop .row ≡ 6 = omega arith in
+    let whole : c .before .loop .row ≡ 15 = omega arith in
     rw whole at (c .before .loop .inv .1)
 
 pub column-of-spec : {M : Type 1} → statement M

@@ -10,10 +10,10 @@ use Rattle.checksum.proofs.columns.Statement.{statement}
 use Rattle.checksum.proofs.columns.Tie as tie
 
 abbrev Inv-loop : tie.InvT-loop
-Inv-loop b sums₀ c₀ sums c = (c ≤ 85) × (length sums ≡ 85) × ((k : ℕ) → k < c → getD sums k 0 ≡ column b k 6)
+Inv-loop b sums₀ c₀ sums c = (c ≤ 36) × (length sums ≡ 36) × ((k : ℕ) → k < c → getD sums k 0 ≡ column b k 15)
 
 abbrev μ-loop : tie.MeasureT-loop
-μ-loop b sums₀ c₀ sums c = 85 - c
+μ-loop b sums₀ c₀ sums c = 36 - c
 
 loop-holds : tie.Need-loop-holds Inv-loop μ-loop
 loop-holds c = (omega arith, refl, λ k h. absurd (omega arith))

@@ -10,10 +10,10 @@ use Rattle.checksum.proofs.weighed.Statement.{statement}
 use Rattle.checksum.proofs.weighed.Tie as tie
 
 abbrev Inv-loop : tie.InvT-loop
-Inv-loop s sum₀ power₀ k₀ sum power k = (k ≤ 5) × (sum % 65521 ≡ weighted s (17 * k) % 65521) × (sum ≤ k * 4292870400) × (power ≡ weight (17 * k))
+Inv-loop s sum₀ power₀ k₀ sum power k = (k ≤ 2) × (sum % 65521 ≡ weighted s (17 * k) % 65521) × (sum ≤ k * 4292870400) × (power ≡ weight (17 * k))
 
 abbrev μ-loop : tie.MeasureT-loop
-μ-loop s sum₀ power₀ k₀ sum power k = 5 - k
+μ-loop s sum₀ power₀ k₀ sum power k = 2 - k
 
 -- in a turn: what the run adds
 part : (c : tie.After-run-of Inv-loop μ-loop) → c .run-of .result % 65521 * c .before .before .loop .power ≤ 4292870400
@@ -60,7 +60,7 @@ cast-result c = search needs
 
 returns : tie.Need-returns Inv-loop μ-loop
 returns c =
-    let whole : c .before .loop .k ≡ 5 = omega arith in
+    let whole : c .before .loop .k ≡ 2 = omega arith in
     rw whole at (c .before .loop .inv .1)
 
 pub weighed-spec : {M : Type 1} → statement M
