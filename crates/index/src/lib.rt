@@ -1,7 +1,7 @@
 // The index of a table, built once a call: the nodes' fields as numbers, four a node, for each node the links to the operand cells that
 // name it, so that a node's parents are found without a look at the others, and the codes of the literals' clauses.
 ghost use mathlib.Core.Path.{_≡_};
-ghost use Prim.Native.Nat.{ℕ, _+_, _*_, _<_, _≤_};
+ghost use Prim.Native.Nat.{ℕ, _+_, _*_, _%_, _<_, _≤_};
 ghost use lib.ListN.{length};
 ghost use Rattle.record.specs.Place.{placeOf};
 ghost use Rattle.index.specs.Codes.{codesSize};
@@ -323,13 +323,12 @@ fn link(x: &mut [u16], n: usize)
     }
 }
 
-// Node m is read from its record in the table, with no links yet.
-fn load_node(t: &[u8], x: &mut [u16], m: usize)
-    requires { ⌜ (m < mostNodes) × (placeOf m + 8 ≤ length (now t)) ⌝ }
+// Node m is read from its record, which is at a place of the table, with no links yet.
+fn load_node(t: &[u8], x: &mut [u16], m: usize, at: usize)
+    requires { ⌜ (m < mostNodes) × (at ≡ placeOf m) × (placeOf m + 8 ≤ length (now t)) ⌝ }
     requires { ⌜ Loaded (now t) m (now x) ⌝ }
     ensures { λ _. ⌜ Loaded (now (t .entry)) (m + 1) (now (x .exit)) ⌝ }
 {
-    let at = record::place(m);
     let end = at + 8;
     let node = record::fields(&t[at..end]);
     let s = 4 * m;
@@ -340,7 +339,33 @@ fn load_node(t: &[u8], x: &mut [u16], m: usize)
     x[HEADS + m] = 0;
 }
 
-// The nodes are read from the table.
+// The nodes from base up to end are read, all of one block.
+fn load_block(t: &[u8], x: &mut [u16], base: usize, end: usize)
+    requires { ⌜ (base % 63 ≡ 0) × (base ≤ end) × (end ≤ base + 63) × (end ≤ mostNodes) ⌝ }
+    requires { ⌜ ((m : ℕ) → m < end → placeOf m + 8 ≤ length (now t)) × Loaded (now t) base (now x) ⌝ }
+    ensures { λ _. ⌜ Loaded (now (t .entry)) end (now (x .exit)) ⌝ }
+{
+    let mut m = base;
+    let mut at = record::place(base);
+    while m < end {
+        load_node(t, x, m, at);
+        m += 1;
+        at += 8;
+    }
+}
+
+// How far the nodes of a block go whose first node is m.
+fn block_end(m: usize, nodes: usize) -> usize
+    requires { ⌜ (m < nodes) × (nodes ≤ mostNodes) ⌝ }
+    ensures { λ r. ⌜ (m < r) × (r ≤ nodes) × (r ≤ m + 63) × (r < nodes → r ≡ m + 63) ⌝ }
+{
+    if nodes - m < 63 {
+        return nodes;
+    }
+    m + 63
+}
+
+// The nodes are read from the table, block by block.
 fn load(t: &[u8], nodes: usize, x: &mut [u16])
     requires { ⌜ (nodes ≤ mostNodes) × ((m : ℕ) → m < nodes → placeOf m + 8 ≤ length (now t)) ⌝ }
     requires { ⌜ length (now x) ≡ indexSize ⌝ }
@@ -348,8 +373,9 @@ fn load(t: &[u8], nodes: usize, x: &mut [u16])
 {
     let mut m = 0;
     while m < nodes {
-        load_node(t, x, m);
-        m += 1;
+        let end = block_end(m, nodes);
+        load_block(t, x, m, end);
+        m = end;
     }
 }
 

@@ -9,9 +9,6 @@ use borrow.Author.Needs.{needs}
 use Rattle.index.proofs.load_node.Statement.{statement}
 use Rattle.index.proofs.load_node.Tie as tie
 
-place-requires : tie.Need-place-requires
-place-requires c κs = search needs
-
 add-end : tie.Need-add-end
 add-end c = search needs
 
@@ -46,7 +43,7 @@ mul-x-2 : tie.Need-mul-x-2
 mul-x-2 c = search needs
 
 slice-write-x-2 : tie.Need-slice-write-x-2
-slice-write-x-2 c = simp length-set (omega (arith, c .before .before .before .before .before .before .pre .0 .0, c .before .before .before .before .before .before .pre .1 .size))
+slice-write-x-2 c = simp length-set (omega (arith, c .before .before .before .before .before .pre .0 .0, c .before .before .before .before .before .pre .1 .size))
 
 add-x-2 : tie.Need-add-x-2
 add-x-2 c = search needs
@@ -55,7 +52,7 @@ mul-x-3 : tie.Need-mul-x-3
 mul-x-3 c = search needs
 
 slice-write-x-3 : tie.Need-slice-write-x-3
-slice-write-x-3 c = simp length-set (omega (arith, c .before .before .before .before .before .before .pre .0 .0, c .before .before .before .before .before .before .pre .1 .size))
+slice-write-x-3 c = simp length-set (omega (arith, c .before .before .before .before .before .pre .0 .0, c .before .before .before .before .before .pre .1 .size))
 
 add-x-3 : tie.Need-add-x-3
 add-x-3 c = search needs
@@ -64,7 +61,7 @@ mul-x-4 : tie.Need-mul-x-4
 mul-x-4 c = search needs
 
 slice-write-x-4 : tie.Need-slice-write-x-4
-slice-write-x-4 c = simp length-set (omega (arith, c .before .before .before .before .before .before .pre .0 .0, c .before .before .before .before .before .before .pre .1 .size))
+slice-write-x-4 c = simp length-set (omega (arith, c .before .before .before .before .before .pre .0 .0, c .before .before .before .before .before .pre .1 .size))
 
 add-x-4 : tie.Need-add-x-4
 add-x-4 c = search needs
@@ -73,22 +70,21 @@ mul-x-5 : tie.Need-mul-x-5
 mul-x-5 c = search needs
 
 slice-write-x-5 : tie.Need-slice-write-x-5
-slice-write-x-5 c = simp length-set (omega (arith, c .before .before .before .before .before .before .pre .0 .0, c .before .before .before .before .before .before .pre .1 .size))
+slice-write-x-5 c = simp length-set (omega (arith, c .before .before .before .before .before .pre .0 .0, c .before .before .before .before .before .pre .1 .size))
 
 same-length : tie.Need-same-length
 same-length c = search needs
 
 returns : tie.Need-returns
 returns c =
-    let s = c .before .before .before .before .before .before in
-    let e = c .before .fields .ensures ∙ ap nodeOf (part-record tables _ _ _ (c .before .before .before .place .ensures)) in
+    let s = c .before .before .before .before .before in
+    let e = c .before .fields .ensures ∙ ap nodeOf (part-record tables _ _ _ (s .pre .0 .1)) in
     loaded-more (s .args .t .now) (s .args .x .now) (s .args .m) (c .before .fields .result) (s .pre .0 .0) e (s .pre .1)
 
 pub load-node-spec : {M : Type 1} → statement M
 load-node-spec =
     tie.close
     (tie.spec
-    place-requires
     add-end
     sub-fields
     part-fields-start
