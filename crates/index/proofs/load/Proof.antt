@@ -5,7 +5,6 @@ use mathlib.Core.Path.{_≡_, _∙_, sym}
 use Rattle.index.specs.Index.{Loaded}
 use Rattle.index.proofs.Nodes.{loaded-none}
 use native.Mathlib.Omega.{arith}
-use borrow.Author.Needs.{needs}
 use Rattle.index.proofs.load.Statement.{statement}
 use Rattle.index.proofs.load.Tie as tie
 
