@@ -31,7 +31,8 @@ use Rattle.record.specs.Place.{placeOf}
 use Rattle.record.specs.Halves.{doubleAt, Passes}
 use Rattle.repeats.specs.Chains.{Plain, Chains}
 use Rattle.repeats.proofs.Keys.{byte-at, halves-node, halves-one}
-use Rattle.table.specs.Counted.{ownRows, Tested}
+use Rattle.table.specs.Counted.{Tested}
+use Rattle.table.specs.Own.{ownRows}
 
 -- a refusal is the verdict of the tests, and nothing is said of the chains
 pub refuses : (t head next : List ℕ) (v : Verdict) (tests : Outcome (Unit {0})) (n : ℕ) {number place : ℕ}

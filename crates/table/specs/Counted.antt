@@ -3,9 +3,7 @@ use mathlib.Core.Path.{_≡_}
 use mathlib.Core.List.{List}
 use Prim.Native.Nat.{ℕ}
 use Rattle.scope.specs.declared.Verdict.{Verdict}
-use Rattle.scope.specs.Outcome.{Outcome, answer, refused, fine, verdictOf, _>>_}
-use Rattle.scope.specs.Block.{recordAt}
-use Rattle.scope.specs.Table.{tables, readRecord}
+use Rattle.scope.specs.Outcome.{Outcome, answer, refused, fine, verdictOf}
 use Rattle.repeats.specs.Chains.{Chains}
 use Rattle.table.specs.declared.Counted.{Counted}
 use Rattle.table.specs.declared.Counted.the-variants.{Nodes, Refused}
@@ -14,10 +12,6 @@ use Rattle.table.specs.declared.Counted.the-variants.{Nodes, Refused}
 abbrev pub countedOf : Counted → Outcome ℕ
 countedOf (Nodes n) = answer n
 countedOf (Refused r) = refused (r .number) (r .place)
-
--- rows 14 to 16 of node n: what its record says of itself
-abbrev pub ownRows : List ℕ → ℕ → Outcome (Unit {0})
-ownRows t n = readRecord (recordAt tables t n) n >> fine
 
 -- the verdict is that of the tests; where it is fine, the nodes below n are in the chains
 pub record Tested (t head next : List ℕ) (v : Verdict) (tests : Outcome (Unit {0})) (n : ℕ) : Type 0 where

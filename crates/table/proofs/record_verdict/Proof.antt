@@ -3,7 +3,7 @@ use mathlib.Core.Path.{_≡_, _∙_, ap, sym, refl}
 use Prim.Native.Nat.{ℕ, _+_}
 use Rattle.scope.specs.Outcome.{fine, verdictOf}
 use Rattle.record.specs.Halves.{doubleAt}
-use Rattle.table.specs.Counted.{ownRows}
+use Rattle.table.specs.Own.{ownRows}
 use Rattle.table.proofs.Rows.{refuses, row-refused, row-repeat, row-fine, own-plain}
 use borrow.Author.Needs.{needs}
 use Rattle.table.proofs.record_verdict.Statement.{statement}
