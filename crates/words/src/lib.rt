@@ -13,12 +13,13 @@ pub fn word(b: &[u8], at: usize) -> u16
     (b[at] as u16) + 256 * (b[at + 1] as u16)
 }
 
-// The 32-bit number at a position, low byte first.
+// The 32-bit number at a position, low byte first: a sum of four, so that the compiler reads the bytes at once.
 pub fn double(b: &[u8], at: usize) -> u32
     requires { ⌜ at + 4 ≤ length (now b) ⌝ }
     ensures { λ r. ⌜ r ≡ wordAt (now (b .entry)) at + 65536 * wordAt (now (b .entry)) (at + 2) ⌝ }
 {
-    let low = word(b, at);
-    let high = word(b, at + 2);
-    (low as u32) + 65536 * (high as u32)
+    (b[at] as u32)
+        + 256 * (b[at + 1] as u32)
+        + 65536 * (b[at + 2] as u32)
+        + 16777216 * (b[at + 3] as u32)
 }
