@@ -1,26 +1,38 @@
--- Laws of `indexOf` over the nodes of a table, for a loop that compares one after another: what is left at n, past n others, is
--- the answer. Assumes nothing.
-use mathlib.Core.Path.{_≡_}
-use mathlib.Core.Bool.{true, false}
-use Prim.Native.Nat.{ℕ, _+_, _-_, _<_, _≤_}
+-- Laws of `indexOf` over the nodes of a table, for loops that compare one after another, and block after block: what is left at n, past n
+-- others, is the answer. Assumes nothing.
+use mathlib.Core.Path.{_≡_, _∙_, ap, refl}
+use mathlib.Core.Bool.{true, false, and-false}
+use Prim.Native.Nat.{ℕ, zero, suc, _+_, _-_, _*_, _/_, _%_, _<_, _≤_}
+use native.Mathlib.Nat.{zero-add, add-zero, suc-add}
 use native.Mathlib.Omega.{arith}
-use borrow.Author.Tests.{eq-eqb, ne-eqb}
+use borrow.Author.Tests.{eq-eqb, ne-eqb, eqb-true}
 use lib.Dec.{eqb}
+use Rattle.record.specs.Place.{placeOf}
 use Rattle.scope.specs.declared.Node.{Node}
 use Rattle.scope.specs.Table.{sameNode, listFrom}
 use Rattle.scope.specs.Calls.{indexOf}
+use Rattle.scope.proofs.Tests.{by-test}
 use Rattle.scope.proofs.Lists.{listFrom-turn, listFrom-done}
 
--- two nodes differ in a field, or only in c if at all
+-- where record i of block j stands
+pub place-is : (j i : ℕ) → i < 63 → 512 * j + 4 + 8 * i ≡ placeOf (63 * j + i)
+place-is j i h =
+    let q : (63 * j + i) / 63 ≡ j = omega arith in
+    let r : (63 * j + i) % 63 ≡ i = omega arith in
+    rw (q, r) (omega arith)
+
+-- two nodes differ in the first two operands, or in the kind, or only in c if at all
 module _ (x y : Node) where
+  pub other-pair : (x .a + 65536 * x .b ≡ y .a + 65536 * y .b → ⊥) → false ≡ sameNode x y
+  other-pair h =
+      by-test (eqb (x .a) (y .a))
+      (λ t. by-test (eqb (x .b) (y .b))
+      (λ u. absurd (h (omega (arith, eqb-true (x .a) (y .a) t, eqb-true (x .b) (y .b) u))))
+      (λ u. simp (u, and-false)))
+      (λ t. simp (t, and-false))
+
   pub other-kind : (x .kind ≡ y .kind → ⊥) → false ≡ sameNode x y
   other-kind h = rw (ne-eqb (x .kind) (y .kind) h)
-
-  pub other-a : x .kind ≡ y .kind → (x .a ≡ y .a → ⊥) → false ≡ sameNode x y
-  other-a e h = rw (eq-eqb (x .kind) (y .kind) e, ne-eqb (x .a) (y .a) h)
-
-  pub other-b : x .kind ≡ y .kind → x .a ≡ y .a → (x .b ≡ y .b → ⊥) → false ≡ sameNode x y
-  other-b e a h = rw (eq-eqb (x .kind) (y .kind) e, eq-eqb (x .a) (y .a) a, ne-eqb (x .b) (y .b) h)
 
   pub only-c : x .kind ≡ y .kind → x .a ≡ y .a → x .b ≡ y .b → eqb (x .c) (y .c) ≡ sameNode x y
   only-c e a b = rw (eq-eqb (x .kind) (y .kind) e, eq-eqb (x .a) (y .a) a, eq-eqb (x .b) (y .b) b)
@@ -37,3 +49,44 @@ module _ (f : ℕ → Node) (x : Node) (n e : ℕ) where
   pub none : n ≤ e → e ≤ n → n + indexOf x (listFrom f n (e - n)) ≡ e
   unfolding indexOf
   none h k = rw (listFrom-done f n e k) (omega arith)
+
+-- it is at most how many there are
+module _ (f : ℕ → Node) (x : Node) where
+  pub most : (n i : ℕ) → indexOf x (listFrom f i n) ≤ n
+  unfolding indexOf listFrom
+  most zero i = omega arith
+  most (suc n) i = by-test (sameNode (f i) x) (λ t. simp t (omega arith)) (λ t. simp t (omega (arith, most n (suc i))))
+
+-- k nodes, then n more
+module _ (f : ℕ → Node) (x : Node) (n : ℕ) where
+  pub within : (k i : ℕ) → indexOf x (listFrom f i k) < k → indexOf x (listFrom f i (k + n)) ≡ indexOf x (listFrom f i k)
+  unfolding indexOf listFrom
+  within zero i h = absurd (omega arith)
+  within (suc k) i h =
+      rw (suc-add k n)
+      (by-test (sameNode (f i) x)
+      (λ t. simp t)
+      (λ t. let more : suc (indexOf x (listFrom f (suc i) k)) < suc k = rw t at h in simp t (ap suc (within k (suc i) (omega arith)))))
+
+  pub beyond : (k i : ℕ) → k ≤ indexOf x (listFrom f i k) → indexOf x (listFrom f i (k + n)) ≡ k + indexOf x (listFrom f (i + k) n)
+  unfolding indexOf listFrom
+  beyond zero i h = rw (zero-add, zero-add, add-zero) refl
+  beyond (suc k) i h =
+      rw (suc-add k n)
+      (by-test (sameNode (f i) x)
+      (λ t. let none : suc k ≤ 0 = rw t at h in absurd (omega arith))
+      (λ t.
+      let more : suc k ≤ suc (indexOf x (listFrom f (suc i) k)) = rw t at h in
+      let past : suc i + k ≡ i + suc k = omega arith in
+      simp t (ap suc (rw past at (beyond k (suc i) (omega arith))) ∙ omega arith)))
+
+-- a block of 63, where more nodes follow
+module _ (f : ℕ → Node) (x : Node) (i e : ℕ) (h : i + 63 ≤ e) where
+  split : listFrom f i (e - i) ≡ listFrom f i (63 + (e - (i + 63)))
+  split = let q : e - i ≡ 63 + (e - (i + 63)) = omega arith in ap (listFrom f i) q
+
+  pub in-block : indexOf x (listFrom f i 63) < 63 → indexOf x (listFrom f i (e - i)) ≡ indexOf x (listFrom f i 63)
+  in-block k = ap (indexOf x) split ∙ within f x (e - (i + 63)) 63 i k
+
+  pub past-block : 63 ≤ indexOf x (listFrom f i 63) → indexOf x (listFrom f i (e - i)) ≡ 63 + indexOf x (listFrom f (i + 63) (e - (i + 63)))
+  past-block k = ap (indexOf x) split ∙ beyond f x (e - (i + 63)) 63 i k

@@ -1,7 +1,7 @@
 // What add does with a record before any byte changes: turn an implication into an OR, order the operands, and look for the node.
 ghost use mathlib.Core.Path.{_≡_};
 ghost use mathlib.Core.List.{[], _∷_};
-ghost use Prim.Native.Nat.{ℕ, _+_, _<_, _≤_};
+ghost use Prim.Native.Nat.{ℕ, _+_, _*_, _<_, _≤_};
 ghost use lib.ListN.{length};
 ghost use Rattle.scope.specs.Table.{neg, withOperands, sameNode, nodeAt, listFrom};
 ghost use Rattle.scope.specs.Calls.{placed, ordered, turned, normalized, indexOf};
@@ -114,33 +114,57 @@ pub fn normalize(r: [u8; 8]) -> [u8; 8]
     ]
 }
 
-// Two nodes have the same fields.
+// Two fields as one number.
+fn pair(a: u16, b: u16) -> u32
+    ensures { λ r. ⌜ r ≡ a + 65536 * b ⌝ }
+{
+    (a as u32) + 65536 * (b as u32)
+}
+
+// Two nodes have the same fields. The first two operands are compared at once: few others have them.
 fn same(x: Node, y: Node) -> bool
     ensures { λ r. ⌜ r ≡ sameNode x y ⌝ }
 {
+    if pair(x.a, x.b) != pair(y.a, y.b) {
+        return false;
+    }
     if x.kind != y.kind {
-        return false;
-    }
-    if x.a != y.a {
-        return false;
-    }
-    if x.b != y.b {
         return false;
     }
     x.c == y.c
 }
 
-// The first node that is x, or the count where none is.
+// The first of the first records of block j, so many, that is x, or how many there are where none is.
+fn find_in(t: &[u8], j: usize, count: usize, x: Node) -> usize
+    requires { ⌜ (63 * j + count ≤ 2016) × (count ≤ 63) × ((n : ℕ) → n < 63 * j + count → placeOf n + 8 ≤ length (now t)) ⌝ }
+    ensures { λ r. ⌜ r ≡ indexOf x (listFrom (nodeAt (now (t .entry))) (63 * j) count) ⌝ }
+{
+    let from = 512 * j + 4;
+    let mut i = 0;
+    while i < count {
+        let at = from + 8 * i;
+        let end = at + 8;
+        if same(record::fields(&t[at..end]), x) {
+            return i;
+        }
+        i += 1;
+    }
+    count
+}
+
+// The first node that is x, or the count where none is: block by block.
 pub fn find(t: &[u8], nodes: usize, x: Node) -> usize
     requires { ⌜ (nodes ≤ 2016) × ((n : ℕ) → n < nodes → placeOf n + 8 ≤ length (now t)) ⌝ }
     ensures { λ r. ⌜ r ≡ indexOf x (listFrom (nodeAt (now (t .entry))) 0 nodes) ⌝ }
 {
-    let mut n = 0;
-    while n < nodes {
-        if same(record::node_at(t, n), x) {
-            return n;
+    let full = nodes / 63;
+    let mut j = 0;
+    while j < full {
+        let i = find_in(t, j, 63, x);
+        if i < 63 {
+            return 63 * j + i;
         }
-        n += 1;
+        j += 1;
     }
-    nodes
+    63 * full + find_in(t, full, nodes % 63, x)
 }

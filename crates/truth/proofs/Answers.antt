@@ -1,14 +1,13 @@
 -- Where evaluation ends: at a refusal of the table, of the literal or of the setting, or with the literal's truth.
 -- Assumes nothing.
 use mathlib.Core.Path.{_≡_, _∙_, ap, sym}
-use mathlib.Core.List.{List, [], map}
+use mathlib.Core.List.{List, []}
 use Prim.Native.Nat.{ℕ, _+_, _-_, _*_, _/_, _<_, _≤_}
 use native.Mathlib.Omega.{arith}
 use lib.Dec.{ltb, leb}
 use lib.ListN.{length, getD, take}
 use borrow.Author.Tests.{lt-ltb, le-ltb, leb-true}
 use Rattle.scope.specs.declared.Node.{Node}
-use Rattle.scope.specs.declared.Truth.{Truth}
 use Rattle.scope.specs.Outcome.{answer, refused, fine, require, first, _>>_}
 use Rattle.scope.specs.Table.{nodeAt, listFrom, decode}
 use Rattle.scope.specs.Truth.{litTruth, truthsFrom, truthIn}
@@ -17,9 +16,10 @@ use Rattle.scope.specs.Calls.{tableCount, settingsTest, evaluate}
 use Rattle.scope.proofs.Lists.{length-listFrom, take-listFrom}
 use Rattle.scope.proofs.Tests.{required, then-first, passed-on}
 use Rattle.table.proofs.Rows.{counted}
-use Rattle.truth.specs.Evaluated.{level, truthOf}
-use Rattle.truth.proofs.Truths.{lit-take, lit-prefix}
-use Rattle.truth.proofs.Levels.{truth-of-level, take-map}
+use Rattle.truth.specs.Evaluated.{truthOf, Filled}
+use Rattle.truth.proofs.Truths.{lit-prefix}
+use Rattle.truth.proofs.Levels.{truth-of-level}
+use Rattle.truth.proofs.Filling.{truths, truths-size}
 
 -- the table is refused
 pub table-refused : (t s : List ℕ) (l number place : ℕ) → tableCount t ≡ refused number place → refused number place ≡ evaluate t l s
@@ -63,12 +63,9 @@ module _ (t s : List ℕ) (l n : ℕ) (e : tableCount t ≡ answer n) where
     pub setting-refused : (number place : ℕ) → settingsTest s ≡ refused number place → refused number place ≡ evaluate t l s
     setting-refused number place q = sym (rows ∙ simp (lt-ltb l (2 * n) h, q))
 
-    -- v has the levels of the nodes up to the literal's
-    pub truth-answered : (v : List ℕ) (x : ℕ) → settingsTest s ≡ fine
-        → map truthOf (take (l / 2 + 1) v) ≡ truthsFrom kleene s [] (listFrom (nodeAt t) 0 (l / 2 + 1))
-        → x ≡ level (litTruth kleene (map truthOf v) l) → answer (truthOf x) ≡ evaluate t l s
-    truth-answered v x q w p =
-        let k : ℕ = l / 2 + 1 in
-        let u : take k (map truthOf v) ≡ truthsFrom kleene s [] (listFrom (nodeAt t) 0 k) = take-map truthOf k v ∙ w in
-        ap answer (ap truthOf p ∙ truth-of-level (litTruth kleene (map truthOf v) l) ∙ sym (lit-take kleene (map truthOf v) k l (omega arith)) ∙ ap (λ (z : List Truth). litTruth kleene z l) u ∙ whole-truth t s l n h)
+    -- v has the levels of the literals of the nodes up to the literal's
+    pub truth-answered : (v : List ℕ) → settingsTest s ≡ fine → Filled t s (l / 2 + 1) v → answer (truthOf (getD v l 0)) ≡ evaluate t l s
+    truth-answered v q f =
+        let is = f .says l (omega (arith, truths-size t s v (l / 2 + 1))) in
+        ap answer (ap truthOf is ∙ truth-of-level (litTruth kleene (truths t s v (l / 2 + 1)) l) ∙ whole-truth t s l n h)
         ∙ sym (rows ∙ simp (lt-ltb l (2 * n) h, q))

@@ -1,17 +1,17 @@
 -- Truths as levels: no 0, unknown 1, yes 2. Assumes nothing.
-use mathlib.Core.Path.{_≡_, refl, ap}
-use mathlib.Core.Bool.{cond, _||_}
-use mathlib.Core.List.{List, [], _∷_, map}
-use Prim.Native.Nat.{ℕ, zero, suc, _-_, _/_, _%_, _≤_}
+use mathlib.Core.Path.{_≡_, _∙_, refl, ap}
+use mathlib.Core.List.{List, [], _∷_}
+use Prim.Native.Nat.{ℕ, zero, suc, _+_, _-_, _*_, _/_, _%_, _<_, _≤_}
+use native.Mathlib.Nat.{zero-add}
 use native.Mathlib.Omega.{arith}
-use lib.Dec.{eqb, ltb}
-use lib.ListN.{getD, take, replicate, List·getD-map}
-use borrow.Author.Tests.{ne-eqb}
+use native.Mathlib.Decide.{ℕ-discrete}
+use lib.ListN.{getD, replicate}
 use Rattle.scope.specs.declared.Truth.{Truth}
 use Rattle.scope.specs.declared.Truth.the-variants.{Yes, No, Unknown}
-use Rattle.scope.specs.Truth.{litTruth}
-use Rattle.scope.specs.Kleene.{opposite, both, either, alike, kleene}
-use Rattle.truth.specs.Evaluated.{level, truthOf, Levels}
+use Rattle.scope.specs.Truth.{joined}
+use Rattle.scope.specs.Kleene.{opposite, kleene}
+use Rattle.scope.proofs.Lists.{getD-listFrom}
+use Rattle.truth.specs.Evaluated.{level, truthOf, joinAt, joinRow, joinRows, Levels}
 
 pub truth-of-level : (a : Truth) → truthOf (level a) ≡ a
 unfolding level
@@ -40,82 +40,32 @@ truth-high zero h k = absurd (h refl)
 truth-high (suc zero) h k = absurd (k refl)
 truth-high (suc (suc x)) h k = refl
 
-pub left-of-two : (x : ℕ) → x ≤ 2 → 2 - x ≡ level (opposite (truthOf x))
+-- a negation
+pub left-of-two : (a : Truth) → 2 - level a ≡ level (opposite a)
 unfolding level
-left-of-two zero h = refl
-left-of-two (suc zero) h = refl
-left-of-two (suc (suc zero)) h = refl
-left-of-two (suc (suc (suc x))) h = absurd (omega arith)
+left-of-two No = refl
+left-of-two Unknown = refl
+left-of-two Yes = refl
 
--- what holds of the levels of any two truths holds of any two levels
-by-truths : (P : ℕ → ℕ → Type 0) → ((a b : Truth) → P (level a) (level b)) → (x y : ℕ) → x ≤ 2 → y ≤ 2 → P x y
-by-truths P f x y h k = rw (level-of-truth x h, level-of-truth y k) (f (truthOf x) (truthOf y))
+-- JOINS at two levels
+pub join-is : (kind x y : ℕ) → 2 < kind → kind < 7 → x ≤ 2 → y ≤ 2 → getD (getD joinRows (kind - 3) []) (3 * x + y) 0 ≡ level (joined kleene kind (truthOf x ∷ truthOf y ∷ []))
+join-is kind x y low high h k =
+    let row : 3 + (kind - 3) ≡ kind = omega arith in
+    let first : (3 * x + y) / 3 ≡ x = omega arith in
+    let second : (3 * x + y) % 3 ≡ y = omega arith in
+    ap (λ (r : List ℕ). getD r (3 * x + y) 0) (getD-listFrom joinRow 4 3 (kind - 3) [] (omega arith) ∙ ap joinRow row)
+    ∙ getD-listFrom (joinAt kind) 9 0 (3 * x + y) 0 (omega arith)
+    ∙ simp (zero-add, first, second)
 
--- and: the lower level
-pub lower-both : (x y : ℕ) → x ≤ 2 → y ≤ 2 → level (both (truthOf x) (truthOf y)) ≡ cond (ltb x y) x y
-unfolding level
-lower-both = by-truths (λ x y. level (both (truthOf x) (truthOf y)) ≡ cond (ltb x y) x y) go
-  where
-    go : (a b : Truth) → level (both (truthOf (level a)) (truthOf (level b))) ≡ cond (ltb (level a) (level b)) (level a) (level b)
-    go No No = refl
-    go No Unknown = refl
-    go No Yes = refl
-    go Unknown No = refl
-    go Unknown Unknown = refl
-    go Unknown Yes = refl
-    go Yes No = refl
-    go Yes Unknown = refl
-    go Yes Yes = refl
-
--- or: the higher
-pub higher-either : (x y : ℕ) → x ≤ 2 → y ≤ 2 → level (either (truthOf x) (truthOf y)) ≡ cond (ltb x y) y x
-unfolding level
-higher-either = by-truths (λ x y. level (either (truthOf x) (truthOf y)) ≡ cond (ltb x y) y x) go
-  where
-    go : (a b : Truth) → level (either (truthOf (level a)) (truthOf (level b))) ≡ cond (ltb (level a) (level b)) (level b) (level a)
-    go No No = refl
-    go No Unknown = refl
-    go No Yes = refl
-    go Unknown No = refl
-    go Unknown Unknown = refl
-    go Unknown Yes = refl
-    go Yes No = refl
-    go Yes Unknown = refl
-    go Yes Yes = refl
-
--- if and only if: unknown where one is
-pub same-alike : (x y : ℕ) → x ≤ 2 → y ≤ 2 → level (alike (truthOf x) (truthOf y)) ≡ cond (eqb x 1 || eqb y 1) 1 (cond (eqb x y) 2 0)
-unfolding level
-same-alike = by-truths (λ x y. level (alike (truthOf x) (truthOf y)) ≡ cond (eqb x 1 || eqb y 1) 1 (cond (eqb x y) 2 0)) go
-  where
-    go : (a b : Truth) → level (alike (truthOf (level a)) (truthOf (level b))) ≡ cond (eqb (level a) 1 || eqb (level b) 1) 1 (cond (eqb (level a) (level b)) 2 0)
-    go No No = refl
-    go No Unknown = refl
-    go No Yes = refl
-    go Unknown No = refl
-    go Unknown Unknown = refl
-    go Unknown Yes = refl
-    go Yes No = refl
-    go Yes Unknown = refl
-    go Yes Yes = refl
-
--- the truth of a literal by the levels of the nodes
-module _ (v : List ℕ) (l : ℕ) (h : getD v (l / 2) 0 ≤ 2) where
-  node-at : getD (map truthOf v) (l / 2) No ≡ truthOf (getD v (l / 2) 0)
-  node-at = List·getD-map truthOf v (l / 2) 0
-
-  pub level-even : l % 2 ≡ 0 → getD v (l / 2) 0 ≡ level (litTruth kleene (map truthOf v) l)
-  unfolding litTruth
-  level-even z = simp (z, node-at) (level-of-truth (getD v (l / 2) 0) h)
-
-  pub level-odd : (l % 2 ≡ 0 → ⊥) → 2 - getD v (l / 2) 0 ≡ level (litTruth kleene (map truthOf v) l)
-  unfolding litTruth
-  level-odd z = simp (ne-eqb (l % 2) 0 z, node-at) (left-of-two (getD v (l / 2) 0) h)
-
-pub take-map : {A B : Type 0} (f : A → B) (n : ℕ) (v : List A) → take n (map f v) ≡ map f (take n v)
-take-map f zero v = refl
-take-map f (suc n) [] = refl
-take-map f (suc n) (x ∷ v) = ap (f x ∷_) (take-map f n v)
+-- three are joined by AND or OR, twice
+module _ (kind : ℕ) (low : 7 ≤ kind) (high : kind < 9) (a b c : Truth) where
+  pub join-twice : joined kleene (kind - 4) (a ∷ joined kleene (kind - 4) (b ∷ c ∷ []) ∷ []) ≡ joined kleene kind (a ∷ b ∷ c ∷ [])
+  unfolding joined
+  join-twice = go (ℕ-discrete kind 7)
+    where
+      go : Dec (kind ≡ 7) → joined kleene (kind - 4) (a ∷ joined kleene (kind - 4) (b ∷ c ∷ []) ∷ []) ≡ joined kleene kind (a ∷ b ∷ c ∷ [])
+      go (yes e) = rw e refl
+      go (no e) = let q : kind ≡ 8 = omega arith in rw q refl
 
 pub blank-levels : (n : ℕ) → Levels (replicate n 0)
 blank-levels zero i = omega arith

@@ -1,15 +1,14 @@
-// Evaluation: the truth of a literal under a setting, each node's truth found once. Truths are levels here, no 0, unknown 1, yes 2: so
-// a negation is what is left of 2, and two are joined by the lower or the higher.
+// Evaluation: the truth of a literal under a setting, each node's truth found once. Truths are levels here, no 0, unknown 1, yes 2, a
+// level for each literal: so a negation is what is left of 2, and is not worked out again.
 ghost use mathlib.Core.Path.{_≡_};
-ghost use mathlib.Core.List.{[], _∷_, map};
-ghost use Prim.Native.Nat.{_/_, _<_, _≤_};
-ghost use lib.ListN.{length, take};
+ghost use mathlib.Core.List.{[], _∷_};
+ghost use Prim.Native.Nat.{_+_, _*_, _/_, _<_, _≤_};
+ghost use lib.ListN.{length};
 ghost use Rattle.scope.specs.Outcome.{verdictOf};
-ghost use Rattle.scope.specs.Table.{nodeAt, listFrom};
-ghost use Rattle.scope.specs.Truth.{litTruth, joined, nodeTruth, truthsFrom};
-ghost use Rattle.scope.specs.Kleene.{both, either, alike, pointTruth, kleene};
+ghost use Rattle.scope.specs.Truth.{joined};
+ghost use Rattle.scope.specs.Kleene.{pointTruth, kleene};
 ghost use Rattle.scope.specs.Calls.{settingsTest, evaluate};
-ghost use Rattle.truth.specs.Evaluated.{evaluatedOf, level, truthOf, Levels, Low, Evaluable};
+ghost use Rattle.truth.specs.Evaluated.{evaluatedOf, level, truthOf, joinRows, Levels, Low, NodeLevel, Evaluable, Filled};
 use scope::Node;
 use scope::Refusal;
 use scope::Truth;
@@ -22,64 +21,36 @@ pub enum Evaluated {
     Refused(Refusal),
 }
 
-// A literal's level, where its node's is known.
-fn lit_level(v: &[u8], l: usize) -> u8
-    requires { ⌜ (l / 2 < length (now v)) × Levels (now v) ⌝ }
-    ensures { λ r. ⌜ r ≡ level (litTruth kleene (map truthOf (now (v .entry))) l) ⌝ }
-{
-    let x = v[l / 2];
-    if l % 2 == 0 { x } else { 2 - x }
-}
+// How kinds 3 to 6 join two levels x and y: a row for each kind, in it the level at 3 x + y.
+const JOINS: [[u8; 9]; 4] = [
+    // AND: the lower
+    [0, 0, 0, 0, 1, 1, 0, 1, 2],
+    // OR: the higher
+    [0, 1, 2, 1, 1, 2, 2, 2, 2],
+    // IMP: the higher of what is left of x, and y
+    [2, 2, 2, 1, 1, 2, 0, 1, 2],
+    // IFF: unknown where one is
+    [2, 1, 0, 1, 1, 1, 0, 1, 2],
+];
 
-// The lower of two levels: and.
-fn lower(x: u8, y: u8) -> u8
-    requires { ⌜ (x ≤ 2) × (y ≤ 2) ⌝ }
-    ensures { λ r. ⌜ r ≡ level (both (truthOf x) (truthOf y)) ⌝ }
-{
-    if x < y { x } else { y }
-}
-
-// The higher of two levels: or.
-fn higher(x: u8, y: u8) -> u8
-    requires { ⌜ (x ≤ 2) × (y ≤ 2) ⌝ }
-    ensures { λ r. ⌜ r ≡ level (either (truthOf x) (truthOf y)) ⌝ }
-{
-    if x < y { y } else { x }
-}
-
-// Whether two levels are alike: unknown where one is.
-fn same(x: u8, y: u8) -> u8
-    requires { ⌜ (x ≤ 2) × (y ≤ 2) ⌝ }
-    ensures { λ r. ⌜ r ≡ level (alike (truthOf x) (truthOf y)) ⌝ }
-{
-    if (x == 1) | (y == 1) {
-        return 1;
-    }
-    if x == y { 2 } else { 0 }
-}
-
-// Two levels joined as kinds 3 to 6 say.
-fn join(kind: u8, x: u8, y: u8) -> u8
-    requires { ⌜ (kind < 7) × (x ≤ 2) × (y ≤ 2) ⌝ }
+// Two levels joined as kinds 3 to 6 say, by JOINS, which is lent: an index into a constant copies the constant.
+fn join(joins: &[[u8; 9]; 4], kind: u8, x: u8, y: u8) -> u8
+    requires { ⌜ now joins ≡ joinRows ⌝ }
+    requires { ⌜ (2 < kind) × (kind < 7) × (x ≤ 2) × (y ≤ 2) ⌝ }
     ensures { λ r. ⌜ r ≡ level (joined kleene kind (truthOf x ∷ truthOf y ∷ [])) ⌝ }
 {
-    match kind {
-        3 => lower(x, y),
-        4 => higher(x, y),
-        5 => higher(2 - x, y),
-        _ => same(x, y),
-    }
+    let row = (kind - 3) as usize;
+    let column = (3 * x + y) as usize;
+    joins[row][column]
 }
 
-// Three levels joined as kinds 7 and 8 say.
-fn join_three(kind: u8, x: u8, y: u8, z: u8) -> u8
+// Three levels joined as kinds 7 and 8 say: by AND or OR, twice.
+fn join_three(joins: &[[u8; 9]; 4], kind: u8, x: u8, y: u8, z: u8) -> u8
+    requires { ⌜ now joins ≡ joinRows ⌝ }
     requires { ⌜ (7 ≤ kind) × (kind < 9) × (x ≤ 2) × (y ≤ 2) × (z ≤ 2) ⌝ }
     ensures { λ r. ⌜ r ≡ level (joined kleene kind (truthOf x ∷ truthOf y ∷ truthOf z ∷ [])) ⌝ }
 {
-    if kind == 7 {
-        return lower(x, lower(y, z));
-    }
-    higher(x, higher(y, z))
+    join(joins, kind - 4, x, join(joins, kind - 4, y, z))
 }
 
 // The level of a point's byte.
@@ -93,10 +64,11 @@ fn point_level(b: u8) -> u8
     }
 }
 
-// A node's level, where those of its operands' nodes are known.
-fn node_level(s: &[u8], v: &[u8], x: Node) -> u8
-    requires { ⌜ (1024 ≤ length (now s)) × Low x (length (now v)) × Levels (now v) ⌝ }
-    ensures { λ r. ⌜ r ≡ level (nodeTruth kleene (now (s .entry)) (map truthOf (now (v .entry))) x) ⌝ }
+// A node's level, where those of its operands are known.
+fn node_level(joins: &[[u8; 9]; 4], s: &[u8], v: &[u8], x: Node) -> u8
+    requires { ⌜ now joins ≡ joinRows ⌝ }
+    requires { ⌜ (1024 ≤ length (now s)) × Low x (length (now v) / 2) × Levels (now v) ⌝ }
+    ensures { λ r. ⌜ NodeLevel (now (s .entry)) (now (v .entry)) x r ⌝ }
 {
     if x.kind == 1 {
         return 2;
@@ -105,13 +77,13 @@ fn node_level(s: &[u8], v: &[u8], x: Node) -> u8
         let point = x.a as usize;
         return point_level(s[point]);
     }
-    let p = lit_level(v, x.a as usize);
-    let q = lit_level(v, x.b as usize);
+    let p = v[x.a as usize];
+    let q = v[x.b as usize];
     if x.kind < 7 {
-        return join(x.kind, p, q);
+        return join(joins, x.kind, p, q);
     }
-    let r = lit_level(v, x.c as usize);
-    join_three(x.kind, p, q, r)
+    let r = v[x.c as usize];
+    join_three(joins, x.kind, p, q, r)
 }
 
 // The truth of a level.
@@ -148,17 +120,40 @@ fn settings_verdict(s: &[u8]) -> Verdict
     Verdict::Fine
 }
 
-// The levels of the nodes before `nodes` of a readable table, one after another.
-fn node_levels(t: &[u8], s: &[u8], v: &mut [u8], nodes: usize)
-    requires { ⌜ Evaluable (now t) (now s) (now v) nodes ⌝ }
-    ensures { λ _. ⌜ Levels (now (v .exit)) × (map truthOf (take nodes (now (v .exit))) ≡ truthsFrom kleene (now (s .entry)) [] (listFrom (nodeAt (now (t .entry))) 0 nodes)) ⌝ }
+// The levels of the literals of the first nodes of block j, so many, where those of the blocks before are known.
+fn block_levels(joins: &[[u8; 9]; 4], t: &[u8], s: &[u8], v: &mut [u8], j: usize, count: usize)
+    requires { ⌜ now joins ≡ joinRows ⌝ }
+    requires { ⌜ Evaluable (now t) (now s) (now v) (63 * j + count) × (count ≤ 63) ⌝ }
+    requires { ⌜ Filled (now t) (now s) (63 * j) (now v) ⌝ }
+    ensures { λ _. ⌜ Filled (now (t .entry)) (now (s .entry)) (63 * j + count) (now (v .exit)) ⌝ }
 {
-    let mut n = 0;
-    while n < nodes {
-        let x = record::node_at(t, n);
-        v[n] = node_level(s, v, x);
-        n += 1;
+    let from = 512 * j + 4;
+    let mut i = 0;
+    while i < count {
+        let at = from + 8 * i;
+        let end = at + 8;
+        let x = record::fields(&t[at..end]);
+        let r = node_level(joins, s, v, x);
+        let l = 2 * (63 * j + i);
+        v[l] = r;
+        v[l + 1] = 2 - r;
+        i += 1;
     }
+}
+
+// The levels of the literals of the nodes before `nodes` of a readable table, block by block.
+fn node_levels(t: &[u8], s: &[u8], v: &mut [u8], nodes: usize)
+    requires { ⌜ Evaluable (now t) (now s) (now v) nodes × Levels (now v) ⌝ }
+    ensures { λ _. ⌜ Filled (now (t .entry)) (now (s .entry)) nodes (now (v .exit)) ⌝ }
+{
+    let joins = &JOINS;
+    let full = nodes / 63;
+    let mut j = 0;
+    while j < full {
+        block_levels(joins, t, s, v, j, 63);
+        j += 1;
+    }
+    block_levels(joins, t, s, v, full, nodes % 63);
 }
 
 // The truth of a literal under a setting.
@@ -179,9 +174,9 @@ pub fn evaluate(t: &[u8], literal: usize, s: &[u8]) -> Evaluated
             match w {
                 Verdict::Refused(r) => Evaluated::Refused(r),
                 Verdict::Fine => {
-                    let mut v = [0u8; 2016];
+                    let mut v = [0u8; 4032];
                     node_levels(t, s, &mut v, literal / 2 + 1);
-                    Evaluated::Told(told(lit_level(&v, literal)))
+                    Evaluated::Told(told(v[literal]))
                 }
             }
         }

@@ -1,54 +1,84 @@
--- `lookup::find` meets its contract: n and what is left of the search from n on is the answer. Assumes nothing.
+-- `lookup::find` meets its contract: 63 j and what is left of the search from block j on is the answer. Assumes nothing.
 use mathlib.Core.Path.{_≡_, _∙_, ap, sym}
-use Prim.Native.Nat.{_+_, _-_, _≤_}
+use Prim.Native.Nat.{_+_, _*_, _-_, _/_, _%_, _≤_}
 use native.Mathlib.Nat.{sub-zero, zero-add}
-use Rattle.scope.specs.declared.Node.{Node}
-use Rattle.scope.specs.Table.{sameNode, nodeAt, listFrom}
-use Rattle.scope.specs.Calls.{indexOf}
-use Rattle.lookup.proofs.Finds.{found, passed, none}
 use native.Mathlib.Omega.{arith}
 use borrow.Author.Needs.{needs}
+use Rattle.scope.specs.Table.{nodeAt, listFrom}
+use Rattle.scope.specs.Calls.{indexOf}
+use Rattle.lookup.proofs.Finds.{most, in-block, past-block}
 use Rattle.lookup.proofs.find.Statement.{statement}
 use Rattle.lookup.proofs.find.Tie as tie
 
 abbrev Inv-loop : tie.InvT-loop
-Inv-loop t nodes x n₀ n = (n ≤ nodes) × (n + indexOf x (listFrom (nodeAt t) n (nodes - n)) ≡ indexOf x (listFrom (nodeAt t) 0 nodes))
+Inv-loop t nodes x full j₀ j = (j ≤ nodes / 63) × (63 * j + indexOf x (listFrom (nodeAt t) (63 * j) (nodes - 63 * j)) ≡ indexOf x (listFrom (nodeAt t) 0 nodes))
 
 abbrev μ-loop : tie.MeasureT-loop
-μ-loop t nodes x n₀ n = nodes - n
+μ-loop t nodes x full j₀ j = nodes / 63 - j
 
 loop-holds : tie.Need-loop-holds Inv-loop μ-loop
 loop-holds c = (search needs, simp (sub-zero, zero-add))
 
-node-at-requires : tie.Need-node-at-requires Inv-loop μ-loop
-node-at-requires c κs = (omega (arith, c .before .before .before .pre .0, c .loop-test .taken), c .before .before .before .pre .1 _ (c .loop-test .taken))
+find-in-requires : tie.Need-find-in-requires Inv-loop μ-loop
+find-in-requires c κs =
+    let p = c .before .before .before .pre in
+    let test = c .loop-test .taken in
+    (omega (arith, p .0, test), omega arith, λ n h. p .1 n (omega (arith, test)))
 
-same-requires : tie.Need-same-requires Inv-loop μ-loop
-same-requires c κs = search needs
+mul-result : tie.Need-mul-result Inv-loop μ-loop
+mul-result c = omega (arith, c .before .before .before .before .before .pre .0, c .before .before .loop-test .taken)
 
--- what a turn compares: node n and x
-compared : (c : tie.After-same Inv-loop μ-loop) → let at-loop = c .before .before .before in let start = at-loop .before .before in
-    c .same .result ≡ sameNode (nodeAt (start .args .t .now) (at-loop .loop .n)) (start .args .x)
-compared c = c .same .ensures ∙ ap (λ (y : Node). sameNode y (c .before .before .before .before .before .args .x)) (c .before .node-at .ensures)
+add-result : tie.Need-add-result Inv-loop μ-loop
+add-result c = omega (arith, c .before .before .before .before .before .pre .0, c .before .before .loop-test .taken, c .if1 .taken)
 
 returns : tie.Need-returns Inv-loop μ-loop
 returns c =
-    let at = c .before .before .before .before .loop in
-    sym (found _ _ _ _ (c .before .before .before .loop-test .taken) (sym (compared (c .before)) ∙ c .if1 .taken)) ∙ at .inv .1
+    let at-loop = c .before .before .before in
+    let a = at-loop .before .before .args in
+    let j = at-loop .loop .j in
+    let is = c .before .find-in .ensures in
+    let here = in-block (nodeAt (a .t .now)) (a .x) (63 * j) (a .nodes) (omega (arith, c .before .before .loop-test .taken)) (omega (arith, is, c .if1 .taken)) in
+    omega (arith, is, here, at-loop .loop .inv .1)
 
-add-n : tie.Need-add-n Inv-loop μ-loop
-add-n c = search needs
+add-j : tie.Need-add-j Inv-loop μ-loop
+add-j c = search needs
 
 loop-less : tie.Need-loop-less Inv-loop μ-loop
 loop-less c = search needs
 
 loop-again : tie.Need-loop-again Inv-loop μ-loop
 loop-again c =
-    let test = c .before .before .before .loop-test .taken in
-    (omega (arith, test), sym (passed _ _ _ _ test (sym (compared (c .before)) ∙ c .if1 .left)) ∙ c .before .before .before .before .loop .inv .1)
+    let at-loop = c .before .before .before in
+    let a = at-loop .before .before .args in
+    let j = at-loop .loop .j in
+    let test = c .before .before .loop-test .taken in
+    let on = past-block (nodeAt (a .t .now)) (a .x) (63 * j) (a .nodes) (omega (arith, test)) (omega (arith, c .before .find-in .ensures, c .if1 .left)) in
+    let next : 63 * j + 63 ≡ 63 * (j + 1) = omega arith in
+    (omega (arith, test), rw (← next) (omega (arith, on, at-loop .loop .inv .1)))
+
+mul-result-2 : tie.Need-mul-result-2 Inv-loop μ-loop
+mul-result-2 c = omega (arith, c .before .before .before .pre .0)
+
+find-in-requires-2 : tie.Need-find-in-requires-2 Inv-loop μ-loop
+find-in-requires-2 c κs =
+    let p = c .before .before .before .pre in
+    (omega (arith, p .0), omega arith, λ n h. p .1 n (omega arith))
+
+add-result-2 : tie.Need-add-result-2 Inv-loop μ-loop
+add-result-2 c =
+    let start = c .before .before .before .before in
+    let a = start .args in
+    let few = most (nodeAt (a .t .now)) (a .x) (a .nodes % 63) (63 * (a .nodes / 63)) in
+    omega (arith, c .find-in2 .ensures, few, start .pre .0)
 
 returns-2 : tie.Need-returns-2 Inv-loop μ-loop
-returns-2 c = sym (none _ _ _ _ (c .before .loop .inv .0) (c .loop-test .left)) ∙ c .before .loop .inv .1
+returns-2 c =
+    let at-loop = c .before .before in
+    let a = at-loop .before .before .args in
+    let inv = at-loop .loop .inv in
+    let last : at-loop .loop .j ≡ a .nodes / 63 = omega (arith, c .before .loop-test .left, inv .0) in
+    let rest : a .nodes - 63 * (a .nodes / 63) ≡ a .nodes % 63 = omega arith in
+    ap (63 * (a .nodes / 63) +_) (c .find-in2 .ensures) ∙ rw (last, rest) at (inv .1)
 
 pub find-spec : {M : Type 1} → statement M
 find-spec =
@@ -57,10 +87,14 @@ find-spec =
     Inv-loop
     μ-loop
     loop-holds
-    node-at-requires
-    same-requires
+    find-in-requires
+    mul-result
+    add-result
     returns
-    add-n
+    add-j
     loop-less
     loop-again
+    mul-result-2
+    find-in-requires-2
+    add-result-2
     returns-2)

@@ -61,24 +61,22 @@ add-node-levels c = search needs
 
 node-levels-requires : tie.Need-node-levels-requires
 node-levels-requires c κs =
-    let q = counted _ (answered (c .before .before .before .before .before)) in
-    let h = c .before .before .before .before .if1 .left in
-    record {
-      readable = q .0;
-      inside = omega (arith, h, q .1);
-      points = setting-long _ (settled (c .before));
-      room = omega (arith, h, few (c .before .before .before .before .before));
-      levels = blank-levels 2016;
-    }
+    let told = c .before .before .before .before .before in
+    let q = counted _ (answered told) in
+    let h = c .before .before .before .before .if1 .left in (
+      record {
+        readable = q .0;
+        inside = omega (arith, h, q .1);
+        points = setting-long _ (settled (c .before));
+        room = omega (arith, h, few told);
+      },
+      blank-levels 4032,
+    )
 
-slice-aggregate-lit-level : tie.Need-slice-aggregate-lit-level
-slice-aggregate-lit-level c = search needs
-
-lit-level-requires : tie.Need-lit-level-requires
-lit-level-requires c κs =
-    let levels = c .before .before in
-    let below = levels .before .before .before .before .before in
-    (omega (arith, levels .node-levels .kept, few (below .before), below .if1 .left), levels .node-levels .ensures .0)
+array-read-told : tie.Need-array-read-told
+array-read-told c =
+    let told = c .before .before .before .before .before .before .before in
+    omega (arith, few told, c .before .before .before .before .before .before .if1 .left)
 
 told-requires : tie.Need-told-requires
 told-requires c κs = search needs
@@ -93,12 +91,10 @@ returns-3 c =
 
 returns-4 : tie.Need-returns-4
 returns-4 c =
-    let lit = c .before in
-    let levels = lit .before .before .before in
+    let levels = c .before .before in
     let told = levels .before .before .before .before .before .before in
     ap answer (c .told .ensures)
-    ∙ truth-answered _ _ _ _ (answered told) (levels .before .before .before .before .before .if1 .left) _ _
-    (settled (levels .before .before)) (levels .node-levels .ensures .1) (lit .lit-level .ensures)
+    ∙ truth-answered _ _ _ _ (answered told) (levels .before .before .before .before .before .if1 .left) _ (settled (levels .before .before)) (levels .node-levels .ensures)
 
 pub evaluate-spec : {M : Type 1} → statement M
 evaluate-spec =
@@ -115,8 +111,7 @@ evaluate-spec =
     slice-aggregate-node-levels
     add-node-levels
     node-levels-requires
-    slice-aggregate-lit-level
-    lit-level-requires
+    array-read-told
     told-requires
     returns-2
     returns-3
