@@ -3,12 +3,13 @@ ghost use mathlib.Core.Path.{_≡_};
 ghost use mathlib.Core.List.{_++_};
 ghost use Prim.Native.Nat.{_+_, _*_, _-_, _<_, _≤_};
 ghost use lib.ListN.{length, take, drop, getD};
+ghost use Rattle.scope.specs.Outcome.{answer};
 ghost use Rattle.scope.specs.Block.{blockOf};
 ghost use Rattle.scope.specs.Table.{nodeBytes};
 ghost use Rattle.scope.specs.Calls.{add, bytesAfter};
 ghost use Rattle.writer.specs.Grown.{grown};
 ghost use Rattle.table.specs.Counted.{countedOf};
-ghost use Rattle.adding.specs.Added.{addedOf, marked, countPassed, readPassed, usedCount, Ready, AddsTo};
+ghost use Rattle.adding.specs.Added.{addedOf, marked, countPassed, readPassed, usedCount, Reads, Readable, Ready, AddsTo};
 use record::NodeRead;
 use scope::Node;
 use scope::Refusal;
@@ -118,6 +119,20 @@ fn pass_read(r: NodeRead) -> Added
     }
 }
 
+// The record's rows, then its node, where the used part has so many nodes.
+fn add_record(buf: &mut [u8], used: usize, nodes: usize, r: [u8; 8]) -> Added
+    requires { ⌜ (used ≤ length (now buf)) × (usedCount (take used (now buf)) ≡ answer nodes) ⌝ }
+    ensures answered { λ v. ⌜ addedOf v ≡ marked (add (now (buf .entry)) used r) ⌝ }
+    ensures bytes { λ v. ⌜ now (buf .exit) ≡ bytesAfter (now (buf .entry)) (add (now (buf .entry)) used r) ⌝ }
+{
+    let y = lookup::normalize(r);
+    let v = record::read_record(&y, nodes);
+    let NodeRead::Found(x) = v else {
+        return pass_read(v);
+    };
+    add_node(buf, used, nodes, y, x)
+}
+
 // Adds a record of 8 bytes to the table in the used part of a buffer.
 pub fn add(buf: &mut [u8], used: usize, r: [u8; 8]) -> Added
     ensures answered { λ v. ⌜ addedOf v ≡ marked (add (now (buf .entry)) used r) ⌝ }
@@ -133,10 +148,27 @@ pub fn add(buf: &mut [u8], used: usize, r: [u8; 8]) -> Added
     let Counted::Nodes(nodes) = c else {
         return pass_count(c);
     };
-    let y = lookup::normalize(r);
-    let v = record::read_record(&y, nodes);
-    let NodeRead::Found(x) = v else {
-        return pass_read(v);
-    };
-    add_node(buf, used, nodes, y, x)
+    add_record(buf, used, nodes, r)
+}
+
+// How many nodes a table has that is known to read, or is empty: the last block's count, and all others are full.
+fn known_nodes(t: &[u8]) -> usize
+    requires { ⌜ Reads (now t) ⌝ }
+    ensures { λ n. ⌜ usedCount (now (t .entry)) ≡ answer n ⌝ }
+{
+    if t.len() == 0 {
+        return 0;
+    }
+    let full = t.len() / 512 - 1;
+    63 * full + t[512 * full + 1] as usize
+}
+
+// Adds a record where the used part is known to read, as it is after an add that answers: it is not read again.
+pub fn add_known(buf: &mut [u8], used: usize, r: [u8; 8]) -> Added
+    requires { ⌜ Readable (now buf) used ⌝ }
+    ensures answered { λ v. ⌜ addedOf v ≡ marked (add (now (buf .entry)) used r) ⌝ }
+    ensures bytes { λ v. ⌜ now (buf .exit) ≡ bytesAfter (now (buf .entry)) (add (now (buf .entry)) used r) ⌝ }
+{
+    let nodes = known_nodes(&buf[..used]);
+    add_record(buf, used, nodes, r)
 }

@@ -26,6 +26,7 @@ use Rattle.codec.proofs.Adds.{found, more, nodes-of, by-add, add-reads-back, ad
 use Rattle.truth.specs.Evaluated.{Low}
 use Rattle.truth.proofs.Truths.{lit-prefix}
 use Rattle.truth.proofs.Low.{reads-low}
+use Rattle.adding.specs.Added.{Readable}
 use Rattle.adding.proofs.Rows.{add-is}
 use Rattle.cnf.specs.Fold.{node}
 use Rattle.cnf.proofs.Outcomes.{Ends, ends}
@@ -179,10 +180,11 @@ module _ {vars used : ℕ} {bytes : List ℕ} {rs : List Node} (h : Holds vars u
       only-two (ltb (indexOf y rs) (length rs)) (ltb (length rs) 2016) (leb (length (encode (rs ++ y ∷ []))) (length bytes)) (length rs)
       (found bytes used rs y) (more bytes rs y) (sym adds ∙ q))
 
--- the literals of a table are below 4,032
-pub add-small : (bytes : List ℕ) (used : ℕ) (x : Node) (u : Added) → Bytes bytes → Bytes (nodeBytes x) → add bytes used (nodeBytes x) ≡ answer u → u .literal < 4032
+-- what add leaves reads, and its literals are below 4,032
+pub add-leaves : (bytes : List ℕ) (used : ℕ) (x : Node) (u : Added) → Bytes bytes → Bytes (nodeBytes x) → add bytes used (nodeBytes x) ≡ answer u
+    → (u .literal < 4032) × Readable (u .bytes) (u .used)
 unfolding add
-add-small bytes used x u all small e =
+add-leaves bytes used x u all small e =
     let (rs, d) = nodes-of bytes used (nodeBytes x) u e in
     let inside = row (leb used (length bytes)) 9 0 _ e .0 in
     let (y, ey, back) = add-reads-back bytes used (nodeBytes x) all (length-nodeBytes x) small rs u d e in
@@ -194,4 +196,4 @@ add-small bytes used x u all small e =
       points = λ p i. absurd (omega arith);
     } in
     let p = put-answered h x y small ey u e in
-    omega (arith, p .inside, most (p .holds))
+    (omega (arith, p .inside, most (p .holds)), record { within = p .holds .within; reads = record { nodes = p .rs′; decoded = p .holds .nodes } })

@@ -1,32 +1,37 @@
 -- Tables under way: one outcome after another, as the code meets them. Assumes nothing.
-use mathlib.Core.Path.{_≡_, _∙_, ap, sym, subst}
-use mathlib.Core.List.{List}
+use mathlib.Core.Path.{_≡_, _∙_, ap, sym, refl, subst}
+use mathlib.Core.List.{List, []}
 use Prim.Native.Nat.{ℕ, _<_}
 use native.Mathlib.Omega.{arith}
 use Rattle.scope.specs.declared.Node.{Node}
 use Rattle.scope.specs.declared.Refusal.{Refusal}
 use Rattle.scope.specs.Outcome.{Outcome, answer, refused, _>>=_}
 use Rattle.scope.specs.Table.{nodeBytes}
-use Rattle.scope.specs.Calls.{Added as Written, add, bytesAfter}
+use Rattle.scope.specs.Calls.{Added as Written, decodeUsed, add, bytesAfter}
 use Rattle.scope.proofs.Tests.{refused-no, bound}
 use Rattle.codec.specs.Valid.{Bytes}
 use Rattle.adding.specs.declared.Mark.{Mark}
 use Rattle.adding.specs.declared.Added.{Added}
 use Rattle.adding.specs.declared.Added.the-variants.{At, Refused}
-use Rattle.adding.specs.Added.{addedOf, marked}
-use Rattle.cnf.proofs.Puts.{add-small}
+use Rattle.adding.specs.Added.{addedOf, marked, Readable}
+use Rattle.cnf.proofs.Puts.{add-leaves}
 use Rattle.cnffold.specs.Built.{state, Built}
 
 -- what add did
 pub built-add : (buf : List ℕ) (used : ℕ) (x : Node) {v : Added} {after : List ℕ} → Bytes buf → Bytes (nodeBytes x)
     → addedOf v ≡ marked (add buf used (nodeBytes x)) → after ≡ bytesAfter buf (add buf used (nodeBytes x)) → Built (add buf used (nodeBytes x)) v after
-built-add buf used x {v} all small e b = record {
+built-add buf used x {v} {after} all small e b = record {
   answered = e;
   bytes = λ u q. b ∙ ap (bytesAfter buf) q;
   small = λ m q.
       let (u, eu, em) = bound (add buf used (nodeBytes x)) _ (sym e ∙ ap addedOf q) in
       let same : _≡_ {A = Mark} (record { literal = u .literal; used = u .used }) m = cc in
-      omega (arith, add-small buf used x u all small eu, ap (λ (z : Mark). z .literal) same);
+      omega (arith, add-leaves buf used x u all small eu .0, ap (λ (z : Mark). z .literal) same);
+  reads = λ m q.
+      let (u, eu, em) = bound (add buf used (nodeBytes x)) _ (sym e ∙ ap addedOf q) in
+      let same : _≡_ {A = Mark} (record { literal = u .literal; used = u .used }) m = cc in
+      let held : after ≡ u .bytes = b ∙ ap (bytesAfter buf) eu in
+      subst (λ (z : Mark). Readable after (z .used)) same (subst (λ (l : List ℕ). Readable l (u .used)) (sym held) (add-leaves buf used x u all small eu .1));
 }
 
 -- the same outcome, said otherwise
@@ -38,11 +43,13 @@ pub same-literal : {l l′ used : ℕ} {after : List ℕ} → l ≡ l′ → _�
 same-literal {used = used} {after = after} e = ap (λ (l : ℕ). answer (state l used after)) e
 
 -- an answer
-pub built-answer : {out : Outcome Written} {l used : ℕ} {after : List ℕ} → l < 4032 → out ≡ answer (state l used after) → Built out (At (record { literal = l; used = used })) after
-built-answer {l = l} {used = used} {after = after} h e = record {
+pub built-answer : {out : Outcome Written} {l used : ℕ} {after : List ℕ} → l < 4032 → Readable after used → out ≡ answer (state l used after)
+    → Built out (At (record { literal = l; used = used })) after
+built-answer {l = l} {used = used} {after = after} h r e = record {
   answered = sym (ap marked e);
   bytes = λ x q. let same : answer (state l used after) ≡ answer x = sym e ∙ q in let p : state l used after ≡ x = cc in ap (λ (z : Written). z .bytes) p;
   small = λ m q. let same : _≡_ {A = Mark} (record { literal = l; used = used }) m = cc in omega (arith, ap (λ (z : Mark). z .literal) same);
+  reads = λ m q. let same : _≡_ {A = Mark} (record { literal = l; used = used }) m = cc in subst (λ (z : Mark). Readable after (z .used)) same r;
 }
 
 -- a mark that is refused is an outcome that is
@@ -75,4 +82,10 @@ module _ {out : Outcome Written} {v : Added} {after : List ℕ} (b : Built out v
         answered = ap addedOf e ∙ sym (ap marked stops);
         bytes = λ x q. refused-no (sym stops ∙ q);
         small = λ m q. absurd (let p : At m ≡ Refused r = sym q ∙ e in let z : _≡_ {A = ℕ} 0 1 = cc in omega arith);
+        reads = λ m q. absurd (let p : At m ≡ Refused r = sym q ∙ e in let z : _≡_ {A = ℕ} 0 1 = cc in omega arith);
       }
+
+-- an empty buffer
+pub none-reads : (buf : List ℕ) → Readable buf 0
+unfolding decodeUsed
+none-reads buf = record { within = omega arith; reads = record { nodes = []; decoded = refl } }

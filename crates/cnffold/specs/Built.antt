@@ -8,7 +8,7 @@ use Rattle.scope.specs.Calls.{Added as Written}
 use Rattle.adding.specs.declared.Mark.{Mark}
 use Rattle.adding.specs.declared.Added.{Added}
 use Rattle.adding.specs.declared.Added.the-variants.{At}
-use Rattle.adding.specs.Added.{addedOf, marked}
+use Rattle.adding.specs.Added.{addedOf, marked, Readable}
 
 -- a literal, the used length and the buffer's bytes
 abbrev pub state : ℕ → ℕ → List ℕ → Written
@@ -19,6 +19,7 @@ pub record Built (out : Outcome Written) (v : Added) (after : List ℕ) : Type 0
   pub answered : addedOf v ≡ marked out
   pub bytes : (x : Written) → out ≡ answer x → after ≡ x .bytes
   pub small : (m : Mark) → v ≡ At m → m .literal < 4032
+  pub reads : (m : Mark) → v ≡ At m → Readable after (m .used)
 
 -- the first literals of an array are of variables
 pub record Small (held : List ℕ) (count : ℕ) : Type 0 where

@@ -2,6 +2,7 @@
 ghost use mathlib.Core.Path.{_≡_};
 ghost use Prim.Native.Nat.{_<_, _≤_};
 ghost use lib.ListN.{take};
+ghost use Rattle.adding.specs.Added.{Readable};
 ghost use Rattle.cnf.specs.Fold.{opposite, put, points, no-literal, orClause, andJoin, empty};
 ghost use Rattle.cnffold.specs.Built.{state, Built, Small};
 use adding::Added;
@@ -15,8 +16,9 @@ pub fn opposite(l: usize) -> usize
     l + 1 - 2 * (l % 2)
 }
 
-// One record more.
+// One record more. The table is not read again for it.
 pub fn put(buf: &mut [u8], used: usize, kind: u8, a: usize, b: usize) -> Added
+    requires { ⌜ Readable (now buf) used ⌝ }
     requires { ⌜ (kind < 7) × (a < 4032) × (b < 4032) ⌝ }
     ensures { λ v. ⌜ Built (put (state 0 used (now (buf .entry))) kind a b) v (now (buf .exit)) ⌝ }
 {
@@ -30,7 +32,7 @@ pub fn put(buf: &mut [u8], used: usize, kind: u8, a: usize, b: usize) -> Added
         0,
         0,
     ];
-    adding::add(buf, used, r)
+    adding::add_known(buf, used, r)
 }
 
 // The points below `vars`, in an empty buffer.
@@ -55,6 +57,7 @@ pub fn add_points(buf: &mut [u8], vars: usize) -> Added
 
 // False: TRUE's negation.
 fn add_false(buf: &mut [u8], used: usize) -> Added
+    requires { ⌜ Readable (now buf) used ⌝ }
     ensures { λ v. ⌜ Built (no-literal (state 0 used (now (buf .entry)))) v (now (buf .exit)) ⌝ }
 {
     let a = put(buf, used, 1, 0, 0);
@@ -69,6 +72,7 @@ fn add_false(buf: &mut [u8], used: usize) -> Added
 
 // The first `count` literals, folded left by OR; none are false.
 pub fn or_clause(buf: &mut [u8], used: usize, held: &[u16], count: usize) -> Added
+    requires { ⌜ Readable (now buf) used ⌝ }
     requires { ⌜ Small (now held) count ⌝ }
     ensures { λ v. ⌜ Built (orClause (state 0 used (now (buf .entry))) (take count (now (held .entry)))) v (now (buf .exit)) ⌝ }
 {
@@ -92,6 +96,7 @@ pub fn or_clause(buf: &mut [u8], used: usize, held: &[u16], count: usize) -> Add
 
 // AND of the goal so far and a clause's literal.
 pub fn and_join(buf: &mut [u8], used: usize, goal: usize, literal: usize) -> Added
+    requires { ⌜ Readable (now buf) used ⌝ }
     requires { ⌜ (goal < 4032) × (literal < 4032) ⌝ }
     ensures { λ v. ⌜ Built (andJoin goal (state literal used (now (buf .entry)))) v (now (buf .exit)) ⌝ }
 {

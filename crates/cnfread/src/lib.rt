@@ -2,6 +2,7 @@
 ghost use mathlib.Core.Path.{_≡_};
 ghost use Prim.Native.Nat.{ℕ, _<_};
 ghost use lib.ListN.{length, drop};
+ghost use Rattle.adding.specs.Added.{Readable};
 ghost use Rattle.cnf.specs.Fold.{andAll, goalOf, build};
 ghost use Rattle.cnftext.specs.Scanned.{clausesIn, Body};
 ghost use Rattle.cnffold.specs.Built.{state, Built};
@@ -84,6 +85,7 @@ fn gather(text: &[u8], at: usize, vars: usize, held: &mut [u16]) -> Gathered
 // The clause at a place of a body: TRUE, or an OR.
 fn add_clause(text: &[u8], at: usize, vars: usize, buf: &mut [u8], used: usize) -> Joined
     requires { ⌜ InBody vars (now text) at ⌝ }
+    requires { ⌜ Readable (now buf) used ⌝ }
     ensures { λ j. ⌜ AddsClause vars (now (text .entry)) at (now (buf .entry)) used (now (buf .exit)) j ⌝ }
 {
     let mut held = [0u16; 2048];
@@ -108,7 +110,7 @@ fn and_all(
     goal: usize,
 ) -> Added
     requires { ⌜ Places vars (now text) at clauses ⌝ }
-    requires { ⌜ goal < 4032 ⌝ }
+    requires { ⌜ (goal < 4032) × Readable (now buf) used ⌝ }
     ensures { λ v. ⌜ Built (andAll (state goal used (now (buf .entry))) (clausesIn vars (drop at (now (text .entry))))) v (now (buf .exit)) ⌝ }
 {
     let mut place = at;
@@ -136,6 +138,7 @@ fn and_all(
 // The goal of a text in order, whose points stand in the table.
 fn add_goal(text: &[u8], h: Heading, buf: &mut [u8], used: usize) -> Added
     requires { ⌜ Body (now text) h ⌝ }
+    requires { ⌜ Readable (now buf) used ⌝ }
     ensures { λ v. ⌜ ((l : ℕ) → Built (goalOf (state l used (now (buf .entry))) (fileIn h (now (text .entry)) .clauses)) v (now (buf .exit))) ⌝ }
 {
     if h.clauses == 0 {

@@ -28,13 +28,6 @@ level-most Yes = omega arith
 pub at-most : {x : ℕ} (a : Truth) → x ≡ level a → x ≤ 2
 at-most a e = rw e (level-most a)
 
-pub level-of-truth : (x : ℕ) → x ≤ 2 → x ≡ level (truthOf x)
-unfolding level
-level-of-truth zero h = refl
-level-of-truth (suc zero) h = refl
-level-of-truth (suc (suc zero)) h = refl
-level-of-truth (suc (suc (suc x))) h = absurd (omega arith)
-
 pub truth-high : (x : ℕ) → (x ≡ 0 → ⊥) → (x ≡ 1 → ⊥) → Yes ≡ truthOf x
 truth-high zero h k = absurd (h refl)
 truth-high (suc zero) h k = absurd (k refl)

@@ -33,10 +33,11 @@ same-length-2 c = search needs
 
 returns-2 : tie.Need-returns-2
 returns-2 c =
-    let low = c .before .before .before .before .before .before .put .ensures .small _ (c .before .before .a .given .1) in
-    built-answer (omega (arith, low, c .opposite .ensures))
+    let put = c .before .before .before .before .before .before .put .ensures in
+    let told = c .before .before .a .given .1 in
+    built-answer (omega (arith, put .small _ told, c .opposite .ensures)) (put .reads _ told)
     (false-is (c .before .before .before .before .before .before .before .before .before .args .used) (c .before .before .before .before .before .before .before .before .before .args .buf .now)
-    ∙ built-next (c .before .before .before .before .before .before .put .ensures) _ (c .before .before .a .given .1)
+    ∙ built-next put _ told
     ∙ same-literal (sym (c .opposite .ensures)))
 
 pub add-false-spec : {M : Type 1} → statement M

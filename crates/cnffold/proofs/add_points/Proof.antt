@@ -3,9 +3,10 @@ use mathlib.Core.Path.{_≡_, _∙_, sym, refl}
 use Prim.Native.Nat.{_≤_, _<_, _-_}
 use native.Mathlib.Nat.{sub-zero}
 use lib.ListN.{length}
+use Rattle.adding.specs.Added.{Readable}
 use Rattle.cnf.specs.Fold.{points, empty}
 use Rattle.cnffold.specs.Built.{state}
-use Rattle.cnffold.proofs.Built.{built-as, built-answer, built-next, built-stops}
+use Rattle.cnffold.proofs.Built.{built-as, built-answer, built-next, built-stops, none-reads}
 use Rattle.cnffold.proofs.Folds.{point-next, points-done}
 use native.Mathlib.Omega.{arith}
 use borrow.Author.Needs.{needs}
@@ -13,16 +14,16 @@ use Rattle.cnffold.proofs.add_points.Statement.{statement}
 use Rattle.cnffold.proofs.add_points.Tie as tie
 
 abbrev Inv-loop : tie.InvT-loop
-Inv-loop buf₀ vars literal₀ used₀ p₀ buf literal used p = (p ≤ vars) × (literal < 4032) × (length buf ≡ length buf₀) × (points (state literal used buf) p (vars - p) ≡ points (empty buf₀) 0 vars)
+Inv-loop buf₀ vars literal₀ used₀ p₀ buf literal used p = (p ≤ vars) × (literal < 4032) × (length buf ≡ length buf₀) × Readable buf used × (points (state literal used buf) p (vars - p) ≡ points (empty buf₀) 0 vars)
 
 abbrev μ-loop : tie.MeasureT-loop
 μ-loop buf₀ vars literal₀ used₀ p₀ buf literal used p = vars - p
 
 loop-holds : tie.Need-loop-holds Inv-loop μ-loop
-loop-holds c = (search needs, search needs, refl, simp sub-zero)
+loop-holds c = (search needs, search needs, refl, none-reads _, simp sub-zero)
 
 put-requires : tie.Need-put-requires Inv-loop μ-loop
-put-requires c κs = (omega arith, omega (arith, c .before .loop-test .taken, c .before .before .before .before .pre), omega arith)
+put-requires c κs = (c .before .before .loop .inv .3, (omega arith, omega (arith, c .before .loop-test .taken, c .before .before .before .before .pre), omega arith))
 
 enum-known-a : tie.Need-enum-known-a Inv-loop μ-loop
 enum-known-a c = search needs
@@ -39,7 +40,7 @@ returns c =
     let at-loop-test = at-put .before .before in
     let at-loop = at-loop-test .before in
     let inv = at-loop .loop .inv in
-    built-as (sym (point-next _ _ _ (at-loop-test .loop-test .taken)) ∙ inv .3) (built-stops (at-put .put .ensures) _ _ (c .enum-told .given .1))
+    built-as (sym (point-next _ _ _ (at-loop-test .loop-test .taken)) ∙ inv .4) (built-stops (at-put .put .ensures) _ _ (c .enum-told .given .1))
 
 add-p : tie.Need-add-p Inv-loop μ-loop
 add-p c = search needs
@@ -54,7 +55,8 @@ loop-again c =
       search needs,
       c .before .before .before .before .before .put .ensures .small _ told,
       search needs,
-      sym (built-next (c .before .before .before .before .before .put .ensures) _ told) ∙ sym (point-next _ _ _ (c .before .before .before .before .before .before .before .loop-test .taken)) ∙ inv .3,
+      c .before .before .before .before .before .put .ensures .reads _ told,
+      sym (built-next (c .before .before .before .before .before .put .ensures) _ told) ∙ sym (point-next _ _ _ (c .before .before .before .before .before .before .before .loop-test .taken)) ∙ inv .4,
     )
 
 same-length-2 : tie.Need-same-length-2 Inv-loop μ-loop
@@ -63,7 +65,7 @@ same-length-2 c = search needs
 returns-2 : tie.Need-returns-2 Inv-loop μ-loop
 returns-2 c =
     let inv = c .before .loop .inv in
-    built-answer (inv .1) (sym (inv .3) ∙ points-done _ _ _ (c .loop-test .left))
+    built-answer (inv .1) (inv .3) (sym (inv .4) ∙ points-done _ _ _ (c .loop-test .left))
 
 pub add-points-spec : {M : Type 1} → statement M
 add-points-spec =

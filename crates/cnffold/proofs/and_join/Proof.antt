@@ -10,7 +10,7 @@ use Rattle.cnffold.proofs.and_join.Tie as tie
 returns : tie.Need-returns
 returns c =
     let a = c .before .before .args in
-    built-answer (c .before .before .pre .1) (and-same (a .goal) (a .literal) (a .used) (a .buf .now) (c .if1 .taken))
+    built-answer (c .before .before .pre .1 .1) (c .before .before .pre .0) (and-same (a .goal) (a .literal) (a .used) (a .buf .now) (c .if1 .taken))
 
 opposite-requires : tie.Need-opposite-requires
 opposite-requires c κs = search needs
@@ -32,7 +32,7 @@ returns-2 c =
     built-as (and-opposite (a .goal) (a .literal) (a .used) (a .buf .now) (at-if1 .if1 .left) (at-if2 .if2 .taken ∙ at-opposite .opposite .ensures)) (at-add-false .add-false .ensures)
 
 put-requires : tie.Need-put-requires
-put-requires c κs = (omega arith, c .before .before .before .before .before .pre .0, c .before .before .before .before .before .pre .1)
+put-requires c κs = let p = c .before .before .before .before .before .pre in (p .0, (omega arith, p .1 .0, p .1 .1))
 
 same-length-2 : tie.Need-same-length-2
 same-length-2 c = search needs

@@ -11,10 +11,10 @@ slice-aggregate-gather : tie.Need-slice-aggregate-gather
 slice-aggregate-gather c = search needs
 
 gather-requires : tie.Need-gather-requires
-gather-requires c κs = (c .before .before .before .pre, search needs)
+gather-requires c κs = (c .before .before .before .pre .0, search needs)
 
 put-requires : tie.Need-put-requires
-put-requires c κs = search needs
+put-requires c κs = (c .before .before .before .before .before .before .before .pre .1, search needs)
 
 same-length : tie.Need-same-length
 same-length c = search needs
@@ -36,7 +36,7 @@ slice-aggregate-or-clause : tie.Need-slice-aggregate-or-clause
 slice-aggregate-or-clause c = search needs
 
 or-clause-requires : tie.Need-or-clause-requires
-or-clause-requires c κs = c .before .before .before .before .gather .ensures .small
+or-clause-requires c κs = let at-gather = c .before .before .before .before in (at-gather .before .before .before .before .pre .1, at-gather .gather .ensures .small)
 
 same-length-2 : tie.Need-same-length-2
 same-length-2 c = search needs

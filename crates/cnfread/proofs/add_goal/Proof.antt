@@ -8,7 +8,7 @@ use Rattle.cnfread.proofs.add_goal.Statement.{statement}
 use Rattle.cnfread.proofs.add_goal.Tie as tie
 
 put-requires : tie.Need-put-requires
-put-requires c κs = search needs
+put-requires c κs = (c .before .before .before .before .before .pre .1, search needs)
 
 same-length : tie.Need-same-length
 same-length c = search needs
@@ -19,10 +19,10 @@ returns c =
     let at-if1 = at-put .before .before in
     let start = at-if1 .before .before .before .before in
     let a = start .args in
-    λ l. built-as (goal-none (start .pre) (a .used) (a .buf .now) l (at-if1 .if1 .taken)) (at-put .put .ensures)
+    λ l. built-as (goal-none (start .pre .0) (a .used) (a .buf .now) l (at-if1 .if1 .taken)) (at-put .put .ensures)
 
 add-clause-requires : tie.Need-add-clause-requires
-add-clause-requires c κs = body-clause (c .before .before .before .before .before .pre) (c .before .if1 .left)
+add-clause-requires c κs = let start = c .before .before .before .before .before in (body-clause (start .pre .0) (c .before .if1 .left), start .pre .1)
 
 enum-known-a : tie.Need-enum-known-a
 enum-known-a c = search needs
@@ -39,7 +39,7 @@ returns-2 c =
     let at-if1 = at-add-clause .before .before in
     let start = at-if1 .before .before .before .before in
     let a = start .args in
-    λ l. built-as (goal-some (start .pre) (at-if1 .if1 .left) (state l (a .used) (a .buf .now))) (built-stops (at-add-clause .add-clause .ensures .built l) _ _ (c .enum-told .given .1))
+    λ l. built-as (goal-some (start .pre .0) (at-if1 .if1 .left) (state l (a .used) (a .buf .now))) (built-stops (at-add-clause .add-clause .ensures .built l) _ _ (c .enum-told .given .1))
 
 sub-and-all : tie.Need-sub-and-all
 sub-and-all c = omega (arith, c .before .before .before .before .before .before .before .before .if1 .left)
@@ -51,7 +51,7 @@ and-all-requires c κs =
     let at-if1 = at-add-clause .before .before in
     let start = at-if1 .before .before .before .before in
     let j = at-add-clause .add-clause .ensures in
-    (rest-places (start .pre) (at-if1 .if1 .left) (j .moves), j .built 0 .small _ (at-a .a .given .1))
+    (rest-places (start .pre .0) (at-if1 .if1 .left) (j .moves), (j .built 0 .small _ (at-a .a .given .1), j .built 0 .reads _ (at-a .a .given .1)))
 
 same-length-3 : tie.Need-same-length-3
 same-length-3 c = search needs
@@ -64,7 +64,7 @@ returns-3 c =
     let at-if1 = at-add-clause .before .before in
     let start = at-if1 .before .before .before .before in
     let j = at-add-clause .add-clause .ensures in
-    λ l. built-as (goal-joined (start .pre) (at-if1 .if1 .left) (j .moves) j (at-a .a .given .1) l) (at-and-all .and-all .ensures)
+    λ l. built-as (goal-joined (start .pre .0) (at-if1 .if1 .left) (j .moves) j (at-a .a .given .1) l) (at-and-all .and-all .ensures)
 
 pub add-goal-spec : {M : Type 1} → statement M
 add-goal-spec =

@@ -2,6 +2,7 @@
 use mathlib.Core.Path.{_≡_, _∙_, sym, refl}
 use Prim.Native.Nat.{_≤_, _<_, _-_}
 use lib.ListN.{length, drop}
+use Rattle.adding.specs.Added.{Readable}
 use Rattle.cnf.specs.Fold.{andAll}
 use Rattle.cnftext.specs.Scanned.{clausesIn}
 use Rattle.cnffold.specs.Built.{state}
@@ -17,6 +18,7 @@ Inv-loop text at vars clauses buf₀ used goal place₀ end₀ literal₀ k₀ b
     (k ≤ clauses)
     × (literal < 4032)
     × (length buf ≡ length buf₀)
+    × Readable buf end
     × Left vars text (clausesIn vars (drop at text)) k place
     × (andAll (state literal end buf) (drop k (clausesIn vars (drop at text))) ≡ andAll (state goal used buf₀) (clausesIn vars (drop at text)))
 
@@ -24,13 +26,13 @@ abbrev μ-loop : tie.MeasureT-loop
 μ-loop text at vars clauses buf₀ used goal place₀ end₀ literal₀ k₀ buf place end literal k = clauses - k
 
 loop-holds : tie.Need-loop-holds Inv-loop μ-loop
-loop-holds c = (search needs, c .before .before .pre .1, refl, left-all (c .before .before .pre .0), refl)
+loop-holds c = (search needs, c .before .before .pre .1 .0, refl, c .before .before .pre .1 .1, left-all (c .before .before .pre .0), refl)
 
 add-clause-requires : tie.Need-add-clause-requires Inv-loop μ-loop
 add-clause-requires c κs =
     let at-loop = c .before .before in
     let start = at-loop .before .before .before in
-    left-body (at-loop .loop .inv .3) (start .pre .0 .few) (omega (arith, c .before .loop-test .taken, start .pre .0 .count))
+    (left-body (at-loop .loop .inv .4) (start .pre .0 .few) (omega (arith, c .before .loop-test .taken, start .pre .0 .count)), at-loop .loop .inv .3)
 
 enum-known-a : tie.Need-enum-known-a Inv-loop μ-loop
 enum-known-a c = search needs
@@ -49,7 +51,7 @@ returns c =
     let start = at-loop .before .before .before in
     let p = start .pre .0 in
     let inv = at-loop .loop .inv in
-    let t = turn (at-loop .loop .literal) (inv .3) (p .few) (p .count) (at-loop-test .loop-test .taken) (inv .4) (at-add-clause .add-clause .ensures) in
+    let t = turn (at-loop .loop .literal) (inv .4) (p .few) (p .count) (at-loop-test .loop-test .taken) (inv .5) (at-add-clause .add-clause .ensures) in
     built-as (t .step) (built-stops (t .built) _ _ (c .enum-told .given .1))
 
 and-join-requires : tie.Need-and-join-requires Inv-loop μ-loop
@@ -61,8 +63,8 @@ and-join-requires c κs =
     let start = at-loop .before .before .before in
     let p = start .pre .0 in
     let inv = at-loop .loop .inv in
-    let t = turn (at-loop .loop .literal) (inv .3) (p .few) (p .count) (at-loop-test .loop-test .taken) (inv .4) (at-add-clause .add-clause .ensures) in
-    (inv .1, t .built .small _ (at-a .a .given .1))
+    let t = turn (at-loop .loop .literal) (inv .4) (p .few) (p .count) (at-loop-test .loop-test .taken) (inv .5) (at-add-clause .add-clause .ensures) in
+    (t .built .reads _ (at-a .a .given .1), (inv .1, t .built .small _ (at-a .a .given .1)))
 
 enum-known-r : tie.Need-enum-known-r Inv-loop μ-loop
 enum-known-r c = search needs
@@ -83,7 +85,7 @@ returns-2 c =
     let start = at-loop .before .before .before in
     let p = start .pre .0 in
     let inv = at-loop .loop .inv in
-    let t = turn (at-loop .loop .literal) (inv .3) (p .few) (p .count) (at-loop-test .loop-test .taken) (inv .4) (at-add-clause .add-clause .ensures) in
+    let t = turn (at-loop .loop .literal) (inv .4) (p .few) (p .count) (at-loop-test .loop-test .taken) (inv .5) (at-add-clause .add-clause .ensures) in
     built-as (sym (built-next (t .built) _ (at-a .a .given .1)) ∙ t .step) (built-stops (at-and-join .and-join .ensures) _ _ (c .enum-told2 .given .1))
 
 add-k : tie.Need-add-k Inv-loop μ-loop
@@ -102,11 +104,12 @@ loop-again c =
     let start = at-loop .before .before .before in
     let p = start .pre .0 in
     let inv = at-loop .loop .inv in
-    let t = turn (at-loop .loop .literal) (inv .3) (p .few) (p .count) (at-loop-test .loop-test .taken) (inv .4) (at-add-clause .add-clause .ensures) in (
+    let t = turn (at-loop .loop .literal) (inv .4) (p .few) (p .count) (at-loop-test .loop-test .taken) (inv .5) (at-add-clause .add-clause .ensures) in (
       search needs,
       at-and-join .and-join .ensures .small _ (c .before .r .given .1),
       search needs,
-      left-next (inv .3) (at-add-clause .add-clause .ensures .moves),
+      at-and-join .and-join .ensures .reads _ (c .before .r .given .1),
+      left-next (inv .4) (at-add-clause .add-clause .ensures .moves),
       sym (built-next (at-and-join .and-join .ensures) _ (c .before .r .given .1)) ∙ sym (built-next (t .built) _ (at-a .a .given .1)) ∙ t .step,
     )
 
@@ -117,8 +120,8 @@ returns-3 : tie.Need-returns-3 Inv-loop μ-loop
 returns-3 c =
     let s = c .before .before .before .before in
     let inv = c .before .loop .inv in
-    built-answer (inv .1)
-    (sym (inv .4) ∙ ands-done (clausesIn (s .args .vars) (drop (s .args .at) (s .args .text .now))) (c .before .loop .k) _ (omega (arith, c .loop-test .left, s .pre .0 .count)))
+    built-answer (inv .1) (inv .3)
+    (sym (inv .5) ∙ ands-done (clausesIn (s .args .vars) (drop (s .args .at) (s .args .text .now))) (c .before .loop .k) _ (omega (arith, c .loop-test .left, s .pre .0 .count)))
 
 pub and-all-spec : {M : Type 1} → statement M
 and-all-spec =

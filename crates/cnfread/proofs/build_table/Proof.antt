@@ -25,7 +25,10 @@ returns c =
     built-as (build-is (a .buf .now) (fileIn (a .h) (a .text .now))) (built-stops (c .before .before .before .before .add-points .ensures) _ _ (c .enum-told .given .1))
 
 add-goal-requires : tie.Need-add-goal-requires
-add-goal-requires c κs = c .before .before .before .before .before .before .before .before .before .before .pre
+add-goal-requires c κs =
+    let at-p = c .before .before in
+    let at-add-points = at-p .before .before .before .before in
+    (at-add-points .before .before .before .before .pre, at-add-points .add-points .ensures .reads _ (at-p .p .given .1))
 
 same-length-2 : tie.Need-same-length-2
 same-length-2 c = search needs

@@ -5,7 +5,6 @@ use native.Mathlib.Nat.{add-zero, add-sub-cancel-left}
 use native.Mathlib.Omega.{arith}
 use lib.ListN.{length}
 use borrow.Author.Needs.{needs}
-use Rattle.record.specs.Place.{placeOf}
 use Rattle.scope.specs.declared.Node.{Node}
 use Rattle.scope.specs.Table.{tables, nodeOf, sameNode, nodeAt, listFrom}
 use Rattle.scope.specs.Calls.{indexOf}
