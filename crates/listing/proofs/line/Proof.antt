@@ -1,11 +1,10 @@
--- `listing::line` meets its contract: six texts, each behind the one before. Assumes nothing.
+-- `listing::line` meets its contract: the words of both literals, then the line. Assumes nothing.
 use mathlib.Core.Path.{subst}
 use mathlib.Core.List.{List}
 use Prim.Native.Nat.{ℕ}
 use native.Mathlib.Omega.{arith}
 use borrow.Author.Needs.{needs}
-use Rattle.text.specs.Text.{ascii, Put}
-use Rattle.text.proofs.Text.{behind}
+use Rattle.text.specs.Text.{Put}
 use Rattle.listing.proofs.Words.{line-of}
 use Rattle.listing.proofs.line.Statement.{statement}
 use Rattle.listing.proofs.line.Tie as tie
@@ -25,68 +24,32 @@ add-verdict c = search needs
 verdict-requires-2 : tie.Need-verdict-requires-2
 verdict-requires-2 c κs = search needs
 
-number-requires : tie.Need-number-requires
-number-requires c κs = search needs
-
-slice-aggregate-put : tie.Need-slice-aggregate-put
-slice-aggregate-put c = search needs
-
-put-requires : tie.Need-put-requires
-put-requires c κs = search needs
-
-word-requires : tie.Need-word-requires
-word-requires c κs = search needs
-
-slice-aggregate-put-2 : tie.Need-slice-aggregate-put-2
-slice-aggregate-put-2 c = search needs
-
-put-requires-2 : tie.Need-put-requires-2
-put-requires-2 c κs = search needs
-
-word-requires-2 : tie.Need-word-requires-2
-word-requires-2 c κs = search needs
-
-slice-aggregate-put-3 : tie.Need-slice-aggregate-put-3
-slice-aggregate-put-3 c = search needs
-
-put-requires-3 : tie.Need-put-requires-3
-put-requires-3 c κs = search needs
+put-line-requires : tie.Need-put-line-requires
+put-line-requires c κs = search needs
 
 same-length : tie.Need-same-length
 same-length c = search needs
 
+same-length-2 : tie.Need-same-length-2
+same-length-2 c = search needs
+
 returns : tie.Need-returns
-unfolding ascii
 returns c =
-    let at-put3 = c .before .before in
-    let at-word2 = at-put3 .before .before .before .before .before in
-    let at-put2 = at-word2 .before .before .before .before in
-    let at-word = at-put2 .before .before .before .before .before in
-    let at-put = at-word .before .before .before .before in
-    let at-number = at-put .before .before .before .before .before in
-    let at-verdict2 = at-number .before .before in
-    let at-verdict = at-verdict2 .before in
-    let start = at-verdict .before .before .before in
-    let args = start .args in
-    let pre = start .pre in
-    let number = at-number .number .ensures in
-    let space = at-put .put .ensures in
-    let yes = at-word .word .ensures in
-    let space′ = at-put2 .put2 .ensures in
-    let no = at-word2 .word2 .ensures in
-    let feed = at-put3 .put3 .ensures in
+    let at-put = c .before .before in
+    let at-verdict2 = at-put .before .before .before .before in
+    let at-verdict = at-verdict2 .before .before .before .before in
+    let start = at-verdict .before .before .before .before .before in
+    let a = start .args in
+    let below = start .pre .1 .0 in
+    let put = at-put .put-line .ensures in
     record {
-      text = λ rs reads inside.
-          subst (λ (s : List ℕ). Put (args .out .now) (args .at) s (at-put3 .put3 .last .0) (at-put3 .put3 .result))
-          (line-of rs (args .n) (at-verdict .verdict .ensures rs reads (omega arith)) (at-verdict2 .verdict2 .ensures rs reads (omega arith)))
-          (behind (omega arith) (number .0)
-          (behind (omega arith) space
-          (behind (omega arith) (yes .put)
-          (behind (omega arith) space′
-          (behind (omega arith) (no .put) feed)))));
-      least = omega arith;
-      most = omega arith;
-      size = omega arith;
+      text = λ rs same.
+          subst (λ (s : List ℕ). Put (a .out .now) (a .at) s (at-put .put-line .last .0) (at-put .put-line .result))
+          (line-of rs (a .m) (at-verdict .verdict .ensures .word rs same (omega (arith, below))) (at-verdict2 .verdict2 .ensures .word rs same (omega (arith, below))))
+          (put .text);
+      least = put .least;
+      most = put .most;
+      size = put .text .size;
     }
 
 pub line-spec : {M : Type 1} → statement M
@@ -98,14 +61,7 @@ line-spec =
     mul-verdict-2
     add-verdict
     verdict-requires-2
-    number-requires
-    slice-aggregate-put
-    put-requires
-    word-requires
-    slice-aggregate-put-2
-    put-requires-2
-    word-requires-2
-    slice-aggregate-put-3
-    put-requires-3
+    put-line-requires
     same-length
+    same-length-2
     returns)

@@ -1,23 +1,28 @@
 -- `listing::list` meets its contract: a refused table's one line, or the heading and the lines behind it. Assumes nothing.
-use mathlib.Core.Path.{_≡_, _∙_, ap, sym, subst}
+use mathlib.Core.Path.{_∙_, ap, sym, subst}
 use mathlib.Core.List.{List}
-use Prim.Native.Nat.{ℕ, _≤_}
+use Prim.Native.Nat.{ℕ}
 use native.Mathlib.Omega.{arith}
 use borrow.Author.Needs.{needs}
-use Rattle.scope.specs.Outcome.{answer, refused}
-use Rattle.scope.specs.Calls.{tableCount}
-use Rattle.codec.proofs.Tables.{few-records}
 use Rattle.table.specs.Counted.{countedOf}
-use Rattle.table.proofs.Rows.{counted}
 use Rattle.text.specs.Text.{ascii, Put}
 use Rattle.text.specs.Listing.{heading}
 use Rattle.text.proofs.Text.{behind, within}
-use Rattle.listing.proofs.Words.{refused-listing, counted-listing}
+use Rattle.listing.proofs.Words.{asked-count, same-over, refused-listing, read-listed}
 use Rattle.listing.proofs.list.Statement.{statement}
 use Rattle.listing.proofs.list.Tie as tie
 
-count-requires : tie.Need-count-requires
-count-requires c κs = search needs
+array-share-prefix-goals : tie.Need-array-share-prefix-goals
+array-share-prefix-goals c = search needs
+
+slice-aggregate-ask-by : tie.Need-slice-aggregate-ask-by
+slice-aggregate-ask-by c = search needs
+
+slice-aggregate-ask-by-2 : tie.Need-slice-aggregate-ask-by-2
+slice-aggregate-ask-by-2 c = search needs
+
+ask-by-requires : tie.Need-ask-by-requires
+ask-by-requires c κs = search needs
 
 enum-known-c : tie.Need-enum-known-c
 enum-known-c c = search needs
@@ -42,30 +47,34 @@ put-requires c κs = search needs
 say-requires-2 : tie.Need-say-requires-2
 say-requires-2 c κs = search needs
 
--- the table reads, and has as many nodes as were counted, which are few
-answered : (c : tie.After-known-told2) → tableCount (c .before .before .before .before .before .before .args .t .now) ≡ answer (c .before .c2 .given .0 .0)
-answered c = sym (c .before .before .before .count .ensures) ∙ ap countedOf (c .before .c2 .given .1)
+slice-aggregate-lines : tie.Need-slice-aggregate-lines
+slice-aggregate-lines c = search needs
 
-few : (c : tie.After-known-told2) → c .before .c2 .given .0 .0 ≤ 2016
-few c =
-    let q = counted _ (answered c) in
-    rw (q .1) (few-records _ (λ i. c .before .before .before .before .before .shared-slice-known .given i .fits) (q .0))
+slice-aggregate-lines-2 : tie.Need-slice-aggregate-lines-2
+slice-aggregate-lines-2 c = search needs
 
 lines-requires : tie.Need-lines-requires
 lines-requires c κs =
-    let few = few (c .before .before .before .before .before .before .before .before) in
-    let put = c .before .before .before .before .before .put .ensures in
-    (few, omega (arith, few, put .ends, put .size))
+    let at-put = c .before .before .before .before .before .before .before in
+    let at-c2 = at-put .before .before .before .before in
+    let at-ask = at-c2 .before .before .before in
+    let start = at-ask .before .before .before .before .before in
+    let p = at-ask .ask-by .ensures .prepared _ (at-c2 .c2 .given .1) in
+    let put = at-put .put .ensures in
+    (p .indexed, (omega (arith, p .indexed .few, put .ends, put .size, start .pre), search needs))
 
 same-length : tie.Need-same-length
 same-length c = search needs
 
 returns : tie.Need-returns
 returns c =
-    let args = c .before .before .before .before .before .before .before .before .before .before .before .before .args in
-    let put = c .before .before .before .before .refused in
-    let no = refused-listing (args .t .now) (sym (c .before .before .before .before .before .before .before .before .before .count .ensures) ∙ ap countedOf (c .before .before .before .before .before .before .before .c .given .1)) in
-    subst (λ (s : List ℕ). Put (args .out .now) 0 s (put .last .0) (put .result)) no (put .ensures)
+    let at-refused = c .before .before .before .before in
+    let at-c = at-refused .before .before .before in
+    let at-ask = at-c .before .before .before in
+    let a = at-ask .before .before .before .before .before .args in
+    let put = at-refused .refused in
+    let no = refused-listing (a .t .now) (sym (asked-count (a .t .now)) ∙ sym (at-ask .ask-by .ensures .answered) ∙ ap countedOf (at-c .c .given .1)) in
+    subst (λ (s : List ℕ). Put (a .out .now) 0 s (put .last .0) (put .result)) no (put .ensures)
 
 same-length-2 : tie.Need-same-length-2
 same-length-2 c = search needs
@@ -73,17 +82,24 @@ same-length-2 c = search needs
 returns-2 : tie.Need-returns-2
 unfolding ascii heading
 returns-2 c =
-    let args = c .before .before .before .before .before .before .before .before .before .before .before .before .before .before .before .before .before .args in
-    let all = c .before .before .lines in
-    let rs = counted-listing (args .t .now) (answered (c .before .before .before .before .before .before .before .before .before .before .before)) in
-    subst (λ (s : List ℕ). Put (args .out .now) 0 s (all .last .1 .1 .0) (all .result)) (rs .3)
-    (behind (omega arith) (c .before .before .before .before .before .before .before .before .put .ensures) (all .ensures .text (rs .0) (rs .1) (rs .2)))
+    let at-lines = c .before .before .before in
+    let at-put = at-lines .before .before .before .before .before .before .before .before in
+    let at-c2 = at-put .before .before .before .before in
+    let at-ask = at-c2 .before .before .before in
+    let a = at-ask .before .before .before .before .before .args in
+    let all = at-lines .lines in
+    let p = at-ask .ask-by .ensures .prepared _ (at-c2 .c2 .given .1) in
+    subst (λ (s : List ℕ). Put (a .out .now) 0 s (all .last .1 .1 .0) (all .result)) (read-listed _ (p .nodes) _ (p .reads) (p .count))
+    (behind (omega arith) (at-put .put .ensures) (all .ensures .text (p .nodes) (same-over p)))
 
 pub list-spec : {M : Type 1} → statement M
 list-spec =
     tie.close
     (tie.spec
-    count-requires
+    array-share-prefix-goals
+    slice-aggregate-ask-by
+    slice-aggregate-ask-by-2
+    ask-by-requires
     enum-known-c
     refused-requires
     say-requires
@@ -91,6 +107,8 @@ list-spec =
     slice-aggregate-put
     put-requires
     say-requires-2
+    slice-aggregate-lines
+    slice-aggregate-lines-2
     lines-requires
     same-length
     returns

@@ -1,4 +1,4 @@
--- `listing::verdict` meets its contract: its buffers are long enough for decide. Assumes nothing.
+-- `listing::verdict` meets its contract: the goal put by itself. Assumes nothing.
 use borrow.Author.Needs.{needs}
 use Rattle.listing.proofs.Words.{judged}
 use Rattle.listing.proofs.verdict.Statement.{statement}
@@ -7,23 +7,17 @@ use Rattle.listing.proofs.verdict.Tie as tie
 literal-requires : tie.Need-literal-requires
 literal-requires c κs = search needs
 
-slice-aggregate-decide : tie.Need-slice-aggregate-decide
-slice-aggregate-decide c = search needs
+slice-aggregate-solve : tie.Need-slice-aggregate-solve
+slice-aggregate-solve c = search needs
 
-slice-aggregate-decide-2 : tie.Need-slice-aggregate-decide-2
-slice-aggregate-decide-2 c = search needs
+solve-requires : tie.Need-solve-requires
+solve-requires c κs = search needs
 
-slice-aggregate-decide-3 : tie.Need-slice-aggregate-decide-3
-slice-aggregate-decide-3 c = search needs
-
-decide-requires : tie.Need-decide-requires
-decide-requires c κs = search needs
+same-length : tie.Need-same-length
+same-length c = search needs
 
 returns : tie.Need-returns
-returns c =
-    judged _ (c .before .before .before .before .before .before .literal .ensures) _ _ _ _ (c .before .before .decide .result) (search needs) (search needs) (c .before .before .decide .ensures)
+returns c = judged (c .before .before .before .before .before .literal .ensures) (c .before .before .solve .ensures)
 
 pub verdict-spec : {M : Type 1} → statement M
-verdict-spec =
-    tie.close
-    (tie.spec literal-requires slice-aggregate-decide slice-aggregate-decide-2 slice-aggregate-decide-3 decide-requires returns)
+verdict-spec = tie.close (tie.spec literal-requires slice-aggregate-solve solve-requires same-length returns)

@@ -2,7 +2,6 @@
 use native.Mathlib.Omega.{arith}
 use borrow.Author.Needs.{needs}
 use Rattle.text.specs.Text.{ascii}
-use Rattle.text.proofs.Text.{nothing}
 use Rattle.listing.proofs.word.Statement.{statement}
 use Rattle.listing.proofs.word.Tie as tie
 
@@ -24,9 +23,6 @@ slice-aggregate-put-2 c = search needs
 put-requires-2 : tie.Need-put-requires-2
 put-requires-2 c κs = search needs
 
-enum-told-3 : tie.Need-enum-told-3
-enum-told-3 c = search needs
-
 same-length : tie.Need-same-length
 same-length c = search needs
 
@@ -45,11 +41,6 @@ returns-2 c =
     let w = c .before .before .put2 .ensures in
     rw (c .before .before .before .before .before .enum-told2 .given .1) (record { put = w; most = omega (arith, w .ends) })
 
-returns-3 : tie.Need-returns-3
-returns-3 c =
-    let args = c .before .before .before .args in
-    rw (c .enum-told3 .given .1) (record { put = nothing (args .out .now) (args .at); most = omega arith })
-
 pub word-spec : {M : Type 1} → statement M
 word-spec =
     tie.close
@@ -60,9 +51,7 @@ word-spec =
     enum-told-2
     slice-aggregate-put-2
     put-requires-2
-    enum-told-3
     same-length
     returns
     same-length-2
-    returns-2
-    returns-3)
+    returns-2)
