@@ -1,20 +1,23 @@
 -- The rows of add, as its code meets them. Assumes nothing.
 use mathlib.Core.Path.{_≡_, _∙_, ap, sym, refl}
+use mathlib.Core.Bool.{true}
 use mathlib.Core.List.{List, []}
 use Prim.Native.Nat.{ℕ, _<_, _≤_}
+use native.Mathlib.Nat.{zero-add}
 use native.Mathlib.Omega.{arith}
 use lib.Dec.{eqb, ltb}
-use lib.ListN.{length, take}
+use lib.ListN.{length, getD, take}
 use borrow.Author.Tests.{lt-leb, le-leb, ltb-true, ltb-false}
 use Rattle.scope.specs.declared.Node.{Node}
 use Rattle.scope.specs.Outcome.{Outcome, answer, refused, _>>=_}
 use Rattle.scope.specs.Block.{recordsIn}
-use Rattle.scope.specs.Table.{tables, nodeAt, readRecord, listFrom}
-use Rattle.scope.specs.Calls.{decodeUsed, normalized, addNode, add, bytesAfter}
+use Rattle.scope.specs.Table.{tables, nodeBytes, rangeOk, nodeAt, readRecord, listFrom}
+use Rattle.scope.specs.Calls.{noNode, decodeUsed, normalized, addNode, add, bytesAfter}
 use Rattle.scope.proofs.Tests.{bound, passed-on}
-use Rattle.scope.proofs.Lists.{length-listFrom}
-use Rattle.codec.specs.Valid.{Bytes}
+use Rattle.scope.proofs.Lists.{length-listFrom, getD-listFrom}
+use Rattle.codec.specs.Valid.{Bytes, Valid}
 use Rattle.codec.proofs.Rows.{by-test}
+use Rattle.codec.proofs.Records.{reads}
 use Rattle.codec.proofs.Tables.{answers}
 use Rattle.codec.proofs.Used.{used-encodes}
 use Rattle.adding.specs.declared.Added.{Added}
@@ -80,6 +83,14 @@ module _ (buf : List ℕ) (used n : ℕ) (e : usedCount (take used buf) ≡ answ
   pub used-count : length (usedNodes buf used n) ≡ n
   used-count = length-listFrom (nodeAt (take used buf)) n 0
 
+  -- each node's operands are of earlier ones
+  low : (0 < length (usedNodes buf used n) → Valid (usedNodes buf used n)) → (m : ℕ) → m < n → rangeOk (nodeAt (take used buf) m) m ≡ true
+  low valid m h =
+      let here : getD (usedNodes buf used n) m noNode ≡ nodeAt (take used buf) m = rw zero-add at (getD-listFrom (nodeAt (take used buf)) n 0 m noNode h) in
+      let y : Node = getD (usedNodes buf used n) m noNode in
+      let e = reads (nodeBytes y) m (valid (omega (arith, used-count)) .each m (omega (arith, used-count))) .range in
+      rw here at e
+
   pub ready : used ≤ length buf → Bytes (take used buf) → Ready buf used n
   ready h all =
       let u = used-encodes (take used buf) (usedNodes buf used n) all used-nodes in
@@ -87,4 +98,4 @@ module _ (buf : List ℕ) (used n : ℕ) (e : usedCount (take used buf) ≡ answ
       by-test (ltb 0 n)
       (λ t. omega (arith, u .1 (omega (arith, ltb-true 0 n t, used-count)) .few, used-count))
       (λ t. omega (arith, ltb-false 0 n t)) in
-      record { within = h; few = most; table = u .0 }
+      record { within = h; few = most; table = u .0; low = low (u .1) }

@@ -1,11 +1,12 @@
 -- What add answers, and what its parts ask and leave. Assumes nothing.
 use mathlib.Core.Path.{_≡_}
+use mathlib.Core.Bool.{true}
 use mathlib.Core.List.{List}
-use Prim.Native.Nat.{ℕ, _≤_}
+use Prim.Native.Nat.{ℕ, _<_, _≤_}
 use lib.ListN.{length, take}
 use Rattle.scope.specs.declared.Node.{Node}
 use Rattle.scope.specs.Outcome.{Outcome, answer, refused, _>>=_}
-use Rattle.scope.specs.Table.{nodeAt, listFrom, encode}
+use Rattle.scope.specs.Table.{rangeOk, nodeAt, listFrom, encode}
 use Rattle.scope.specs.Calls.{Added as Written, decodeUsed, addNode, bytesAfter}
 use Rattle.record.specs.declared.NodeRead.{NodeRead}
 use Rattle.record.specs.Read.{readOf}
@@ -53,11 +54,12 @@ pub record Readable (buf : List ℕ) (used : ℕ) : Type 0 where
 abbrev pub usedNodes : List ℕ → ℕ → ℕ → List Node
 usedNodes buf used n = listFrom (nodeAt (take used buf)) 0 n
 
--- the used part of a buffer is the table of its n nodes
+-- the used part of a buffer is the table of its n nodes, whose operands are of earlier ones
 pub record Ready (buf : List ℕ) (used n : ℕ) : Type 0 where
   pub within : used ≤ length buf
   pub few : n ≤ 2016
   pub table : take used buf ≡ encode (usedNodes buf used n)
+  pub low : (m : ℕ) → m < n → rangeOk (nodeAt (take used buf) m) m ≡ true
 
 -- the answer and the bytes are those of the definition
 pub record AddsTo (buf : List ℕ) (used n : ℕ) (x : Node) (v : Added) (after : List ℕ) : Type 0 where

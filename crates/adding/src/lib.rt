@@ -1,11 +1,12 @@
 // The builder: adds a record to a table, or finds the one that is already there.
 ghost use mathlib.Core.Path.{_≡_};
+ghost use mathlib.Core.Bool.{true};
 ghost use mathlib.Core.List.{_++_};
 ghost use Prim.Native.Nat.{_+_, _*_, _-_, _<_, _≤_};
 ghost use lib.ListN.{length, take, drop, getD};
 ghost use Rattle.scope.specs.Outcome.{answer};
 ghost use Rattle.scope.specs.Block.{blockOf};
-ghost use Rattle.scope.specs.Table.{nodeBytes};
+ghost use Rattle.scope.specs.Table.{nodeBytes, rangeOk};
 ghost use Rattle.scope.specs.Calls.{add, bytesAfter};
 ghost use Rattle.writer.specs.Grown.{grown};
 ghost use Rattle.table.specs.Counted.{countedOf};
@@ -57,7 +58,7 @@ fn open_block(buf: &mut [u8], used: usize, index: usize, r: [u8; 8])
 
 // The node x, whose record is r: found among the nodes of the used part, or new.
 fn add_node(buf: &mut [u8], used: usize, nodes: usize, r: [u8; 8], x: Node) -> Added
-    requires { ⌜ Ready (now buf) used nodes × (r ≡ nodeBytes x) ⌝ }
+    requires { ⌜ Ready (now buf) used nodes × (r ≡ nodeBytes x) × (rangeOk x nodes ≡ true) ⌝ }
     ensures { λ v. ⌜ AddsTo (now (buf .entry)) used nodes x v (now (buf .exit)) ⌝ }
 {
     let found = lookup::find(&buf[..used], nodes, x);

@@ -1,9 +1,10 @@
 // What add does with a record before any byte changes: turn an implication into an OR, order the operands, and look for the node.
 ghost use mathlib.Core.Path.{_≡_};
+ghost use mathlib.Core.Bool.{true};
 ghost use mathlib.Core.List.{[], _∷_};
-ghost use Prim.Native.Nat.{ℕ, _+_, _*_, _<_, _≤_};
+ghost use Prim.Native.Nat.{ℕ, _+_, _*_, _/_, _<_, _≤_};
 ghost use lib.ListN.{length};
-ghost use Rattle.scope.specs.Table.{neg, withOperands, sameNode, nodeAt, listFrom};
+ghost use Rattle.scope.specs.Table.{neg, withOperands, rangeOk, sameNode, nodeAt, listFrom};
 ghost use Rattle.scope.specs.Calls.{placed, ordered, turned, normalized, indexOf};
 ghost use Rattle.record.specs.Place.{placeOf};
 use scope::Node;
@@ -152,13 +153,24 @@ fn find_in(t: &[u8], j: usize, count: usize, x: Node) -> usize
     count
 }
 
-// The first node that is x, or the count where none is: block by block.
+// A block before which no node is x: a node's operands are of earlier nodes.
+fn first_block(x: Node) -> usize
+    ensures { λ r. ⌜ (63 * r ≤ x .b / 2) × (x .kind < 3 → r ≡ 0) ⌝ }
+{
+    if 2 < x.kind {
+        return (x.b / 126) as usize;
+    }
+    0
+}
+
+// The first node that is x, or the count where none is: block by block, from the first that can have it.
 pub fn find(t: &[u8], nodes: usize, x: Node) -> usize
     requires { ⌜ (nodes ≤ 2016) × ((n : ℕ) → n < nodes → placeOf n + 8 ≤ length (now t)) ⌝ }
+    requires { ⌜ ((n : ℕ) → n < nodes → rangeOk (nodeAt (now t) n) n ≡ true) × (rangeOk x nodes ≡ true) ⌝ }
     ensures { λ r. ⌜ r ≡ indexOf x (listFrom (nodeAt (now (t .entry))) 0 nodes) ⌝ }
 {
     let full = nodes / 63;
-    let mut j = 0;
+    let mut j = first_block(x);
     while j < full {
         let i = find_in(t, j, 63, x);
         if i < 63 {

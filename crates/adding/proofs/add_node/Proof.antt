@@ -17,8 +17,9 @@ slice-aggregate-find c = sym (length-take-le _ _ (c .before .before .pre .0 .wit
 
 find-requires : tie.Need-find-requires
 find-requires c κs =
-    let g = c .before .before .pre .0 in
-    (g .few, record-within _ _ _ g)
+    let p = c .before .before .pre in
+    let g = p .0 in
+    ((g .few, record-within _ _ _ g), (g .low, p .2))
 
 mul-t10 : tie.Need-mul-t10
 mul-t10 c = search needs

@@ -67,6 +67,7 @@ add-node-requires c κs =
     let x = sym (at-read .read-record .ensures) ∙ ap readOf (at-v .v .given .1) in (
       ready (a .buf .now) (a .used) (a .nodes) (start .pre .1) (start .pre .0) (bytes-take (a .used) (a .buf .now) all),
       record-bytes y (a .nodes) (search needs) bytes (reads y (a .nodes) x),
+      reads y (a .nodes) x .range,
     )
 
 same-length : tie.Need-same-length
