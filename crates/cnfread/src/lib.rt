@@ -82,20 +82,26 @@ fn gather(text: &[u8], at: usize, vars: usize, held: &mut [u16]) -> Gathered
     }
 }
 
-// The clause at a place of a body: TRUE, or an OR.
-fn add_clause(text: &[u8], at: usize, vars: usize, buf: &mut [u8], used: usize) -> Joined
+// The clause at a place of a body: TRUE, or an OR. Its literals gather in what is lent for them.
+fn add_clause(
+    text: &[u8],
+    at: usize,
+    vars: usize,
+    buf: &mut [u8],
+    used: usize,
+    held: &mut [u16],
+) -> Joined
     requires { ⌜ InBody vars (now text) at ⌝ }
-    requires { ⌜ Readable (now buf) used ⌝ }
+    requires { ⌜ Readable (now buf) used × (length (now held) ≡ 2048) ⌝ }
     ensures { λ j. ⌜ AddsClause vars (now (text .entry)) at (now (buf .entry)) used (now (buf .exit)) j ⌝ }
 {
-    let mut held = [0u16; 2048];
-    let g = gather(text, at, vars, &mut held);
+    let g = gather(text, at, vars, held);
     let next = g.next;
     if g.both {
         let added = cnffold::put(buf, used, 1, 0, 0);
         return Joined { added, next };
     }
-    let added = cnffold::or_clause(buf, used, &held, g.count);
+    let added = cnffold::or_clause(buf, used, held, g.count);
     Joined { added, next }
 }
 
@@ -108,9 +114,10 @@ fn and_all(
     buf: &mut [u8],
     used: usize,
     goal: usize,
+    held: &mut [u16],
 ) -> Added
     requires { ⌜ Places vars (now text) at clauses ⌝ }
-    requires { ⌜ (goal < 4032) × Readable (now buf) used ⌝ }
+    requires { ⌜ (goal < 4032) × Readable (now buf) used × (length (now held) ≡ 2048) ⌝ }
     ensures { λ v. ⌜ Built (andAll (state goal used (now (buf .entry))) (clausesIn vars (drop at (now (text .entry))))) v (now (buf .exit)) ⌝ }
 {
     let mut place = at;
@@ -118,7 +125,7 @@ fn and_all(
     let mut literal = goal;
     let mut k = 0;
     while k < clauses {
-        let j = add_clause(text, place, vars, buf, end);
+        let j = add_clause(text, place, vars, buf, end, held);
         let a = j.added;
         let Added::At(c) = a else {
             return a;
@@ -144,7 +151,8 @@ fn add_goal(text: &[u8], h: Heading, buf: &mut [u8], used: usize) -> Added
     if h.clauses == 0 {
         return cnffold::put(buf, used, 1, 0, 0);
     }
-    let j = add_clause(text, h.body, h.variables, buf, used);
+    let mut held = [0u16; 2048];
+    let j = add_clause(text, h.body, h.variables, buf, used, &mut held);
     let a = j.added;
     let Added::At(c) = a else {
         return a;
@@ -157,6 +165,7 @@ fn add_goal(text: &[u8], h: Heading, buf: &mut [u8], used: usize) -> Added
         buf,
         c.used,
         c.literal,
+        &mut held,
     )
 }
 
