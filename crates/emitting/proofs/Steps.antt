@@ -20,12 +20,12 @@ use Rattle.clause.specs.declared.Clause.{Clause}
 use Rattle.clause.specs.Literals.{literals}
 use Rattle.clause.proofs.Lengths.{by-length}
 use Rattle.state.specs.Work.{gOf, valueCode}
-use Rattle.moves.specs.Place.{Placed, Reasoned}
+use Rattle.moves.specs.Place.{placeNumber, Reasoned}
 use Rattle.gather.specs.Kept.{positions, removalIf, removalsAt}
 use Rattle.gather.proofs.Removes.{removals-zero}
 use Rattle.searching.proofs.Searches.{tree-conflict, tree-unit, tree-split, fuel}
 use Rattle.counting.specs.Count.{stepsFrom}
-use Rattle.emitting.specs.Trace.{falseBit, falseBits}
+use Rattle.emitting.specs.Trace.{falseBit, falseBits, RemovedBy}
 
 -- ---- the search from G, by its next move
 
@@ -95,13 +95,13 @@ removals-bits G k (l ∷ c) (suc more) p h = go (isFails (valueOf G l)) (falseBi
         rw (even, half, e)
 
 -- those of the clause that the move looked up is on
-pub removed-is : {v : Version} {t : ℕ → Node} {n : ℕ} {goals w : List ℕ} {k bits : ℕ} {c : Clause} → v ≡ One → Placed t goals w k → Reasoned t n goals w c
-    → bits ≡ falseBits (gOf w) (literals c) → removed v (expand t) goals (gOf w) k ≡ removalsAt positions k 0 bits
-removed-is {t = t} {n} {goals} {w} {k} {bits} {c} one p r e =
-    let clause : literals c ≡ getD (clauses (expand t) goals (gOf w)) k [] = rw (p .number) at (r .clause) in
+pub removed-is : {v : Version} {t : ℕ → Node} {n : ℕ} {goals w : List ℕ} {bits : ℕ} {c : Clause} → v ≡ One → Reasoned t n goals w c
+    → bits ≡ falseBits (gOf w) (literals c) → RemovedBy v t goals (gOf w) (placeNumber w) bits
+removed-is {w = w} {c = c} one r e =
+    let k = placeNumber w in
     rw one
-    (ap (removals (gOf w) k 0) (sym clause) ∙ sym (removals-bits (gOf w) k (literals c) positions 0 (few-literals c)) ∙ ap (removalsAt positions k 0) (sym e))
+    (ap (removals (gOf w) k 0) (sym (r .clause)) ∙ sym (removals-bits (gOf w) k (literals c) positions 0 (few-literals c)) ∙ ap (removalsAt positions k 0) (sym e))
 
 -- version two has none
-pub removed-none : {v : Version} (t : ℕ → Node) (goals G : List ℕ) (k : ℕ) → v ≡ Two → removed v (expand t) goals G k ≡ removalsAt positions k 0 0
+pub removed-none : {v : Version} (t : ℕ → Node) (goals G : List ℕ) (k : ℕ) → v ≡ Two → RemovedBy v t goals G k 0
 removed-none t goals G k two = rw two (sym (removals-zero positions k 0))

@@ -12,10 +12,11 @@ use Rattle.rules.specs.declared.Step.{Step}
 use Rattle.rules.specs.declared.Version.{Version}
 use Rattle.rules.specs.Steps.{encodeSteps}
 use Rattle.rules.specs.Rules.{isFails}
+use Rattle.rules.specs.Derivation.{removed}
 use Rattle.state.specs.Work.{gOf}
 use Rattle.state.specs.Holds.{Holds}
 use Rattle.gather.specs.declared.Writer.{Writer}
-use Rattle.gather.specs.Kept.{Space, Pushed}
+use Rattle.gather.specs.Kept.{positions, removalsAt, Space, Pushed}
 use Rattle.searching.specs.Search.{result, Extends}
 use Rattle.counting.specs.Count.{stepsFrom}
 use Rattle.emitting.specs.declared.Turn.{Turn}
@@ -28,6 +29,10 @@ falseBit G l = cond (isFails (valueOf G l)) 1 0
 abbrev pub falseBits : List ℕ → List ℕ → ℕ
 falseBits G [] = 0
 falseBits G (l ∷ c) = falseBit G l + 2 * falseBits G c
+
+-- the removals of clause k, by the bits of their positions
+abbrev pub RemovedBy : Version → (ℕ → Node) → List ℕ → List ℕ → ℕ → ℕ → Type 0
+RemovedBy v t goals G k bits = removed v (expand t) goals G k ≡ removalsAt positions k 0 bits
 
 -- the search from G closes, and its steps fit
 pub record Due (v : Version) (t : ℕ → Node) (n : ℕ) (goals G out : List ℕ) (g : Writer) : Type 0 where

@@ -23,10 +23,10 @@ ghost use Rattle.clause.specs.Templates.{rows};
 ghost use Rattle.clause.specs.Literals.{literals};
 ghost use Rattle.state.specs.Work.{tail, gOf, Ready, Numbered};
 ghost use Rattle.state.specs.Holds.{Holds};
-ghost use Rattle.moves.specs.Place.{Placed};
+ghost use Rattle.moves.specs.Place.{placeNumber, Placed};
 ghost use Rattle.gather.specs.Kept.{lent, Space, Pushed};
 ghost use Rattle.counting.specs.Count.{stepsFrom};
-ghost use Rattle.emitting.specs.Trace.{falseBit, falseBits, Due, Stepped, Emitted, Fits, written};
+ghost use Rattle.emitting.specs.Trace.{falseBit, falseBits, RemovedBy, Due, Stepped, Emitted, Fits, written};
 
 // Where a phase ends: at a conflict, or at a split on a literal.
 pub enum Turn {
@@ -70,7 +70,32 @@ fn false_bits(n: usize, work: &[u16], c: Clause) -> u8
     first + 2 * (second + 2 * third)
 }
 
-// The steps on clause k, that of the move looked up: in version one its removals, and a U or a C.
+// The positions of the removals of the clause that the move looked up is on, as bits: in version one those of its false literals.
+fn removal_bits(
+    version: Version,
+    templates: &[[u8; 9]; 18],
+    x: &[u16],
+    n: usize,
+    goals: &[u16],
+    work: &[u16],
+) -> u8
+    requires { ⌜ now templates ≡ rows ⌝ }
+    requires { ⌜ Indexed (now x) n ⌝ }
+    requires { ⌜ Goals n (now goals) ⌝ }
+    requires { ⌜ Ready n (now work) × Numbered (indexNode (now x)) (now goals) (tail (now work)) ⌝ }
+    requires { ⌜ Placed (indexNode (now x)) (now goals) (now work) (placeNumber (now work)) ⌝ }
+    ensures { λ r. ⌜ RemovedBy version (indexNode (now (x .entry))) (now (goals .entry)) (gOf (now (work .entry))) (placeNumber (now (work .entry))) r ⌝ }
+{
+    match version {
+        Version::One => {
+            let c = moves::reason(templates, x, n, goals, work);
+            false_bits(n, work, c)
+        }
+        Version::Two => 0,
+    }
+}
+
+// The steps on clause k, that of the move looked up: its removals, and a U or a C.
 fn on_clause(
     version: Version,
     templates: &[[u8; 9]; 18],
@@ -91,14 +116,8 @@ fn on_clause(
     requires { ⌜ Space (length (removed version (expand (indexNode (now x))) (now goals) (gOf (now work)) k) + 1) (now out) w ⌝ }
     ensures { λ r. ⌜ Pushed (removed version (expand (indexNode (now (x .entry)))) (now (goals .entry)) (gOf (now (work .entry))) k ++ step rule 0 k ∷ []) (now (out .entry)) w (now (out .exit)) r ⌝ }
 {
-    match version {
-        Version::One => {
-            let c = moves::reason(templates, x, n, goals, work);
-            let bits = false_bits(n, work, c);
-            gather::push_move(out, w, rule, k, bits)
-        }
-        Version::Two => gather::push_move(out, w, rule, k, 0),
-    }
+    let bits = removal_bits(version, templates, x, n, goals, work);
+    gather::push_move(out, w, rule, k, bits)
 }
 
 // The moves up to a conflict or a split, with their steps.
