@@ -1,6 +1,6 @@
-// The writing pass of derive: the steps of a search that closes, in blocks of a lent buffer. Its recursion carries two counts, a call for
-// each branch of a split; the block that gathers is an array of the pass' own, which is lent, and within a phase, the moves up to a
-// conflict or a split, it is a struct, taken and returned by value.
+// The writing pass of derive: the steps of a search that closes, in blocks of a lent buffer. The writer is taken and returned by value; its
+// block is lent to the recursion, which carries two counts, a call for each branch of a split. A phase is the moves up to a conflict or a
+// split.
 use calculus::Move;
 use clause::Clause;
 use gather::At;
@@ -34,14 +34,8 @@ pub enum Turn {
     Fork(u16),
 }
 
-// Where a phase ends, with its writer.
+// Where a phase ends, and the counts there.
 pub struct Told {
-    pub turn: Turn,
-    pub w: Writer,
-}
-
-// The same where the writer's block was lent.
-pub struct Ahead {
     pub turn: Turn,
     pub at: At,
 }
@@ -104,20 +98,21 @@ fn on_clause(
     goals: &[u16],
     work: &[u16],
     out: &mut [u8],
-    w: Writer,
+    block: &mut [u8; 512],
+    at: At,
     rule: u8,
     k: u16,
-) -> Writer
+) -> At
     requires { ⌜ now templates ≡ rows ⌝ }
     requires { ⌜ Indexed (now x) n ⌝ }
     requires { ⌜ Goals n (now goals) ⌝ }
     requires { ⌜ Ready n (now work) × Numbered (indexNode (now x)) (now goals) (tail (now work)) ⌝ }
     requires { ⌜ Placed (indexNode (now x)) (now goals) (now work) k ⌝ }
-    requires { ⌜ Space (length (removed version (expand (indexNode (now x))) (now goals) (gOf (now work)) k) + 1) (now out) w ⌝ }
-    ensures { λ r. ⌜ Pushed (removed version (expand (indexNode (now (x .entry)))) (now (goals .entry)) (gOf (now (work .entry))) k ++ step rule 0 k ∷ []) (now (out .entry)) w (now (out .exit)) r ⌝ }
+    requires { ⌜ Space (length (removed version (expand (indexNode (now x))) (now goals) (gOf (now work)) k) + 1) (now out) (lent (now block) at) ⌝ }
+    ensures { λ r. ⌜ Pushed (removed version (expand (indexNode (now (x .entry)))) (now (goals .entry)) (gOf (now (work .entry))) k ++ step rule 0 k ∷ []) (now (out .entry)) (lent (now (block .entry)) at) (now (out .exit)) (lent (now (block .exit)) r) ⌝ }
 {
     let bits = removal_bits(version, templates, x, n, goals, work);
-    gather::push_move(out, w, rule, k, bits)
+    gather::add_move(out, block, at, rule, k, bits)
 }
 
 // The moves up to a conflict or a split, with their steps.
@@ -130,40 +125,42 @@ fn phase(
     work: &mut [u16],
     masks: &mut [u64],
     out: &mut [u8],
-    w: Writer,
+    block: &mut [u8; 512],
+    start: At,
 ) -> Told
     requires { ⌜ now templates ≡ rows ⌝ }
     requires { ⌜ Indexed (now x) n ⌝ }
     requires { ⌜ Goals n (now goals) ⌝ }
     requires { ⌜ Holds (indexNode (now x)) n (now goals) (now work) (now masks) ⌝ }
-    requires { ⌜ Due version (indexNode (now x)) n (now goals) (gOf (now work)) (now out) w ⌝ }
-    ensures { λ r. ⌜ Stepped version (indexNode (now (x .entry))) n (now (goals .entry)) (now (work .entry)) (now (work .exit)) (now (masks .exit)) (now (out .entry)) (now (out .exit)) w (r .w) (r .turn) ⌝ }
+    requires { ⌜ Due version (indexNode (now x)) n (now goals) (gOf (now work)) (now out) (lent (now block) start) ⌝ }
+    ensures { λ r. ⌜ Stepped version (indexNode (now (x .entry))) n (now (goals .entry)) (now (work .entry)) (now (work .exit)) (now (masks .exit)) (now (out .entry)) (now (out .exit)) (lent (now (block .entry)) start) (lent (now (block .exit)) (r .at)) (r .turn) ⌝ }
 {
-    let mut v = w;
+    let mut at = start;
     loop {
         let m = moves::next_move(x, n, goals, work, masks);
         match m {
             Move::Conflict(k) => {
-                v = on_clause(version, templates, x, n, goals, work, out, v, 67, k);
+                at = on_clause(version, templates, x, n, goals, work, out, block, at, 67, k);
                 return Told {
                     turn: Turn::Closed,
-                    w: v,
+                    at,
                 };
             }
             Move::Unit(k, l) => {
-                v = on_clause(version, templates, x, n, goals, work, out, v, 85, k);
+                at = on_clause(version, templates, x, n, goals, work, out, block, at, 85, k);
                 solver::assume(x, n, goals, work, masks, l);
             }
             Move::Done => {
                 return Told {
                     turn: Turn::Closed,
-                    w: v,
+                    at,
                 };
             }
             Move::Split(l) => {
-                v = gather::push(
+                at = gather::add(
                     out,
-                    v,
+                    block,
+                    at,
                     Step {
                         rule: 83,
                         position: 0,
@@ -172,50 +169,10 @@ fn phase(
                 );
                 return Told {
                     turn: Turn::Fork(l),
-                    w: v,
+                    at,
                 };
             }
         }
-    }
-}
-
-// The same, with the block lent.
-fn settle(
-    version: Version,
-    templates: &[[u8; 9]; 18],
-    x: &[u16],
-    n: usize,
-    goals: &[u16],
-    work: &mut [u16],
-    masks: &mut [u64],
-    out: &mut [u8],
-    block: &mut [u8; 512],
-    at: At,
-) -> Ahead
-    requires { ⌜ now templates ≡ rows ⌝ }
-    requires { ⌜ Indexed (now x) n ⌝ }
-    requires { ⌜ Goals n (now goals) ⌝ }
-    requires { ⌜ Holds (indexNode (now x)) n (now goals) (now work) (now masks) ⌝ }
-    requires { ⌜ Due version (indexNode (now x)) n (now goals) (gOf (now work)) (now out) (lent (now block) at) ⌝ }
-    ensures { λ r. ⌜ Stepped version (indexNode (now (x .entry))) n (now (goals .entry)) (now (work .entry)) (now (work .exit)) (now (masks .exit)) (now (out .entry)) (now (out .exit)) (lent (now (block .entry)) at) (lent (now (block .exit)) (r .at)) (r .turn) ⌝ }
-{
-    let held = *block;
-    let w = Writer {
-        block: held,
-        count: at.count,
-        blocks: at.blocks,
-    };
-    let told = phase(version, templates, x, n, goals, work, masks, out, w);
-    let v = told.w;
-    let turn = told.turn;
-    let after = v.block;
-    *block = after;
-    Ahead {
-        turn,
-        at: At {
-            count: v.count,
-            blocks: v.blocks,
-        },
     }
 }
 
@@ -239,7 +196,7 @@ fn emit(
     requires { ⌜ Due version (indexNode (now x)) n (now goals) (gOf (now work)) (now out) (lent (now block) at) ⌝ }
     ensures { λ r. ⌜ Emitted version (indexNode (now (x .entry))) n (now (goals .entry)) (now (work .entry)) (now (work .exit)) (now (masks .exit)) (now (out .entry)) (now (out .exit)) (lent (now (block .entry)) at) (lent (now (block .exit)) r) ⌝ }
 {
-    let a = settle(version, templates, x, n, goals, work, masks, out, block, at);
+    let a = phase(version, templates, x, n, goals, work, masks, out, block, at);
     let turn = a.turn;
     let p = a.at;
     match turn {
@@ -253,6 +210,46 @@ fn emit(
             emit(version, templates, x, n, goals, work, masks, out, block, b)
         }
     }
+}
+
+// The same by a writer, whose block is lent.
+fn push_steps(
+    version: Version,
+    templates: &[[u8; 9]; 18],
+    x: &[u16],
+    n: usize,
+    goals: &[u16],
+    work: &mut [u16],
+    masks: &mut [u64],
+    out: &mut [u8],
+    mut w: Writer,
+) -> Writer
+    requires { ⌜ now templates ≡ rows ⌝ }
+    requires { ⌜ Indexed (now x) n ⌝ }
+    requires { ⌜ Goals n (now goals) ⌝ }
+    requires { ⌜ Holds (indexNode (now x)) n (now goals) (now work) (now masks) ⌝ }
+    requires { ⌜ Due version (indexNode (now x)) n (now goals) (gOf (now work)) (now out) w ⌝ }
+    ensures { λ r. ⌜ Emitted version (indexNode (now (x .entry))) n (now (goals .entry)) (now (work .entry)) (now (work .exit)) (now (masks .exit)) (now (out .entry)) (now (out .exit)) w r ⌝ }
+{
+    let start = At {
+        count: w.count,
+        blocks: w.blocks,
+    };
+    let at = emit(
+        version,
+        templates,
+        x,
+        n,
+        goals,
+        work,
+        masks,
+        out,
+        &mut w.block,
+        start,
+    );
+    w.count = at.count;
+    w.blocks = at.blocks;
+    w
 }
 
 // The goals' names and the steps of a search that closes, in blocks at the start of d.
@@ -275,22 +272,12 @@ pub fn write(
 {
     let mut block = [0u8; 512];
     block[0] = steps::letter_of(version);
-    let start = At {
+    let w = Writer {
+        block,
         count: 0,
         blocks: 0,
     };
-    let named = gather::add_goals(d, &mut block, start, goals);
-    let p = emit(
-        version,
-        templates,
-        x,
-        n,
-        goals,
-        work,
-        masks,
-        d,
-        &mut block,
-        named,
-    );
-    gather::close(d, &block, p.count, p.blocks);
+    let named = gather::push_goals(d, w, goals);
+    let done = push_steps(version, templates, x, n, goals, work, masks, d, named);
+    gather::close(d, done);
 }

@@ -1,4 +1,6 @@
-// Writing a derivation: steps gather in one block until it holds 126, and then the block is written, with the letter in its byte 0.
+// Writing a derivation: steps gather in one block until it holds 126, and then the block is written, with the letter in its byte 0. The
+// writer is a struct, taken and returned by value. The steps of a search are added to its block, which is lent, with two counts by value: a
+// struct of that size is copied at each call.
 use rules::Step;
 ghost use mathlib.Core.Path.{_≡_};
 ghost use mathlib.Core.List.{[], _∷_, _++_, map};
@@ -6,7 +8,7 @@ ghost use Prim.Native.Nat.{_+_, _*_, _<_, _≤_};
 ghost use lib.ListN.{length, getD, take, drop};
 ghost use Rattle.scope.specs.Block.{blockOf};
 ghost use Rattle.rules.specs.Steps.{G as name, stepBytes, step};
-ghost use Rattle.gather.specs.Kept.{bodyOf, gathered, lent, positions, removalIf, removalsAt, Space, Pushed, Closed};
+ghost use Rattle.gather.specs.Kept.{bodyOf, lent, positions, removalIf, removalsAt, Space, Pushed, Closed};
 
 // The block that gathers, its letter in byte 0 and its steps from byte 4 on; how many steps it holds; and how many blocks are written.
 pub struct Writer {
@@ -50,7 +52,7 @@ fn flush(out: &mut [u8], block: &[u8], count: usize, index: usize)
 }
 
 // One step more, in the block lent: a block that it fills is written.
-fn add(out: &mut [u8], block: &mut [u8; 512], at: At, s: Step) -> At
+pub fn add(out: &mut [u8], block: &mut [u8; 512], at: At, s: Step) -> At
     requires { ⌜ Space 1 (now out) (lent (now block) at) ⌝ }
     ensures { λ r. ⌜ Pushed (s ∷ []) (now (out .entry)) (lent (now (block .entry)) at) (now (out .exit)) (lent (now (block .exit)) r) ⌝ }
 {
@@ -68,21 +70,6 @@ fn add(out: &mut [u8], block: &mut [u8; 512], at: At, s: Step) -> At
         count: 0,
         blocks: blocks + 1,
     }
-}
-
-// One step more: a block that it fills is written.
-pub fn push(out: &mut [u8], mut w: Writer, s: Step) -> Writer
-    requires { ⌜ Space 1 (now out) w ⌝ }
-    ensures { λ r. ⌜ Pushed (s ∷ []) (now (out .entry)) w (now (out .exit)) r ⌝ }
-{
-    let start = At {
-        count: w.count,
-        blocks: w.blocks,
-    };
-    let at = add(out, &mut w.block, start, s);
-    w.count = at.count;
-    w.blocks = at.blocks;
-    w
 }
 
 // An R for position i of clause k, if a bit says so.
@@ -106,48 +93,63 @@ fn add_removal(out: &mut [u8], block: &mut [u8; 512], at: At, k: u16, i: u8, bit
 }
 
 // The steps of a move on clause k: an R for each position whose bit is set, in order, and the rule.
-pub fn push_move(out: &mut [u8], mut w: Writer, rule: u8, k: u16, removed: u8) -> Writer
-    requires { ⌜ Space (length (removalsAt positions k 0 removed) + 1) (now out) w ⌝ }
-    ensures { λ r. ⌜ Pushed (removalsAt positions k 0 removed ++ step rule 0 k ∷ []) (now (out .entry)) w (now (out .exit)) r ⌝ }
+pub fn add_move(
+    out: &mut [u8],
+    block: &mut [u8; 512],
+    start: At,
+    rule: u8,
+    k: u16,
+    removed: u8,
+) -> At
+    requires { ⌜ Space (length (removalsAt positions k 0 removed) + 1) (now out) (lent (now block) start) ⌝ }
+    ensures { λ r. ⌜ Pushed (removalsAt positions k 0 removed ++ step rule 0 k ∷ []) (now (out .entry)) (lent (now (block .entry)) start) (now (out .exit)) (lent (now (block .exit)) r) ⌝ }
 {
-    let mut at = At {
-        count: w.count,
-        blocks: w.blocks,
-    };
+    let mut at = start;
     let mut i = 0;
     let mut left = removed;
     while 0 < left {
-        at = add_removal(out, &mut w.block, at, k, i, left % 2);
+        at = add_removal(out, block, at, k, i, left % 2);
         left = left / 2;
         i += 1;
     }
-    at = add(
+    add(
         out,
-        &mut w.block,
+        block,
         at,
         Step {
             rule,
             position: 0,
             value: k,
         },
-    );
+    )
+}
+
+// One step more, by a writer.
+fn push(out: &mut [u8], mut w: Writer, s: Step) -> Writer
+    requires { ⌜ Space 1 (now out) w ⌝ }
+    ensures { λ r. ⌜ Pushed (s ∷ []) (now (out .entry)) w (now (out .exit)) r ⌝ }
+{
+    let start = At {
+        count: w.count,
+        blocks: w.blocks,
+    };
+    let at = add(out, &mut w.block, start, s);
     w.count = at.count;
     w.blocks = at.blocks;
     w
 }
 
-// The steps that name the goals, one each, in list order, in the block lent.
-pub fn add_goals(out: &mut [u8], block: &mut [u8; 512], start: At, goals: &[u16]) -> At
-    requires { ⌜ Space (length (now goals)) (now out) (lent (now block) start) ⌝ }
-    ensures { λ r. ⌜ Pushed (map name (now (goals .entry))) (now (out .entry)) (lent (now (block .entry)) start) (now (out .exit)) (lent (now (block .exit)) r) ⌝ }
+// The steps that name the goals, one each, in list order.
+pub fn push_goals(out: &mut [u8], start: Writer, goals: &[u16]) -> Writer
+    requires { ⌜ Space (length (now goals)) (now out) start ⌝ }
+    ensures { λ r. ⌜ Pushed (map name (now (goals .entry))) (now (out .entry)) start (now (out .exit)) r ⌝ }
 {
-    let mut at = start;
+    let mut w = start;
     let mut i = 0;
     while i < goals.len() {
-        at = add(
+        w = push(
             out,
-            block,
-            at,
+            w,
             Step {
                 rule: 71,
                 position: 0,
@@ -156,15 +158,17 @@ pub fn add_goals(out: &mut [u8], block: &mut [u8; 512], start: At, goals: &[u16]
         );
         i += 1;
     }
-    at
+    w
 }
 
 // The steps that still gather are written, if there are any.
-pub fn close(out: &mut [u8], block: &[u8; 512], count: usize, blocks: usize)
-    requires { ⌜ Space 0 (now out) (gathered (now block) count blocks) ⌝ }
-    ensures { λ _. ⌜ Closed (now (out .entry)) (gathered (now (block .entry)) count blocks) (now (out .exit)) ⌝ }
+pub fn close(out: &mut [u8], w: Writer)
+    requires { ⌜ Space 0 (now out) w ⌝ }
+    ensures { λ _. ⌜ Closed (now (out .entry)) w (now (out .exit)) ⌝ }
 {
+    let block = w.block;
+    let count = w.count;
     if 0 < count {
-        flush(out, block, count, blocks);
+        flush(out, &block, count, w.blocks);
     }
 }

@@ -14,7 +14,7 @@ use Rattle.emitting.proofs.emit.Reads as emit
 use Rattle.emitting.proofs.emit.Kinds as emit-kinds
 use Rattle.emitting.proofs.+emit.Lts-emit as emit-lts
 use Rattle.solver.proofs.undo_to.Reads as undo-to-reads
-use Rattle.emitting.proofs.settle.Reads as settle-reads
+use Rattle.emitting.proofs.phase.Reads as phase-reads
 use Rattle.clause.proofs.negated.Reads as negated-reads
 use Rattle.solver.proofs.assume.Reads as assume-reads
 use Rattle.emitting.proofs.+emit.{statement}
@@ -31,8 +31,8 @@ emit-below t = and 7 emit-kinds.ps (falls 7 emit-kinds.ps _<_ μ-emit t) emit.Pr
 
 abbrev emit-claims : ℕ → emit-lts.Claims
 emit-claims t = (
-  settle-reads.Asked,
-  settle-reads.Learnt,
+  phase-reads.Asked,
+  phase-reads.Learnt,
   count-reads.Asked,
   count-reads.Learnt,
   assume-reads.Asked,
@@ -45,8 +45,8 @@ emit-claims t = (
   negated-reads.Learnt,
 )
 
-emit-settle-requires : (t : ℕ) → emit-lts.Need-settle-requires (emit-claims t) (emit-at t) emit.Post
-emit-settle-requires t c κs = c .before .before .before .before .before .before .before .before .before .pre .1
+emit-phase-requires : (t : ℕ) → emit-lts.Need-phase-requires (emit-claims t) (emit-at t) emit.Post
+emit-phase-requires t c κs = c .before .before .before .before .before .before .before .before .before .pre .1
 
 emit-enum-told : (t : ℕ) → emit-lts.Need-enum-told (emit-claims t) (emit-at t) emit.Post
 emit-enum-told t c = search needs
@@ -55,15 +55,15 @@ emit-enum-known-turn : (t : ℕ) → emit-lts.Need-enum-known-turn (emit-claims 
 emit-enum-known-turn t c = search needs
 
 emit-count-requires : (t : ℕ) → emit-lts.Need-count-requires (emit-claims t) (emit-at t) emit.Post
-emit-count-requires t c κs = c .before .before .before .before .before .before .before .before .before .before .before .settle .ensures .holds .ready .size
+emit-count-requires t c κs = c .before .before .before .before .before .before .before .before .before .before .before .phase .ensures .holds .ready .size
 
 emit-assume-requires : (t : ℕ) → emit-lts.Need-assume-requires (emit-claims t) (emit-at t) emit.Post
 emit-assume-requires t c κs =
     let at-turn = c .before .before .before .before .before in
-    let at-settle = at-turn .before .before .before .before .before .before .before .before .before in
-    let s = at-settle .before .before .before .before .before .before .before .before .before .before in
+    let at-phase = at-turn .before .before .before .before .before .before .before .before .before in
+    let s = at-phase .before .before .before .before .before .before .before .before .before .before in
     let p = s .pre .1 .1 in
-    let r = at-settle .settle .ensures in
+    let r = at-phase .phase .ensures in
     let e = at-turn .turn .given .1 in
     let f = forked r (p .0 .table) (p .1 .0 .below) e in
     (p .0, (p .1 .0, (r .holds, fork-fresh f)))
@@ -72,10 +72,10 @@ emit-emit-requires : (t : ℕ) → emit-lts.Need-emit-requires (emit-claims t) (
 emit-emit-requires t c κs =
     let at-assume = c .before .before .before .before .before .before .before .before in
     let at-turn = at-assume .before .before .before .before .before .before in
-    let at-settle = at-turn .before .before .before .before .before .before .before .before .before in
-    let s = at-settle .before .before .before .before .before .before .before .before .before .before in
+    let at-phase = at-turn .before .before .before .before .before .before .before .before .before in
+    let s = at-phase .before .before .before .before .before .before .before .before .before .before in
     let p = s .pre .1 .1 in
-    let r = at-settle .settle .ensures in
+    let r = at-phase .phase .ensures in
     let e = at-turn .turn .given .1 in
     let f = forked r (p .0 .table) (p .1 .0 .below) e in
     let q = at-assume .assume .ensures .1 in
@@ -88,10 +88,10 @@ emit-undo-to-requires t c κs =
     let at-assume = at-emit .before .before .before .before .before .before .before .before .before in
     let at-count = at-assume .before .before .before in
     let at-turn = at-count .before .before .before in
-    let at-settle = at-turn .before .before .before .before .before .before .before .before .before in
-    let s = at-settle .before .before .before .before .before .before .before .before .before .before in
+    let at-phase = at-turn .before .before .before .before .before .before .before .before .before in
+    let s = at-phase .before .before .before .before .before .before .before .before .before .before in
     let p = s .pre .1 .1 in
-    let r = at-settle .settle .ensures in
+    let r = at-phase .phase .ensures in
     let e = at-turn .turn .given .1 in
     let f = forked r (p .0 .table) (p .1 .0 .below) e in
     let h = at-count .count .ensures in
@@ -103,10 +103,10 @@ emit-negated-requires : (t : ℕ) → emit-lts.Need-negated-requires (emit-claim
 emit-negated-requires t c κs =
     let far-0 = c .before .before .before .before .before .before .before .before .before .before .before .before .before .before .before .before .before .before .before .before in
     let at-turn = far-0 .before .before .before .before .before .before .before .before .before .before in
-    let at-settle = at-turn .before .before .before .before .before .before .before .before .before in
-    let s = at-settle .before .before .before .before .before .before .before .before .before .before in
+    let at-phase = at-turn .before .before .before .before .before .before .before .before .before in
+    let s = at-phase .before .before .before .before .before .before .before .before .before .before in
     let p = s .pre .1 .1 in
-    let r = at-settle .settle .ensures in
+    let r = at-phase .phase .ensures in
     let e = at-turn .turn .given .1 in
     let f = forked r (p .0 .table) (p .1 .0 .below) e in
     omega (arith, fork-fresh f .0, p .0 .few)
@@ -118,10 +118,10 @@ emit-assume-requires-2 t c κs =
     let at-assume = at-emit .before .before .before .before .before .before .before .before .before in
     let at-count = at-assume .before .before .before in
     let at-turn = at-count .before .before .before in
-    let at-settle = at-turn .before .before .before .before .before .before .before .before .before in
-    let s = at-settle .before .before .before .before .before .before .before .before .before .before in
+    let at-phase = at-turn .before .before .before .before .before .before .before .before .before in
+    let s = at-phase .before .before .before .before .before .before .before .before .before .before in
     let p = s .pre .1 .1 in
-    let r = at-settle .settle .ensures in
+    let r = at-phase .phase .ensures in
     let e = at-turn .turn .given .1 in
     let f = forked r (p .0 .table) (p .1 .0 .below) e in
     let u = at-undo-to .undo-to .ensures in
@@ -136,10 +136,10 @@ emit-emit-requires-2 t c κs =
     let at-assume′ = at-emit .before .before .before .before .before .before .before .before .before in
     let at-count = at-assume′ .before .before .before in
     let at-turn = at-count .before .before .before in
-    let at-settle = at-turn .before .before .before .before .before .before .before .before .before in
-    let s = at-settle .before .before .before .before .before .before .before .before .before .before in
+    let at-phase = at-turn .before .before .before .before .before .before .before .before .before in
+    let s = at-phase .before .before .before .before .before .before .before .before .before .before in
     let p = s .pre .1 .1 in
-    let r = at-settle .settle .ensures in
+    let r = at-phase .phase .ensures in
     let e = at-turn .turn .given .1 in
     let f = forked r (p .0 .table) (p .1 .0 .below) e in
     let q = at-assume′ .assume .ensures .1 in
@@ -158,7 +158,7 @@ emit-same-length-3 : (t : ℕ) → emit-lts.Need-same-length-3 (emit-claims t) (
 emit-same-length-3 t c = search needs
 
 emit-returns : (t : ℕ) → emit-lts.Need-returns (emit-claims t) (emit-at t) emit.Post
-emit-returns t c = emitted-closed (c .before .before .before .before .before .before .before .before .before .settle .ensures) (c .enum-told .given .1)
+emit-returns t c = emitted-closed (c .before .before .before .before .before .before .before .before .before .phase .ensures) (c .enum-told .given .1)
 
 emit-same-length-4 : (t : ℕ) → emit-lts.Need-same-length-4 (emit-claims t) (emit-at t) emit.Post
 emit-same-length-4 t c =
@@ -167,7 +167,7 @@ emit-same-length-4 t c =
     let at-undo-to = at-assume .before .before .before .before .before .before .before .before in
     let at-emit′ = at-undo-to .before .before .before .before .before .before .before .before .before in
     let at-assume′ = at-emit′ .before .before .before .before .before .before .before .before .before in
-    let at-settle = at-assume′ .before .before .before .before .before .before .before .before .before .before .before .before .before .before .before in
+    let at-phase = at-assume′ .before .before .before .before .before .before .before .before .before .before .before .before .before .before .before in
     omega (
       arith,
       at-emit .emit2 .kept .1 .1 .1 .1 .1 .0,
@@ -175,7 +175,7 @@ emit-same-length-4 t c =
       at-undo-to .undo-to .kept .1 .1 .1 .0,
       at-emit′ .emit .kept .1 .1 .1 .1 .1 .0,
       at-assume′ .assume .kept .1 .1 .1 .0,
-      at-settle .settle .kept .1 .1 .1 .1 .1 .0,
+      at-phase .phase .kept .1 .1 .1 .1 .1 .0,
     )
 
 emit-same-length-5 : (t : ℕ) → emit-lts.Need-same-length-5 (emit-claims t) (emit-at t) emit.Post
@@ -185,7 +185,7 @@ emit-same-length-5 t c =
     let at-undo-to = at-assume .before .before .before .before .before .before .before .before in
     let at-emit′ = at-undo-to .before .before .before .before .before .before .before .before .before in
     let at-assume′ = at-emit′ .before .before .before .before .before .before .before .before .before in
-    let at-settle = at-assume′ .before .before .before .before .before .before .before .before .before .before .before .before .before .before .before in
+    let at-phase = at-assume′ .before .before .before .before .before .before .before .before .before .before .before .before .before .before .before in
     omega (
       arith,
       at-emit .emit2 .kept .1 .1 .1 .1 .1 .1 .0,
@@ -193,7 +193,7 @@ emit-same-length-5 t c =
       at-undo-to .undo-to .kept .1 .1 .1 .1 .0,
       at-emit′ .emit .kept .1 .1 .1 .1 .1 .1 .0,
       at-assume′ .assume .kept .1 .1 .1 .1 .0,
-      at-settle .settle .kept .1 .1 .1 .1 .1 .1 .0,
+      at-phase .phase .kept .1 .1 .1 .1 .1 .1 .0,
     )
 
 emit-same-length-6 : (t : ℕ) → emit-lts.Need-same-length-6 (emit-claims t) (emit-at t) emit.Post
@@ -202,8 +202,8 @@ emit-same-length-6 t c =
     let far-0 = at-emit .before .before .before .before .before .before .before .before .before .before .before .before .before .before .before .before .before .before .before .before in
     let at-emit′ = far-0 .before .before .before .before .before .before in
     let far-0 = at-emit′ .before .before .before .before .before .before .before .before .before .before .before .before .before .before .before .before .before .before .before .before in
-    let at-settle = far-0 .before .before .before .before in
-    omega (arith, at-emit .emit2 .kept .1 .1 .1 .1 .1 .1 .1 .0, at-emit′ .emit .kept .1 .1 .1 .1 .1 .1 .1 .0, at-settle .settle .kept .1 .1 .1 .1 .1 .1 .1 .0)
+    let at-phase = far-0 .before .before .before .before in
+    omega (arith, at-emit .emit2 .kept .1 .1 .1 .1 .1 .1 .1 .0, at-emit′ .emit .kept .1 .1 .1 .1 .1 .1 .1 .0, at-phase .phase .kept .1 .1 .1 .1 .1 .1 .1 .0)
 
 emit-returns-2 : (t : ℕ) → emit-lts.Need-returns-2 (emit-claims t) (emit-at t) emit.Post
 emit-returns-2 t c =
@@ -215,10 +215,10 @@ emit-returns-2 t c =
     let at-assume′ = at-emit′ .before .before .before .before .before .before .before .before .before in
     let at-count = at-assume′ .before .before .before in
     let at-turn = at-count .before .before .before in
-    let at-settle = at-turn .before .before .before .before .before .before .before .before .before in
-    let s = at-settle .before .before .before .before .before .before .before .before .before .before in
+    let at-phase = at-turn .before .before .before .before .before .before .before .before .before in
+    let s = at-phase .before .before .before .before .before .before .before .before .before .before in
     let p = s .pre .1 .1 in
-    let r = at-settle .settle .ensures in
+    let r = at-phase .phase .ensures in
     let e = at-turn .turn .given .1 in
     let f = forked r (p .0 .table) (p .1 .0 .below) e in
     let q = at-assume′ .assume .ensures .1 in
@@ -230,7 +230,7 @@ pub +emit-spec : {M : Type 1} → statement M
 +emit-spec = close μ-emit λ t. emit-lts.spec (emit-claims t)
     (emit-at t)
     emit.Post
-    (emit-settle-requires t)
+    (emit-phase-requires t)
     (emit-enum-told t)
     (emit-enum-known-turn t)
     (emit-count-requires t)

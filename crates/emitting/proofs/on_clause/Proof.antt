@@ -9,19 +9,20 @@ removal-bits-requires c κs =
     let p = c .before .before .before .before .pre in
     (p .0, (p .1 .0, (p .1 .1 .0, (p .1 .1 .1 .0, placed-there (p .1 .1 .1 .1 .0)))))
 
-push-move-requires : tie.Need-push-move-requires
-push-move-requires c κs =
-    let p = c .before .before .before .before .before .before .pre .1 .1 .1 .1 in
-    rw (rw (p .0 .number) at (c .before .removal-bits .ensures)) at (p .1)
+add-move-requires : tie.Need-add-move-requires
+add-move-requires c κs =
+    let at-bits = c .before .before in
+    let p = at-bits .before .before .before .before .before .pre .1 .1 .1 .1 in
+    rw (rw (p .0 .number) at (at-bits .removal-bits .ensures)) at (p .1)
 
 same-length : tie.Need-same-length
 same-length c = search needs
 
 returns : tie.Need-returns
 returns c =
-    let at-bits = c .before .before .before .before in
+    let at-bits = c .before .before .before .before .before in
     let s = at-bits .before .before .before .before .before in
-    rw (rw (s .pre .1 .1 .1 .1 .0 .number) at (at-bits .removal-bits .ensures)) (c .before .before .push-move .ensures)
+    rw (rw (s .pre .1 .1 .1 .1 .0 .number) at (at-bits .removal-bits .ensures)) (c .before .before .add-move .ensures)
 
 pub on-clause-spec : {M : Type 1} → statement M
-on-clause-spec = tie.close (tie.spec removal-bits-requires push-move-requires same-length returns)
+on-clause-spec = tie.close (tie.spec removal-bits-requires add-move-requires same-length returns)

@@ -5,6 +5,7 @@ use Prim.Native.Nat.{_-_}
 use lib.ListN.{length}
 use Rattle.index.specs.Index.{indexNode}
 use Rattle.state.specs.Work.{gOf}
+use Rattle.gather.specs.Kept.{lent}
 use Rattle.searching.proofs.Searches.{looked}
 use Rattle.emitting.proofs.Runs.{Run, run-starts, run-looked, conflict-space, run-conflict, run-done, run-fresh, run-room, unit-space, run-unit, split-space, run-split}
 use native.Mathlib.Omega.{arith}
@@ -13,10 +14,11 @@ use Rattle.emitting.proofs.phase.Statement.{statement}
 use Rattle.emitting.proofs.phase.Tie as tie
 
 abbrev Inv-loop : tie.InvT-loop
-Inv-loop version templates x n goals work₀ masks₀ out₀ v₀ work masks out v = Run version (indexNode x) n goals work₀ masks₀ work masks out₀ out v₀ v
+Inv-loop version templates x n goals work₀ masks₀ out₀ block₀ at₀ work masks out block at =
+    Run version (indexNode x) n goals work₀ masks₀ work masks out₀ out (lent block₀ at₀) (lent block at)
 
 abbrev μ-loop : tie.MeasureT-loop
-μ-loop version templates x n goals work₀ masks₀ out₀ v₀ work masks out v = n - length (gOf work)
+μ-loop version templates x n goals work₀ masks₀ out₀ block₀ at₀ work masks out block at = n - length (gOf work)
 
 loop-holds : tie.Need-loop-holds Inv-loop μ-loop
 loop-holds c =
@@ -35,7 +37,7 @@ enum-known-m c = search needs
 
 on-clause-requires : tie.Need-on-clause-requires Inv-loop μ-loop
 on-clause-requires c κs =
-    let at-m = c .before .before .before in
+    let at-m = c .before .before .before .before in
     let at-next-move = at-m .before .before .before .before in
     let at-loop = at-next-move .before .before .before in
     let s = at-loop .before .before .before .before .before .before in
@@ -48,23 +50,23 @@ on-clause-requires c κs =
 
 same-length : tie.Need-same-length Inv-loop μ-loop
 same-length c =
-    let at-next-move = c .before .before .before .before .before .before .before .before .before .before in
+    let at-next-move = c .before .before .before .before .before .before .before .before .before .before .before in
     let at-loop = at-next-move .before .before .before in
     at-next-move .next-move .kept .1 .1 .1 .0 ∙ at-loop .loop .inv .size
 
 same-length-2 : tie.Need-same-length-2 Inv-loop μ-loop
-same-length-2 c = c .before .before .before .before .before .before .before .before .before .before .before .before .before .loop .inv .sets
+same-length-2 c = c .before .before .before .before .before .before .before .before .before .before .before .before .before .before .loop .inv .sets
 
 same-length-3 : tie.Need-same-length-3 Inv-loop μ-loop
 same-length-3 c =
     let at-on-clause = c .before .before in
-    let at-loop = at-on-clause .before .before .before .before .before .before .before .before .before .before .before in
+    let at-loop = at-on-clause .before .before .before .before .before .before .before .before .before .before .before .before in
     at-on-clause .on-clause .ensures .size ∙ at-loop .loop .inv .pushed .size
 
 returns : tie.Need-returns Inv-loop μ-loop
 returns c =
     let at-on-clause = c .before .before in
-    let at-m = at-on-clause .before .before .before .before in
+    let at-m = at-on-clause .before .before .before .before .before in
     let at-next-move = at-m .before .before .before .before in
     let at-loop = at-next-move .before .before .before in
     let v = at-next-move .next-move in
@@ -77,7 +79,7 @@ enum-known-m-2 c = search needs
 
 on-clause-requires-2 : tie.Need-on-clause-requires-2 Inv-loop μ-loop
 on-clause-requires-2 c κs =
-    let at-m = c .before .before .before in
+    let at-m = c .before .before .before .before in
     let at-next-move = at-m .before .before .before .before in
     let at-loop = at-next-move .before .before .before in
     let s = at-loop .before .before .before .before .before .before in
@@ -90,7 +92,7 @@ on-clause-requires-2 c κs =
 
 assume-requires : tie.Need-assume-requires Inv-loop μ-loop
 assume-requires c κs =
-    let at-m = c .before .before .before .before .before .before .before .before in
+    let at-m = c .before .before .before .before .before .before .before .before .before in
     let at-next-move = at-m .before .before .before .before in
     let at-loop = at-next-move .before .before .before in
     let s = at-loop .before .before .before .before .before .before in
@@ -103,7 +105,7 @@ assume-requires c κs =
 loop-less : tie.Need-loop-less Inv-loop μ-loop
 loop-less c =
     let at-assume = c .before .before .before .before in
-    let at-m = at-assume .before .before .before .before .before .before .before .before .before in
+    let at-m = at-assume .before .before .before .before .before .before .before .before .before .before in
     let at-next-move = at-m .before .before .before .before in
     let at-loop = at-next-move .before .before .before in
     let s = at-loop .before .before .before .before .before .before in
@@ -117,7 +119,7 @@ loop-again : tie.Need-loop-again Inv-loop μ-loop
 loop-again c =
     let at-assume = c .before .before .before .before in
     let at-on-clause = at-assume .before .before .before .before .before in
-    let at-m = at-on-clause .before .before .before .before in
+    let at-m = at-on-clause .before .before .before .before .before in
     let at-next-move = at-m .before .before .before .before in
     let at-loop = at-next-move .before .before .before in
     let s = at-loop .before .before .before .before .before .before in
@@ -155,9 +157,9 @@ returns-2 c =
 enum-known-m-3 : tie.Need-enum-known-m-3 Inv-loop μ-loop
 enum-known-m-3 c = search needs
 
-push-requires : tie.Need-push-requires Inv-loop μ-loop
-push-requires c κs =
-    let at-m = c .before .before in
+add-requires : tie.Need-add-requires Inv-loop μ-loop
+add-requires c κs =
+    let at-m = c .before .before .before in
     let at-next-move = at-m .before .before .before .before in
     let at-loop = at-next-move .before .before .before in
     let s = at-loop .before .before .before .before .before .before in
@@ -169,23 +171,23 @@ push-requires c κs =
 
 same-length-7 : tie.Need-same-length-7 Inv-loop μ-loop
 same-length-7 c =
-    let at-next-move = c .before .before .before .before .before .before .before .before .before in
+    let at-next-move = c .before .before .before .before .before .before .before .before .before .before in
     let at-loop = at-next-move .before .before .before in
     at-next-move .next-move .kept .1 .1 .1 .0 ∙ at-loop .loop .inv .size
 
 same-length-8 : tie.Need-same-length-8 Inv-loop μ-loop
-same-length-8 c = c .before .before .before .before .before .before .before .before .before .before .before .before .loop .inv .sets
+same-length-8 c = c .before .before .before .before .before .before .before .before .before .before .before .before .before .loop .inv .sets
 
 same-length-9 : tie.Need-same-length-9 Inv-loop μ-loop
 same-length-9 c =
-    let at-push = c .before .before in
-    let at-loop = at-push .before .before .before .before .before .before .before .before .before .before in
-    at-push .push .ensures .size ∙ at-loop .loop .inv .pushed .size
+    let at-add = c .before .before in
+    let at-loop = at-add .before .before .before .before .before .before .before .before .before .before .before in
+    at-add .add .ensures .size ∙ at-loop .loop .inv .pushed .size
 
 returns-3 : tie.Need-returns-3 Inv-loop μ-loop
 returns-3 c =
-    let at-push = c .before .before in
-    let at-m = at-push .before .before .before in
+    let at-add = c .before .before in
+    let at-m = at-add .before .before .before .before in
     let at-next-move = at-m .before .before .before .before in
     let at-loop = at-next-move .before .before .before in
     let s = at-loop .before .before .before .before .before .before in
@@ -193,7 +195,7 @@ returns-3 c =
     let r = run-looked (at-loop .loop .inv) (v .ensures .1 .0) (v .ensures .1 .1 .0) (v .kept .1 .1 .1 .0) in
     let e = looked (r .holds) (v .ensures .0) (v .ensures .1 .1 .0) (at-m .m3 .given .1) in
     let p = s .pre .1 in
-    run-split r (p .0 .table) (p .1 .0 .below) e (at-push .push .ensures)
+    run-split r (p .0 .table) (p .1 .0 .below) e (at-add .add .ensures)
 
 pub phase-spec : {M : Type 1} → statement M
 phase-spec =
@@ -220,7 +222,7 @@ phase-spec =
     same-length-6
     returns-2
     enum-known-m-3
-    push-requires
+    add-requires
     same-length-7
     same-length-8
     same-length-9

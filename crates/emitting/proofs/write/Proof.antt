@@ -13,23 +13,25 @@ letter-of-requires c κs = search needs
 array-write-block : tie.Need-array-write-block
 array-write-block c = search needs
 
-add-goals-requires : tie.Need-add-goals-requires
-add-goals-requires c κs =
-    let l = c .before .before .letter-of .result in
-    names-fit (emptyBlock l) (empty-length l) (c .before .before .before .before .before .before .before .before .pre .1 .1 .1 .1)
+push-goals-requires : tie.Need-push-goals-requires
+push-goals-requires c κs =
+    let l = c .before .letter-of .result in
+    names-fit (emptyBlock l) (empty-length l) (c .before .before .before .before .before .before .before .pre .1 .1 .1 .1)
 
-emit-requires : tie.Need-emit-requires
-emit-requires c κs =
-    let l = c .before .before .before .before .before .before .before .before .before .letter-of .result in
-    let p = c .before .before .before .before .before .before .before .before .before .before .before .before .before .before .before .pre in
-    let d = named-due (emptyBlock l) (empty-length l) (p .1 .1 .1 .1) (c .before .before .before .before .before .before .add-goals .ensures) in
-    (p .0, (p .1 .0, (p .1 .1 .0, (p .1 .1 .1 .0, d))))
+push-steps-requires : tie.Need-push-steps-requires
+push-steps-requires c κs =
+    let at-goals = c .before .before .before .before .before in
+    let l = at-goals .before .before .letter-of .result in
+    let p = at-goals .before .before .before .before .before .before .before .before .pre in
+    (p .0, (p .1 .0, (p .1 .1 .0, (p .1 .1 .1 .0, named-due (emptyBlock l) (empty-length l) (p .1 .1 .1 .1) (at-goals .push-goals .ensures)))))
 
 close-requires : tie.Need-close-requires
 close-requires c κs =
-    let l = c .before .before .before .before .before .before .before .before .before .before .before .before .before .before .before .before .before .before .letter-of .result in
-    let d = named-due (emptyBlock l) (empty-length l) (c .before .before .before .before .before .before .before .before .before .before .before .before .before .before .before .before .before .before .before .before .before .before .before .before .pre .1 .1 .1 .1) (c .before .before .before .before .before .before .before .before .before .before .before .before .before .before .before .add-goals .ensures) in
-    none-due d (c .before .before .before .before .before .before .before .before .emit .ensures .pushed)
+    let at-steps = c .before .before .before .before .before .before .before in
+    let at-goals = at-steps .before .before .before .before .before .before in
+    let l = at-goals .before .before .letter-of .result in
+    let p = at-goals .before .before .before .before .before .before .before .before .pre in
+    none-due (named-due (emptyBlock l) (empty-length l) (p .1 .1 .1 .1) (at-goals .push-goals .ensures)) (at-steps .push-steps .ensures .pushed)
 
 same-length : tie.Need-same-length
 same-length c = search needs
@@ -42,8 +44,13 @@ same-length-3 c = search needs
 
 returns : tie.Need-returns
 returns c =
-    let l = c .before .before .before .before .before .before .before .before .before .before .before .before .before .before .before .before .before .before .before .before .before .letter-of .result in
-    written (c .before .before .before .before .before .before .before .before .before .before .before .before .before .before .before .before .before .before .before .before .before .before .before .before .before .before .before .args .version) (empty-letter l ∙ c .before .before .before .before .before .before .before .before .before .before .before .before .before .before .before .before .before .before .before .before .before .letter-of .ensures) (pushed-on (c .before .before .before .before .before .before .before .before .before .before .before .before .before .before .before .before .before .before .add-goals .ensures) (c .before .before .before .before .before .before .before .before .before .before .before .emit .ensures .pushed)) (c .before .before .close .ensures)
+    let at-close = c .before .before in
+    let at-steps = at-close .before .before .before .before .before .before .before .before in
+    let at-goals = at-steps .before .before .before .before .before .before in
+    let at-letter = at-goals .before .before in
+    let a = at-letter .before .before .before .before .before .before .args in
+    let letter = empty-letter (at-letter .letter-of .result) ∙ at-letter .letter-of .ensures in
+    written (a .version) letter (pushed-on (at-goals .push-goals .ensures) (at-steps .push-steps .ensures .pushed)) (at-close .close .ensures)
 
 pub write-spec : {M : Type 1} → statement M
 write-spec =
@@ -51,8 +58,8 @@ write-spec =
     (tie.spec
     letter-of-requires
     array-write-block
-    add-goals-requires
-    emit-requires
+    push-goals-requires
+    push-steps-requires
     close-requires
     same-length
     same-length-2

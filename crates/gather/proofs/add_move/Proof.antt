@@ -1,17 +1,17 @@
--- `gather::push_move` meets its contract: before each turn the removals of the positions looked at are pushed. The measure is the bits
+-- `gather::add_move` meets its contract: before each turn the removals of the positions looked at are pushed. The measure is the bits
 -- left. Assumes nothing.
 use Rattle.gather.specs.Kept.{lent}
 use Rattle.gather.proofs.Removes.{Removing, removing-starts, removing-space, removing-goes, last-space, removing-ends}
 use native.Mathlib.Omega.{arith}
 use borrow.Author.Needs.{needs}
-use Rattle.gather.proofs.push_move.Statement.{statement}
-use Rattle.gather.proofs.push_move.Tie as tie
+use Rattle.gather.proofs.add_move.Statement.{statement}
+use Rattle.gather.proofs.add_move.Tie as tie
 
 abbrev Inv-loop : tie.InvT-loop
-Inv-loop out₀ rule k removed w₀ at₀ i₀ left₀ out w at i left = Removing k removed out₀ (lent (w₀ .block) at₀) out (lent (w .block) at) i left
+Inv-loop out₀ block₀ rule k removed at₀ i₀ left₀ out block at i left = Removing k removed out₀ (lent block₀ at₀) out (lent block at) i left
 
 abbrev μ-loop : tie.MeasureT-loop
-μ-loop out₀ rule k removed w₀ at₀ i₀ left₀ out w at i left = left
+μ-loop out₀ block₀ rule k removed at₀ i₀ left₀ out block at i left = left
 
 loop-holds : tie.Need-loop-holds Inv-loop μ-loop
 loop-holds c =
@@ -60,6 +60,6 @@ returns c =
     let s = at-loop .before .before in
     removing-ends (at-loop .loop .inv) (s .pre) (λ h. omega (arith, h, at-loop-test .loop-test .left)) (at-add .add .ensures)
 
-pub push-move-spec : {M : Type 1} → statement M
-push-move-spec =
+pub add-move-spec : {M : Type 1} → statement M
+add-move-spec =
     tie.close (tie.spec Inv-loop μ-loop loop-holds add-removal-requires add-i loop-less loop-again add-requires same-length returns)
