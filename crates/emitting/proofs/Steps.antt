@@ -5,11 +5,11 @@ use mathlib.Core.List.{List, [], _∷_, _++_}
 use Prim.Native.Nat.{ℕ, zero, suc, _+_, _-_, _*_, _/_, _%_, _<_, _≤_}
 use native.Mathlib.Omega.{arith}
 use lib.Dec.{ltb}
-use lib.ListN.{length, getD}
+use lib.ListN.{length}
 use borrow.Author.Tests.{lt-ltb}
 use Rattle.scope.specs.declared.Node.{Node}
 use Rattle.calculus.specs.Expansion.{neg, expand}
-use Rattle.calculus.specs.Order.{Value, holds, fails, undecided, valueOf, clauses, move}
+use Rattle.calculus.specs.Order.{Value, holds, fails, undecided, valueOf, move}
 use Rattle.calculus.specs.declared.Move.the-variants.{Conflict, Unit as Single, Split}
 use Rattle.rules.specs.declared.Version.{Version}
 use Rattle.rules.specs.declared.Version.the-variants.{One, Two}
