@@ -1,8 +1,8 @@
 -- The clauses of a literal by the code's templates, and how they are appended. Assumes nothing.
 use mathlib.Core.Path.{_≡_, refl, sym, ap, _∙_, subst}
-use mathlib.Core.Bool.{Bool, true, _&&_, _||_}
+use mathlib.Core.Bool.{Bool, true, false, cond}
 use mathlib.Core.Logic.{_⊎_, inl, inr}
-use mathlib.Core.List.{List, [], _∷_, _++_, map}
+use mathlib.Core.List.{List, [], _∷_, _++_, map, append-nil}
 use Prim.Native.Nat.{ℕ, zero, suc, _+_, _-_, _*_, _/_, _%_, _<_, _≤_}
 use native.Mathlib.Omega.{arith}
 use native.Mathlib.Nat.{zero-add}
@@ -10,7 +10,7 @@ use native.Mathlib.Decide.{ℕ-discrete, decLt}
 use lib.Dec.{leb, ltb}
 use lib.ListN.{length, getD, set, length-set, length-map, length-append, List·getD-append}
 use lib.Seq.{getD-set-same, getD-set-other, getD-append-add}
-use borrow.Author.Tests.{leb-true, ltb-true, lt-leb}
+use borrow.Author.Tests.{leb-true, le-ltb}
 use Rattle.scope.specs.declared.Node.{Node}
 use Rattle.scope.specs.Table.{arity, listFrom}
 use Rattle.scope.proofs.Operands.{arity-most}
@@ -22,8 +22,7 @@ use Rattle.calculus.proofs.Lists.{every, every-all, all-at, all-getD, getD-map}
 use Rattle.index.specs.Index.{indexNode}
 use Rattle.index.proofs.Nodes.{operand-low}
 use Rattle.area.specs.Area.{areaSize, mostClauses, mostSlots, clauseRoom, literalRoom, basesFrom, slotsFrom, strikesFrom, clauseCount, baseAt, slotAt}
-use Rattle.branch.specs.Templates.{rowFor, rows, cell, endColumn, choiceColumn}
-use Rattle.branch.specs.Clauses.{flat, offset, Listed, Filled, Appended}
+use Rattle.branch.specs.Clauses.{flat, offset, Listed, Filled, Appended, Room}
 use Rattle.branch.specs.Holds.{Indexed}
 use Rattle.branch.proofs.Offsets.{flat-append, flat-map, offset-map, offset-low, offset-high, offset-all, offset-none}
 
@@ -52,182 +51,263 @@ module _ {at : ℕ} {f : ℕ → ℕ} {w₀ : List ℕ} where
       wider i (inl x) = inl x
       wider i (inr x) = inr (omega (arith, x))
 
+  pub filled-first : {v : ℕ} → at < length w₀ → v ≡ f 0 → Filled at 1 f w₀ (set w₀ at v)
+  filled-first {v} b e =
+      let z : at + 0 ≡ at = omega arith in
+      subst (λ (i : ℕ). Filled at 1 f w₀ (set w₀ i v)) z (filled-more filled-none (omega (arith, b)) e)
+
   pub filled-all : {m k : ℕ} {w : List ℕ} → Filled at m f w₀ w → m ≡ k → Filled at k f w₀ w
   filled-all {m} {k} {w} p e = subst (λ (i : ℕ). Filled at i f w₀ w) e p
 
--- ---- the rows
+-- ---- clauses that are appended
 
--- a number up to m, or one that passes a test
-past-or : (m i : ℕ) (b : Bool) → (leb m i || b) ≡ true → i < m → b ≡ true
-past-or m i b e h = rw (lt-leb m i h) at e
+-- room for fewer
+pub room-fewer : {k m k′ m′ : ℕ} {w : List ℕ} → k′ ≤ k → m′ ≤ m → Room k m w → Room k′ m′ w
+room-fewer a b r = record { size = r .size; clauses = omega (arith, a, r .clauses); slots = omega (arith, b, r .slots) }
 
--- a test that each row passes
-row-test : (p : ℕ → Bool) (m : ℕ) → every p (listFrom (λ i. i) 0 m) ≡ true → (i : ℕ) → i < m → p i ≡ true
-row-test p m e i h =
-    ap p (sym (getD-listFrom (λ j. j) m 0 i 0 h ∙ zero-add i))
-    ∙ all-at (λ j. p j ≡ true) (listFrom (λ j. j) 0 m) i 0 (every-all p (listFrom (λ j. j) 0 m) e) (omega (arith, length-listFrom (λ j. j) m 0, h))
+-- room that is left
+pub room-left : {K M k m : ℕ} {ds : List (List ℕ)} {w w′ : List ℕ} → length ds + k ≤ K → length (flat ds) + m ≤ M → Room K M w → Appended ds w w′ → Room k m w′
+room-left {K} {M} {k} {m} {ds} {w} {w′} p q r a =
+    let top : baseAt w′ (clauseCount w′) ≡ baseAt w (clauseCount w) + length (flat ds) =
+    ap (baseAt w′) (a .count) ∙ a .bases (length ds) (omega arith) ∙ ap (baseAt w (clauseCount w) +_) (offset-all ds) in
+    record { size = omega (arith, r .size, a .size); clauses = omega (arith, p, r .clauses, a .count); slots = omega (arith, q, r .slots, top) }
 
--- a row has room for its clauses and literals, its choices are of the kind's operands, and its ends are small
-abbrev choiceFits : ℕ → ℕ → Bool
-choiceFits row i = leb (cell row 1) i || ltb (cell row (choiceColumn i) / 2) (arity (row / 2))
+pub appended-none : {w : List ℕ} → Appended [] w w
+unfolding offset flat
+appended-none {w} = record {
+  size = refl;
+  count = omega arith;
+  bases = λ j h. go j h;
+  slots = λ i h. absurd (omega (arith, h));
+  oldBases = λ k h. refl;
+  oldSlots = λ i h. refl;
+  depths = refl;
+  heads = refl;
+  later = λ i h. refl;
+}
+  where
+    go : (j : ℕ) → j ≤ 0 → baseAt w (clauseCount w + j) ≡ baseAt w (clauseCount w) + offset [] j
+    go zero h =
+        let z : clauseCount w + 0 ≡ clauseCount w = omega arith in
+        ap (baseAt w) z ∙ omega (arith, offset-none [])
+    go (suc j) h = absurd (omega (arith, h))
 
-abbrev endFits : ℕ → ℕ → Bool
-endFits row j = leb (cell row (endColumn (1 + j))) literalRoom
+module _ {ds es : List (List ℕ)} {w w₁ w₂ : List ℕ} (a : Appended ds w w₁) (b : Appended es w₁ w₂) where
+  -- first these, then those
+  pub appended-both : Appended (ds ++ es) w w₂
+  appended-both = record {
+    size = b .size ∙ a .size;
+    count = omega (arith, b .count, a .count, length-append ds es);
+    bases = λ j h. base j h (decLt (length ds) j);
+    slots = λ i h. slot i h (decLt i (length (flat ds)));
+    oldBases = λ k h. b .oldBases k (omega (arith, h, a .count)) ∙ a .oldBases k h;
+    oldSlots = λ i h. b .oldSlots i (omega (arith, h, top)) ∙ a .oldSlots i h;
+    depths = b .depths ∙ a .depths;
+    heads = b .heads ∙ a .heads;
+    later = λ i h. b .later i h ∙ a .later i h;
+  }
+    where
+      top : baseAt w₁ (clauseCount w₁) ≡ baseAt w (clauseCount w) + length (flat ds)
+      top = ap (baseAt w₁) (a .count) ∙ a .bases (length ds) (omega arith) ∙ ap (baseAt w (clauseCount w) +_) (offset-all ds)
 
-abbrev fits : ℕ → Bool
-fits row =
-    leb (cell row 0) clauseRoom
-    && (leb (cell row 1) literalRoom
-    && (every (choiceFits row) (listFrom (λ c. c) 0 literalRoom)
-    && every (endFits row) (listFrom (λ j. j) 0 clauseRoom)))
+      base : (j : ℕ) → j ≤ length (ds ++ es) → Dec (length ds < j) → baseAt w₂ (clauseCount w + j) ≡ baseAt w (clauseCount w) + offset (ds ++ es) j
+      base j h (yes q) =
+          let i : ℕ = j - length ds in
+          let z : clauseCount w₁ + i ≡ clauseCount w + j = omega (arith, q, a .count) in
+          let y : length ds + i ≡ j = omega (arith, q) in
+          ap (baseAt w₂) (sym z) ∙ b .bases i (omega (arith, h, q, length-append ds es))
+          ∙ omega (arith, top, offset-high ds es i, ap (offset (ds ++ es)) y)
+      base j h (no q) =
+          b .oldBases (clauseCount w + j) (omega (arith, q, a .count)) ∙ a .bases j (omega (arith, q))
+          ∙ ap (baseAt w (clauseCount w) +_) (sym (offset-low ds es j (omega (arith, q))))
 
-rows-fit : every fits (listFrom (λ i. i) 0 18) ≡ true
-unfolding listFrom rows templates flat offset arity
-rows-fit = refl
+      slot : (i : ℕ) → i < length (flat (ds ++ es)) → Dec (i < length (flat ds)) → slotAt w₂ (baseAt w (clauseCount w) + i) ≡ getD (flat (ds ++ es)) i 0
+      slot i h (yes q) =
+          b .oldSlots (baseAt w (clauseCount w) + i) (omega (arith, q, top)) ∙ a .slots i q
+          ∙ sym (ap (λ (c : List ℕ). getD c i 0) (flat-append ds es) ∙ List·getD-append (flat ds) (flat es) 0 i q)
+      slot i h (no q) =
+          let j : ℕ = i - length (flat ds) in
+          let z : baseAt w₁ (clauseCount w₁) + j ≡ baseAt w (clauseCount w) + i = omega (arith, q, top) in
+          let y : length (flat ds) + j ≡ i = omega (arith, q) in
+          ap (slotAt w₂) (sym z) ∙ b .slots j (omega (arith, h, q, ap length (flat-append ds es), length-append (flat ds) (flat es)))
+          ∙ sym (ap (λ (c : List ℕ). getD c i 0) (flat-append ds es) ∙ ap (λ (x : ℕ). getD (flat ds ++ flat es) x 0) (sym y) ∙ getD-append-add (flat ds) (flat es) j 0)
 
-module _ (row : ℕ) (h : row < 18) where
-  fit : fits row ≡ true
-  fit = row-test fits 18 rows-fit row h
+pub appended-as : {ds es : List (List ℕ)} {w w′ : List ℕ} → ds ≡ es → Appended ds w w′ → Appended es w w′
+appended-as {ds} {es} {w} {w′} e a = subst (λ (cs : List (List ℕ)). Appended cs w w′) e a
 
-  choices : Bool
-  choices = every (choiceFits row) (listFrom (λ c. c) 0 literalRoom)
+-- the literals of a clause are stored, then its end, and it is counted
+module _ (c : List ℕ) (w w₁ : List ℕ) (r : Room 1 (length c) w) (p : Filled (slotsFrom + baseAt w (clauseCount w)) (length c) (λ i. getD c i 0) w w₁) where
+  abbrev K : ℕ
+  K = clauseCount w
 
-  ends : Bool
-  ends = every (endFits row) (listFrom (λ j. j) 0 clauseRoom)
+  abbrev B : ℕ
+  B = baseAt w K
 
-  pub row-clauses : cell row 0 ≤ clauseRoom
-  row-clauses = leb-true (cell row 0) clauseRoom (and-left (leb (cell row 0) clauseRoom) _ fit)
+  w₂ : List ℕ
+  w₂ = set w₁ (basesFrom + (K + 1)) (B + length c)
 
-  fit₁ : (leb (cell row 1) literalRoom && (choices && ends)) ≡ true
-  unfolding choices ends
-  fit₁ = and-right (leb (cell row 0) clauseRoom) _ fit
+  w₃ : List ℕ
+  w₃ = set w₂ 0 (K + 1)
 
-  pub row-literals : cell row 1 ≤ literalRoom
-  row-literals = leb-true (cell row 1) literalRoom (and-left (leb (cell row 1) literalRoom) (choices && ends) fit₁)
+  size₂ : length w₂ ≡ length w
+  unfolding w₂
+  size₂ = length-set w₁ (basesFrom + (K + 1)) (B + length c) ∙ p .size
 
-  fit₂ : (choices && ends) ≡ true
-  fit₂ = and-right (leb (cell row 1) literalRoom) (choices && ends) fit₁
+  away₂ : (i : ℕ) → (i ≡ basesFrom + (K + 1) → ⊥) → getD w₂ i 0 ≡ getD w₁ i 0
+  unfolding w₂
+  away₂ i n = getD-set-other w₁ (basesFrom + (K + 1)) i (B + length c) 0 n
 
-  pub row-choice : (i : ℕ) → i < cell row 1 → cell row (choiceColumn i) / 2 < arity (row / 2)
-  unfolding choices
-  row-choice i b =
-      ltb-true (cell row (choiceColumn i) / 2) (arity (row / 2))
-      (past-or (cell row 1) i _ (row-test (choiceFits row) literalRoom (and-left choices ends fit₂) i (omega (arith, b, row-literals))) b)
+  away₃ : (i : ℕ) → (i ≡ 0 → ⊥) → getD w₃ i 0 ≡ getD w₂ i 0
+  unfolding w₃
+  away₃ i n = getD-set-other w₂ 0 i (K + 1) 0 n
 
-  pub row-end : (j : ℕ) → j < clauseRoom → cell row (endColumn (1 + j)) ≤ literalRoom
-  unfolding ends
-  row-end j b = leb-true (cell row (endColumn (1 + j))) literalRoom (row-test (endFits row) clauseRoom (and-right choices ends fit₂) j b)
+  -- away from the end and the literals
+  low₃ : (i : ℕ) → (i ≡ 0 → ⊥) → i ≤ basesFrom + K → getD w₃ i 0 ≡ getD w i 0
+  low₃ i n a = away₃ i n ∙ away₂ i (λ x. omega (arith, x, a)) ∙ p .else i (inl (omega (arith, a, r .clauses)))
 
-  -- it is that of the calculus
-  row-is : getD rows row [] ≡ rowFor (getD templates row [])
-  unfolding rows templates
-  row-is = getD-map rowFor templates row [] [] h
+  base₃ : (j : ℕ) → j ≤ 1 → baseAt w₃ (K + j) ≡ B + offset (c ∷ []) j
+  unfolding offset w₂
+  base₃ zero a =
+      let y : basesFrom + (K + 0) ≡ basesFrom + K = omega arith in
+      ap (λ (i : ℕ). getD w₃ i 0) y ∙ low₃ (basesFrom + K) (λ x. omega (arith, x)) (omega arith) ∙ omega arith
+  base₃ (suc zero) a =
+      away₃ (basesFrom + (K + 1)) (λ x. omega (arith, x)) ∙ getD-set-same w₁ (basesFrom + (K + 1)) (B + length c) 0 (omega (arith, p .size, r .size, r .clauses))
+      ∙ omega arith
+  base₃ (suc (suc j)) a = absurd (omega (arith, a))
 
-  cell-clauses : cell row 0 ≡ length (getD templates row [])
-  cell-clauses = ap (λ (r : List ℕ). getD r 0 0) row-is
+  slot₃ : (i : ℕ) → i < length c → slotAt w₃ (B + i) ≡ getD c i 0
+  slot₃ i a =
+      let y : slotsFrom + (B + i) ≡ slotsFrom + B + i = omega arith in
+      ap (λ (x : ℕ). getD w₃ x 0) y ∙ away₃ (slotsFrom + B + i) (λ x. omega (arith, x)) ∙ away₂ (slotsFrom + B + i) (λ x. omega (arith, x, r .clauses)) ∙ p .here i a
 
-  cell-literals : cell row 1 ≡ length (flat (getD templates row []))
-  cell-literals = ap (λ (r : List ℕ). getD r 1 0) row-is
+  flat-one : flat (c ∷ []) ≡ c
+  unfolding flat
+  flat-one = append-nil c
 
-  cell-end : (j : ℕ) → j < clauseRoom → cell row (endColumn (1 + j)) ≡ offset (getD templates row []) (suc j)
-  cell-end zero b = ap (λ (r : List ℕ). getD r 2 0) row-is
-  cell-end (suc zero) b = ap (λ (r : List ℕ). getD r 3 0) row-is
-  cell-end (suc (suc zero)) b = ap (λ (r : List ℕ). getD r 4 0) row-is
-  cell-end (suc (suc (suc j))) b = absurd (omega (arith, b))
+  appended₃ : Appended (c ∷ []) w w₃
+  appended₃ = record {
+    size = unfold w₃ in length-set w₂ 0 (K + 1) ∙ size₂;
+    count = unfold w₃ in getD-set-same w₂ 0 (K + 1) 0 (omega (arith, size₂, r .size));
+    bases = base₃;
+    slots = λ i h. slot₃ i (omega (arith, h, ap length flat-one)) ∙ ap (λ (d : List ℕ). getD d i 0) (sym flat-one);
+    oldBases = λ k a. low₃ (basesFrom + k) (λ x. omega (arith, x)) (omega (arith, a));
+    oldSlots = λ i a. away₃ (slotsFrom + i) (λ x. omega (arith, x)) ∙ away₂ (slotsFrom + i) (λ x. omega (arith, x, r .clauses)) ∙ p .else (slotsFrom + i) (inl (omega (arith, a)));
+    depths = low₃ 1 (λ x. omega (arith, x)) (omega arith);
+    heads = low₃ 2 (λ x. omega (arith, x)) (omega arith);
+    later = λ i a. away₃ i (λ x. omega (arith, x, a)) ∙ away₂ i (λ x. omega (arith, x, a, r .clauses)) ∙ p .else i (inr (omega (arith, a, r .slots)));
+  }
 
-  cell-choice : (i : ℕ) → i < literalRoom → cell row (choiceColumn i) ≡ getD (flat (getD templates row [])) i 0
-  cell-choice zero b = ap (λ (r : List ℕ). getD r 5 0) row-is
-  cell-choice (suc zero) b = ap (λ (r : List ℕ). getD r 6 0) row-is
-  cell-choice (suc (suc zero)) b = ap (λ (r : List ℕ). getD r 7 0) row-is
-  cell-choice (suc (suc (suc zero))) b = ap (λ (r : List ℕ). getD r 8 0) row-is
-  cell-choice (suc (suc (suc (suc i)))) b = absurd (omega (arith, b))
+  pub appended-one : Appended (c ∷ []) w (set (set w₁ (basesFrom + (clauseCount w + 1)) (baseAt w (clauseCount w) + length c)) 0 (clauseCount w + 1))
+  unfolding w₃ w₂
+  appended-one = appended₃
 
--- ---- the clauses of a literal
+module _ (w : List ℕ) where
+  pub empty-is : Room 1 0 w → Appended ([] ∷ []) w (set (set w (basesFrom + (clauseCount w + 1)) (baseAt w (clauseCount w))) 0 (clauseCount w + 1))
+  empty-is r =
+      let z : baseAt w (clauseCount w) + 0 ≡ baseAt w (clauseCount w) = omega arith in
+      subst (λ (v : ℕ). Appended ([] ∷ []) w (set (set w (basesFrom + (clauseCount w + 1)) v) 0 (clauseCount w + 1))) z (appended-one [] w w r filled-none)
 
-module _ (t : ℕ → Node) (l row : ℕ) (h : row < 18) (e : row ≡ 2 * t (l / 2) .kind + l % 2) where
-  expand-row : expand t l ≡ map (map (chosen (t (l / 2)))) (getD templates row [])
-  unfolding expand
-  expand-row = ap (λ (i : ℕ). map (map (chosen (t (l / 2)))) (getD templates i [])) (sym e)
+  pub one-is : (p : ℕ) → Room 1 1 w
+      → Appended ((p ∷ []) ∷ []) w (set (set (set w (slotsFrom + baseAt w (clauseCount w)) p) (basesFrom + (clauseCount w + 1)) (baseAt w (clauseCount w) + 1)) 0 (clauseCount w + 1))
+  one-is p r = appended-one (p ∷ []) w _ r (filled-first (omega (arith, r .size, r .slots)) refl)
 
-  flat-row : flat (expand t l) ≡ map (chosen (t (l / 2))) (flat (getD templates row []))
-  flat-row = ap flat expand-row ∙ flat-map (chosen (t (l / 2))) (getD templates row [])
+  pub two-is : (p q : ℕ) → Room 1 2 w
+      → Appended ((p ∷ q ∷ []) ∷ []) w
+      (set (set (set (set w (slotsFrom + baseAt w (clauseCount w)) p) (slotsFrom + baseAt w (clauseCount w) + 1) q) (basesFrom + (clauseCount w + 1)) (baseAt w (clauseCount w) + 2)) 0 (clauseCount w + 1))
+  two-is p q r =
+      appended-one (p ∷ q ∷ []) w _ r
+      (filled-more (filled-first (omega (arith, r .size, r .slots)) refl) (omega (arith, r .size, r .slots)) refl)
 
-  expand-clauses : length (expand t l) ≡ cell row 0
-  expand-clauses = ap length expand-row ∙ length-map (getD templates row []) (map (chosen (t (l / 2)))) ∙ sym (cell-clauses row h)
+  pub three-is : (p q l : ℕ) → Room 1 3 w
+      → Appended ((p ∷ q ∷ l ∷ []) ∷ []) w
+      (set (set (set (set (set w (slotsFrom + baseAt w (clauseCount w)) p) (slotsFrom + baseAt w (clauseCount w) + 1) q) (slotsFrom + baseAt w (clauseCount w) + 2) l)
+      (basesFrom + (clauseCount w + 1)) (baseAt w (clauseCount w) + 3)) 0 (clauseCount w + 1))
+  three-is p q l r =
+      appended-one (p ∷ q ∷ l ∷ []) w _ r
+      (filled-more (filled-more (filled-first (omega (arith, r .size, r .slots)) refl) (omega (arith, r .size, r .slots)) refl) (omega (arith, r .size, r .slots)) refl)
 
-  expand-literals : length (flat (expand t l)) ≡ cell row 1
-  expand-literals = ap length flat-row ∙ length-map (flat (getD templates row [])) (chosen (t (l / 2))) ∙ sym (cell-literals row h)
+-- ---- the clauses of a literal, by its row
 
-  expand-end : (j : ℕ) → j < cell row 0 → cell row (endColumn (1 + j)) ≡ offset (expand t l) (suc j)
-  expand-end j b =
-      cell-end row h j (omega (arith, b, row-clauses row h))
-      ∙ sym (ap (λ (ds : List (List ℕ)). offset ds (suc j)) expand-row ∙ offset-map (chosen (t (l / 2))) (getD templates row []) (suc j))
+pub row-expands : (t : ℕ → Node) (l row : ℕ) → row ≡ 2 * t (l / 2) .kind + l % 2 → map (map (chosen (t (l / 2)))) (getD templates row []) ≡ expand t l
+unfolding expand
+row-expands t l row e = ap (λ (i : ℕ). map (map (chosen (t (l / 2)))) (getD templates i [])) e
 
-  expand-choice : (i : ℕ) → i < cell row 1 → chosen (t (l / 2)) (cell row (choiceColumn i)) ≡ getD (flat (expand t l)) i 0
-  expand-choice i b =
-      ap (chosen (t (l / 2))) (cell-choice row h i (omega (arith, b, row-literals row h)))
-      ∙ sym (ap (λ (c : List ℕ). getD c i 0) flat-row ∙ getD-map (chosen (t (l / 2))) (flat (getD templates row [])) i 0 0 (omega (arith, b, cell-literals row h)))
+pub two-operands : (kind : ℕ) → 3 ≤ kind → 2 ≤ arity kind
+unfolding arity
+two-operands kind h = subst (2 ≤_) (sym (ap (λ (b : Bool). cond b 0 (cond (ltb kind 7) 2 3)) (le-ltb kind 3 h))) (go (ltb kind 7))
+  where
+    go : (b : Bool) → 2 ≤ cond b 2 3
+    go true = omega arith
+    go false = omega arith
 
-  -- ends and literals are stored, and the clauses are counted
-  module _ (w w₁ w₂ : List ℕ) (b v : ℕ) (size : areaSize ≤ length w) (few : clauseCount w + clauseRoom ≤ mostClauses) (q : b ≡ baseAt w (clauseCount w))
-      (low : b + literalRoom ≤ mostSlots) (z : v ≡ cell row 0)
-      (p₁ : Filled (basesFrom + (clauseCount w + 1)) (cell row 0) (λ j. b + cell row (endColumn (1 + j))) w w₁)
-      (p₂ : Filled (slotsFrom + b) (cell row 1) (λ i. chosen (t (l / 2)) (cell row (choiceColumn i))) w₁ w₂) where
-    abbrev K : ℕ
-    K = clauseCount w
+pub three-operands : (kind : ℕ) → 7 ≤ kind → 3 ≤ arity kind
+unfolding arity
+three-operands kind h =
+    let z : arity kind ≡ 3 = ap (λ (b : Bool). cond b 0 (cond (ltb kind 7) 2 3)) (le-ltb kind 3 (omega (arith, h))) ∙ ap (λ (b : Bool). cond b 2 3) (le-ltb kind 7 h) in
+    omega (arith, z)
 
-    w₃ : List ℕ
-    w₃ = set w₂ 0 (K + v)
+-- the clauses of literals that are chosen
+pub each-is : {p q c d : ℕ} {w w₁ w₂ : List ℕ} → p ≡ c → q ≡ d → Appended ((p ∷ []) ∷ []) w w₁ → Appended ((q ∷ []) ∷ []) w₁ w₂ → Appended ((c ∷ []) ∷ (d ∷ []) ∷ []) w w₂
+each-is {p} {q} {c} {d} {w} {w₁} {w₂} f g a b =
+    subst (λ (x : ℕ). Appended ((x ∷ []) ∷ (d ∷ []) ∷ []) w w₂) f (subst (λ (x : ℕ). Appended ((p ∷ []) ∷ (x ∷ []) ∷ []) w w₂) g (appended-both a b))
 
-    size₂ : length w₂ ≡ length w
-    size₂ = p₂ .size ∙ p₁ .size
+pub some-is : {p q c d : ℕ} {w w′ : List ℕ} → p ≡ c → q ≡ d → Appended ((p ∷ q ∷ []) ∷ []) w w′ → Appended ((c ∷ d ∷ []) ∷ []) w w′
+some-is {p} {q} {c} {d} {w} {w′} f g a = subst (λ (x : ℕ). Appended ((x ∷ d ∷ []) ∷ []) w w′) f (subst (λ (x : ℕ). Appended ((p ∷ x ∷ []) ∷ []) w w′) g a)
 
-    most : (cell row 0 ≤ clauseRoom) × (cell row 1 ≤ literalRoom)
-    most = (row-clauses row h, row-literals row h)
+pub each-three-is : {p q l c d e : ℕ} {w w₁ w₂ w₃ : List ℕ} → p ≡ c → q ≡ d → l ≡ e → Appended ((p ∷ []) ∷ []) w w₁ → Appended ((q ∷ []) ∷ []) w₁ w₂
+    → Appended ((l ∷ []) ∷ []) w₂ w₃ → Appended ((c ∷ []) ∷ (d ∷ []) ∷ (e ∷ []) ∷ []) w w₃
+each-three-is {p} {q} {l} {c} {d} {e} {w} {w₁} {w₂} {w₃} f g h a b o =
+    subst (λ (x : ℕ). Appended ((c ∷ []) ∷ (d ∷ []) ∷ (x ∷ []) ∷ []) w w₃) h (appended-both (each-is f g a b) o)
 
-    away₃ : (i : ℕ) → (i ≡ 0 → ⊥) → getD w₃ i 0 ≡ getD w₂ i 0
-    unfolding w₃
-    away₃ i n = getD-set-other w₂ 0 i (K + v) 0 n
+pub some-three-is : {p q l c d e : ℕ} {w w′ : List ℕ} → p ≡ c → q ≡ d → l ≡ e → Appended ((p ∷ q ∷ l ∷ []) ∷ []) w w′ → Appended ((c ∷ d ∷ e ∷ []) ∷ []) w w′
+some-three-is {p} {q} {l} {c} {d} {e} {w} {w′} f g h a =
+    subst (λ (x : ℕ). Appended ((x ∷ d ∷ e ∷ []) ∷ []) w w′) f
+    (subst (λ (x : ℕ). Appended ((p ∷ x ∷ e ∷ []) ∷ []) w w′) g (subst (λ (x : ℕ). Appended ((p ∷ q ∷ x ∷ []) ∷ []) w w′) h a))
 
-    count₃ : clauseCount w₃ ≡ K + length (expand t l)
-    unfolding w₃
-    count₃ = getD-set-same w₂ 0 (K + v) 0 (omega (arith, size₂, size)) ∙ omega (arith, z, expand-clauses)
+-- the clauses of a row
+pub by-row : (N : Node) (row r : ℕ) {w w′ : List ℕ} → row ≡ r → Appended (map (map (chosen N)) (getD templates r [])) w w′ → Appended (map (map (chosen N)) (getD templates row [])) w w′
+by-row N row r {w} {w′} e a = subst (λ (i : ℕ). Appended (map (map (chosen N)) (getD templates i [])) w w′) (sym e) a
 
-    -- away from the ends and the literals
-    low₃ : (i : ℕ) → (i ≡ 0 → ⊥) → i ≤ basesFrom + K → getD w₃ i 0 ≡ getD w i 0
-    low₃ i n a = away₃ i n ∙ p₂ .else i (inl (omega (arith, a, few))) ∙ p₁ .else i (inl (omega (arith, a)))
+-- a row that is none of some is past them
+pub past : {r row : ℕ} → r ≤ row → (row ≡ r → ⊥) → suc r ≤ row
+past h n = omega (arith, h, n)
 
-    base₃ : (j : ℕ) → j ≤ length (expand t l) → baseAt w₃ (K + j) ≡ baseAt w K + offset (expand t l) j
-    base₃ zero a =
-        let y : basesFrom + (K + 0) ≡ basesFrom + K = omega arith in
-        ap (λ (i : ℕ). getD w₃ i 0) y ∙ low₃ (basesFrom + K) (λ x. omega (arith, x)) (omega arith) ∙ omega (arith, offset-none (expand t l))
-    base₃ (suc j) a =
-        let c : j < cell row 0 = omega (arith, a, expand-clauses) in
-        let y : basesFrom + (K + suc j) ≡ basesFrom + (K + 1) + j = omega arith in
-        ap (λ (i : ℕ). getD w₃ i 0) y ∙ away₃ (basesFrom + (K + 1) + j) (λ x. omega (arith, x))
-        ∙ p₂ .else (basesFrom + (K + 1) + j) (inl (omega (arith, c, most, few))) ∙ p₁ .here j c
-        ∙ ap (_+ cell row (endColumn (1 + j))) q ∙ ap (baseAt w K +_) (expand-end j c)
+pub last-row : (row : ℕ) → 17 ≤ row → row < 18 → row ≡ 17
+last-row row h b = omega (arith, h, b)
 
-    slot₃ : (i : ℕ) → i < length (flat (expand t l)) → slotAt w₃ (baseAt w K + i) ≡ getD (flat (expand t l)) i 0
-    slot₃ i a =
-        let c : i < cell row 1 = omega (arith, a, expand-literals) in
-        let y : slotsFrom + (baseAt w K + i) ≡ slotsFrom + b + i = omega (arith, q) in
-        ap (λ (x : ℕ). getD w₃ x 0) y ∙ away₃ (slotsFrom + b + i) (λ x. omega (arith, x)) ∙ p₂ .here i c ∙ expand-choice i c
+pub row-most : {row r m : ℕ} → row ≡ r → m ≤ r → m ≤ row
+row-most e h = omega (arith, e, h)
 
-    pub appended : Appended (expand t l) w (set w₂ 0 (K + v))
-    unfolding w₃
-    appended = record {
-      size = length-set w₂ 0 (K + v) ∙ size₂;
-      count = count₃;
-      bases = base₃;
-      slots = slot₃;
-      oldBases = λ k a. low₃ (basesFrom + k) (λ x. omega (arith, x)) (omega (arith, a));
-      oldSlots = λ i a. away₃ (slotsFrom + i) (λ x. omega (arith, x)) ∙ p₂ .else (slotsFrom + i) (inl (omega (arith, a, q)))
-          ∙ p₁ .else (slotsFrom + i) (inr (omega (arith, most, few)));
-      depths = low₃ 1 (λ x. omega (arith, x)) (omega arith);
-      heads = low₃ 2 (λ x. omega (arith, x)) (omega arith);
-      later = λ i a. away₃ i (λ x. omega (arith, x, a)) ∙ p₂ .else i (inr (omega (arith, a, most, low))) ∙ p₁ .else i (inr (omega (arith, a, most, few)));
-    }
+-- those of an IFF and of its negation, by the sign
+pub iff-row : (N : Node) (row r : ℕ) {sign : ℕ} {w w′ : List ℕ} → row ≡ r → sign ≡ row % 2
+    → Appended (map (map (chosen N)) (((1 - sign) ∷ 2 ∷ []) ∷ (sign ∷ 3 ∷ []) ∷ [])) w w′ → Appended (map (map (chosen N)) (((1 - r % 2) ∷ 2 ∷ []) ∷ (r % 2 ∷ 3 ∷ []) ∷ [])) w w′
+iff-row N row r {sign} {w} {w′} e f a =
+    subst (λ (i : ℕ). Appended (map (map (chosen N)) (((1 - i) ∷ 2 ∷ []) ∷ (i ∷ 3 ∷ []) ∷ [])) w w′) (f ∙ ap (_% 2) e) a
+
+-- a row with no operands: not TRUE has an empty clause
+pub bare-same : (f : ℕ → ℕ) (row : ℕ) → row < 6 → getD templates row [] ≡ map (map f) (getD templates row [])
+unfolding templates
+bare-same f zero h = refl
+bare-same f (suc zero) h = refl
+bare-same f (suc (suc zero)) h = refl
+bare-same f (suc (suc (suc zero))) h = refl
+bare-same f (suc (suc (suc (suc zero)))) h = refl
+bare-same f (suc (suc (suc (suc (suc zero))))) h = refl
+bare-same f (suc (suc (suc (suc (suc (suc row)))))) h = absurd (omega (arith, h))
+
+pub bare-none : (row : ℕ) → row < 6 → (row ≡ 3 → ⊥) → [] ≡ getD templates row []
+unfolding templates
+bare-none zero h n = refl
+bare-none (suc zero) h n = refl
+bare-none (suc (suc zero)) h n = refl
+bare-none (suc (suc (suc zero))) h n = absurd (n refl)
+bare-none (suc (suc (suc (suc zero)))) h n = refl
+bare-none (suc (suc (suc (suc (suc zero))))) h n = refl
+bare-none (suc (suc (suc (suc (suc (suc row)))))) h n = absurd (omega (arith, h))
+
+pub bare-empty : (row : ℕ) → row ≡ 3 → [] ∷ [] ≡ getD templates row []
+unfolding templates
+bare-empty row e = ap (λ (i : ℕ). getD templates i []) (sym e)
 
 -- ---- the literal that is chosen
 

@@ -1,10 +1,13 @@
 -- Clauses one after the other in slots, and how they are stored. Assumes nothing.
 use mathlib.Core.Path.{_≡_}
 use mathlib.Core.Logic.{_⊎_}
-use mathlib.Core.List.{List, [], _∷_, _++_}
+use mathlib.Core.List.{List, [], _∷_, _++_, map}
 use Prim.Native.Nat.{ℕ, zero, suc, _+_, _<_, _≤_}
 use lib.ListN.{getD, length}
-use Rattle.area.specs.Area.{strikesFrom, clauseCount, depth, newest, baseAt, slotAt}
+use Rattle.scope.specs.Table.{arity}
+use Rattle.calculus.specs.Expansion.{chosen}
+use Rattle.index.specs.Index.{indexNode}
+use Rattle.area.specs.Area.{areaSize, mostClauses, mostSlots, strikesFrom, clauseCount, depth, newest, baseAt, slotAt}
 
 -- the literals of clauses, one after the other
 unfoldable pub flat : List (List ℕ) → List ℕ
@@ -40,3 +43,16 @@ pub record Appended (ds : List (List ℕ)) (w w′ : List ℕ) : Type 0 where
   pub depths : depth w′ ≡ depth w
   pub heads : newest w′ ≡ newest w
   pub later : (i : ℕ) → strikesFrom ≤ i → getD w′ i 0 ≡ getD w i 0
+
+-- there is room for k clauses more, with m literals
+pub record Room (k m : ℕ) (w : List ℕ) : Type 0 where
+  pub size : areaSize ≤ length w
+  pub clauses : clauseCount w + k ≤ mostClauses
+  pub slots : baseAt w (clauseCount w) + m ≤ mostSlots
+
+-- the clauses that choices of a node's operands make; and a node with at least m operands
+abbrev pub choices : List ℕ → ℕ → List (List ℕ) → List (List ℕ)
+choices x node cs = map (map (chosen (indexNode x node))) cs
+
+abbrev pub Chooses : ℕ → List ℕ → ℕ → ℕ → Type 0
+Chooses m x n node = (node < n) × (m ≤ arity (indexNode x node .kind))

@@ -1,4 +1,3 @@
 -- What the derivation checker's work area says of a derivation under way. Assumes nothing.
-pub mod Templates
 pub mod Clauses
 pub mod Holds

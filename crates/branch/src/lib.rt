@@ -1,5 +1,5 @@
-// The open branch of a derivation that is replayed, and the way back to its open splits: what joins it brings its clauses, by the
-// clause templates, and what is undone leaves the work area as it was.
+// The open branch of a derivation that is replayed, and the way back to its open splits: what joins it brings its clauses, by kind and
+// sign, and what is undone leaves the work area as it was.
 use area::BASES;
 use area::COUNTS;
 use area::HEADS;
@@ -8,60 +8,18 @@ use area::SIZES;
 use area::SLOTS;
 use area::TRAIL;
 ghost use mathlib.Core.Path.{_≡_};
-ghost use mathlib.Core.List.{[]};
-ghost use Prim.Native.Nat.{suc, _+_, _*_, _/_, _%_, _≤_, _<_};
+ghost use mathlib.Core.List.{[], _∷_};
+ghost use Prim.Native.Nat.{suc, _+_, _-_, _*_, _/_, _%_, _≤_, _<_};
 ghost use lib.ListN.{length, getD, replicate};
 ghost use Rattle.scope.specs.Table.{arity};
-ghost use Rattle.calculus.specs.Expansion.{neg, chosen, expand};
+ghost use Rattle.calculus.specs.Expansion.{neg, chosen, templates, expand};
 ghost use Rattle.calculus.specs.Model.{Fresh};
 ghost use Rattle.index.specs.Index.{mostNodes, indexNode};
 ghost use Rattle.area.specs.Area.{areaSize, mostClauses, mostSlots, clauseRoom, literalRoom, goalRoom, basesFrom, slotsFrom, clauseCount, depth, baseAt, trailAt, gOf, Trail};
-ghost use Rattle.branch.specs.Templates.{rows, cell, endColumn, choiceColumn};
-ghost use Rattle.branch.specs.Clauses.{Filled, Appended};
+ghost use Rattle.branch.specs.Clauses.{Filled, Appended, Room, choices, Chooses};
 ghost use Rattle.branch.specs.Holds.{Indexed, Goals, Joined, Holds, Held, Restores, fresh};
 
-// The clauses of a literal, by kind and sign, row 2 * kind + sign: how many clauses and how many literals, where the first, the second
-// and the third clause end, and the choice for each literal: 0 is a, 1 is not a, 2 is b, 3 is not b, 4 is c, 5 is not c.
-const TEMPLATES: [[u8; 9]; 18] = [
-    // there is no kind 0
-    [0, 0, 0, 0, 0, 0, 0, 0, 0],
-    [0, 0, 0, 0, 0, 0, 0, 0, 0],
-    // TRUE
-    [0, 0, 0, 0, 0, 0, 0, 0, 0],
-    [1, 0, 0, 0, 0, 0, 0, 0, 0],
-    // ATOM
-    [0, 0, 0, 0, 0, 0, 0, 0, 0],
-    [0, 0, 0, 0, 0, 0, 0, 0, 0],
-    // AND
-    [2, 2, 1, 2, 2, 0, 2, 0, 0],
-    [1, 2, 2, 2, 2, 1, 3, 0, 0],
-    // OR
-    [1, 2, 2, 2, 2, 0, 2, 0, 0],
-    [2, 2, 1, 2, 2, 1, 3, 0, 0],
-    // IMP
-    [1, 2, 2, 2, 2, 1, 2, 0, 0],
-    [2, 2, 1, 2, 2, 0, 3, 0, 0],
-    // IFF
-    [2, 4, 2, 4, 4, 1, 2, 0, 3],
-    [2, 4, 2, 4, 4, 0, 2, 1, 3],
-    // AND of three
-    [3, 3, 1, 2, 3, 0, 2, 4, 0],
-    [1, 3, 3, 3, 3, 1, 3, 5, 0],
-    // OR of three
-    [1, 3, 3, 3, 3, 0, 2, 4, 0],
-    [3, 3, 1, 2, 3, 1, 3, 5, 0],
-];
-
-// A number of TEMPLATES, which is lent: an index into a constant copies the constant.
-fn template(templates: &[[u8; 9]; 18], row: usize, column: usize) -> u8
-    requires { ⌜ now templates ≡ rows ⌝ }
-    requires { ⌜ (row < 18) × (column < 9) ⌝ }
-    ensures { λ r. ⌜ r ≡ cell row column ⌝ }
-{
-    templates[row][column]
-}
-
-// The row of a literal.
+// The row of a literal: by kind and sign, 2 * kind + sign.
 fn row_of(x: &[u16], n: usize, l: u16) -> usize
     requires { ⌜ Indexed (now x) n ⌝ }
     requires { ⌜ l < 2 * n ⌝ }
@@ -89,58 +47,173 @@ fn choose(x: &[u16], n: usize, node: usize, c: u8) -> u16
     l - l % 2 + (l + c as u16) % 2
 }
 
-// The clauses of a row are appended after clause k - 1, which ends at slot b: where each ends.
-fn put_ends(templates: &[[u8; 9]; 18], work: &mut [u16], row: usize, k: usize, b: u16)
-    requires { ⌜ now templates ≡ rows ⌝ }
-    requires { ⌜ (areaSize ≤ length (now work)) × (row < 18) × (k + clauseRoom ≤ mostClauses) × (b ≤ mostSlots) ⌝ }
-    ensures { λ _. ⌜ Filled (basesFrom + (k + 1)) (cell row 0) (λ j. b + cell row (endColumn (1 + j))) (now (work .entry)) (now (work .exit)) ⌝ }
+// An empty clause is appended.
+fn put_empty(work: &mut [u16])
+    requires { ⌜ Room 1 0 (now work) ⌝ }
+    ensures { λ _. ⌜ Appended ([] ∷ []) (now (work .entry)) (now (work .exit)) ⌝ }
 {
-    let clauses = template(templates, row, 0) as usize;
-    let mut j = 0;
-    while j < clauses {
-        work[BASES + (k + 1) + j] = b + template(templates, row, 1 + (1 + j)) as u16;
-        j += 1;
+    let k = work[0] as usize;
+    let b = work[BASES + k];
+    work[BASES + (k + 1)] = b;
+    work[0] = (k + 1) as u16;
+}
+
+// A clause of one literal is appended.
+fn put_one(work: &mut [u16], p: u16)
+    requires { ⌜ Room 1 1 (now work) ⌝ }
+    ensures { λ _. ⌜ Appended ((p ∷ []) ∷ []) (now (work .entry)) (now (work .exit)) ⌝ }
+{
+    let k = work[0] as usize;
+    let b = work[BASES + k] as usize;
+    work[SLOTS + b] = p;
+    work[BASES + (k + 1)] = (b + 1) as u16;
+    work[0] = (k + 1) as u16;
+}
+
+// A clause of two literals is appended.
+fn put_two(work: &mut [u16], p: u16, q: u16)
+    requires { ⌜ Room 1 2 (now work) ⌝ }
+    ensures { λ _. ⌜ Appended ((p ∷ q ∷ []) ∷ []) (now (work .entry)) (now (work .exit)) ⌝ }
+{
+    let k = work[0] as usize;
+    let b = work[BASES + k] as usize;
+    work[SLOTS + b] = p;
+    work[SLOTS + b + 1] = q;
+    work[BASES + (k + 1)] = (b + 2) as u16;
+    work[0] = (k + 1) as u16;
+}
+
+// A clause of three literals is appended.
+fn put_three(work: &mut [u16], p: u16, q: u16, r: u16)
+    requires { ⌜ Room 1 3 (now work) ⌝ }
+    ensures { λ _. ⌜ Appended ((p ∷ q ∷ r ∷ []) ∷ []) (now (work .entry)) (now (work .exit)) ⌝ }
+{
+    let k = work[0] as usize;
+    let b = work[BASES + k] as usize;
+    work[SLOTS + b] = p;
+    work[SLOTS + b + 1] = q;
+    work[SLOTS + b + 2] = r;
+    work[BASES + (k + 1)] = (b + 3) as u16;
+    work[0] = (k + 1) as u16;
+}
+
+// Each of two choices is a clause.
+fn each_of(x: &[u16], n: usize, work: &mut [u16], node: usize, c: u8, d: u8)
+    requires { ⌜ Indexed (now x) n ⌝ }
+    requires { ⌜ Chooses 2 (now x) n node × (c < 4) × (d < 4) ⌝ }
+    requires { ⌜ Room 2 2 (now work) ⌝ }
+    ensures { λ _. ⌜ Appended (choices (now (x .entry)) node ((c ∷ []) ∷ (d ∷ []) ∷ [])) (now (work .entry)) (now (work .exit)) ⌝ }
+{
+    let p = choose(x, n, node, c);
+    let q = choose(x, n, node, d);
+    put_one(work, p);
+    put_one(work, q);
+}
+
+// Two choices are a clause.
+fn some_of(x: &[u16], n: usize, work: &mut [u16], node: usize, c: u8, d: u8)
+    requires { ⌜ Indexed (now x) n ⌝ }
+    requires { ⌜ Chooses 2 (now x) n node × (c < 4) × (d < 4) ⌝ }
+    requires { ⌜ Room 1 2 (now work) ⌝ }
+    ensures { λ _. ⌜ Appended (choices (now (x .entry)) node ((c ∷ d ∷ []) ∷ [])) (now (work .entry)) (now (work .exit)) ⌝ }
+{
+    let p = choose(x, n, node, c);
+    let q = choose(x, n, node, d);
+    put_two(work, p, q);
+}
+
+// Each of the three operands, or of their negations, is a clause.
+fn each_of_three(x: &[u16], n: usize, work: &mut [u16], node: usize, sign: u8)
+    requires { ⌜ Indexed (now x) n ⌝ }
+    requires { ⌜ Chooses 3 (now x) n node × (sign < 2) ⌝ }
+    requires { ⌜ Room 3 3 (now work) ⌝ }
+    ensures { λ _. ⌜ Appended (choices (now (x .entry)) node ((sign ∷ []) ∷ ((2 + sign) ∷ []) ∷ ((4 + sign) ∷ []) ∷ [])) (now (work .entry)) (now (work .exit)) ⌝ }
+{
+    let p = choose(x, n, node, sign);
+    let q = choose(x, n, node, 2 + sign);
+    let r = choose(x, n, node, 4 + sign);
+    put_one(work, p);
+    put_one(work, q);
+    put_one(work, r);
+}
+
+// The three operands, or their negations, are a clause.
+fn some_of_three(x: &[u16], n: usize, work: &mut [u16], node: usize, sign: u8)
+    requires { ⌜ Indexed (now x) n ⌝ }
+    requires { ⌜ Chooses 3 (now x) n node × (sign < 2) ⌝ }
+    requires { ⌜ Room 1 3 (now work) ⌝ }
+    ensures { λ _. ⌜ Appended (choices (now (x .entry)) node ((sign ∷ (2 + sign) ∷ (4 + sign) ∷ []) ∷ [])) (now (work .entry)) (now (work .exit)) ⌝ }
+{
+    let p = choose(x, n, node, sign);
+    let q = choose(x, n, node, 2 + sign);
+    let r = choose(x, n, node, 4 + sign);
+    put_three(work, p, q, r);
+}
+
+// The clauses of an IFF, or of its negation.
+fn same_or_not(x: &[u16], n: usize, work: &mut [u16], node: usize, sign: u8)
+    requires { ⌜ Indexed (now x) n ⌝ }
+    requires { ⌜ Chooses 2 (now x) n node × (sign < 2) ⌝ }
+    requires { ⌜ Room 2 4 (now work) ⌝ }
+    ensures { λ _. ⌜ Appended (choices (now (x .entry)) node (((1 - sign) ∷ 2 ∷ []) ∷ (sign ∷ 3 ∷ []) ∷ [])) (now (work .entry)) (now (work .exit)) ⌝ }
+{
+    some_of(x, n, work, node, 1 - sign, 2);
+    some_of(x, n, work, node, sign, 3);
+}
+
+// The clauses of a row with no operands: TRUE and ATOM have none, and not TRUE an empty one.
+fn put_bare(work: &mut [u16], row: usize)
+    requires { ⌜ row < 6 ⌝ }
+    requires { ⌜ Room 1 0 (now work) ⌝ }
+    ensures { λ _. ⌜ Appended (getD templates row []) (now (work .entry)) (now (work .exit)) ⌝ }
+{
+    if row == 3 {
+        put_empty(work);
     }
 }
 
-// And their literals, of a node's operands.
-fn put_literals(
-    templates: &[[u8; 9]; 18],
-    x: &[u16],
-    n: usize,
-    work: &mut [u16],
-    row: usize,
-    node: usize,
-    b: usize,
-)
-    requires { ⌜ now templates ≡ rows ⌝ }
+// The clauses of a row with operands: choice 0 is a, 1 is not a, 2 is b, 3 is not b, 4 is c, 5 is not c.
+fn put_row(x: &[u16], n: usize, work: &mut [u16], node: usize, row: usize, sign: u8)
     requires { ⌜ Indexed (now x) n ⌝ }
-    requires { ⌜ (areaSize ≤ length (now work)) × (row < 18) × (node < n) × (b + literalRoom ≤ mostSlots) ⌝ }
-    requires { ⌜ indexNode (now x) node .kind ≡ row / 2 ⌝ }
-    ensures { λ _. ⌜ Filled (slotsFrom + b) (cell row 1) (λ i. chosen (indexNode (now (x .entry)) node) (cell row (choiceColumn i))) (now (work .entry)) (now (work .exit)) ⌝ }
+    requires { ⌜ (node < n) × (indexNode (now x) node .kind ≡ row / 2) × (6 ≤ row) × (row < 18) × (sign ≡ row % 2) ⌝ }
+    requires { ⌜ Room clauseRoom literalRoom (now work) ⌝ }
+    ensures { λ _. ⌜ Appended (choices (now (x .entry)) node (getD templates row [])) (now (work .entry)) (now (work .exit)) ⌝ }
 {
-    let literals = template(templates, row, 1) as usize;
-    let mut i = 0;
-    while i < literals {
-        work[SLOTS + b + i] = choose(x, n, node, template(templates, row, 5 + i));
-        i += 1;
+    match row {
+        // AND
+        6 => each_of(x, n, work, node, 0, 2),
+        7 => some_of(x, n, work, node, 1, 3),
+        // OR
+        8 => some_of(x, n, work, node, 0, 2),
+        9 => each_of(x, n, work, node, 1, 3),
+        // IMP
+        10 => some_of(x, n, work, node, 1, 2),
+        11 => each_of(x, n, work, node, 0, 3),
+        // IFF: one code for both signs, so that the sign need not be guessed
+        12 => same_or_not(x, n, work, node, sign),
+        13 => same_or_not(x, n, work, node, sign),
+        // AND of three
+        14 => each_of_three(x, n, work, node, 0),
+        15 => some_of_three(x, n, work, node, 1),
+        // OR of three
+        16 => some_of_three(x, n, work, node, 0),
+        _ => each_of_three(x, n, work, node, 1),
     }
 }
 
 // The clauses of a literal are appended.
-fn append(templates: &[[u8; 9]; 18], x: &[u16], n: usize, work: &mut [u16], l: u16)
-    requires { ⌜ now templates ≡ rows ⌝ }
+fn append(x: &[u16], n: usize, work: &mut [u16], l: u16)
     requires { ⌜ Indexed (now x) n ⌝ }
-    requires { ⌜ (areaSize ≤ length (now work)) × (l < 2 * n) ⌝ }
-    requires { ⌜ (clauseCount (now work) + clauseRoom ≤ mostClauses) × (baseAt (now work) (clauseCount (now work)) + literalRoom ≤ mostSlots) ⌝ }
+    requires { ⌜ l < 2 * n ⌝ }
+    requires { ⌜ Room clauseRoom literalRoom (now work) ⌝ }
     ensures { λ _. ⌜ Appended (expand (indexNode (now (x .entry))) l) (now (work .entry)) (now (work .exit)) ⌝ }
 {
     let row = row_of(x, n, l);
-    let k = work[0] as usize;
-    let b = work[BASES + k];
-    put_ends(templates, work, row, k, b);
-    put_literals(templates, x, n, work, row, (l / 2) as usize, b as usize);
-    work[0] = (k + template(templates, row, 0) as usize) as u16;
+    if row < 6 {
+        put_bare(work, row);
+        return;
+    }
+    put_row(x, n, work, (l / 2) as usize, row, (l % 2) as u8);
 }
 
 // A literal joins the trail, and its clauses are appended.
@@ -151,7 +224,7 @@ pub fn push(x: &[u16], n: usize, work: &mut [u16], l: u16)
     requires { ⌜ Trail n (trailAt (now work)) × Fresh n (gOf (now work)) l ⌝ }
     ensures { λ _. ⌜ Joined (indexNode (now (x .entry))) n l (now (work .entry)) (now (work .exit)) ⌝ }
 {
-    append(&TEMPLATES, x, n, work, l);
+    append(x, n, work, l);
     area::enter(n, work, l);
 }
 

@@ -1,23 +1,18 @@
 -- `branch::push` meets its contract. The clauses are appended, and the literal enters the trail. Assumes nothing.
 use borrow.Author.Needs.{needs}
-use mathlib.Core.Path.{refl}
 use Rattle.index.specs.Index.{indexNode}
-use Rattle.calculus.specs.Expansion.{templates}
-use Rattle.branch.specs.Templates.{rows}
-use Rattle.branch.specs.Clauses.{flat, offset}
 use Rattle.branch.proofs.Turns.{enter-ready, joined-is}
 use Rattle.branch.proofs.push.Statement.{statement}
 use Rattle.branch.proofs.push.Tie as tie
 
 append-requires : tie.Need-append-requires
-unfolding rows templates flat offset
 append-requires c κs =
-    let s = c .before .before .before .before in
-    (refl, (s .pre .0, ((s .pre .1 .0, s .pre .1 .1 .1 .1 .0), s .pre .1 .1 .0)))
+    let s = c .before .before .before in
+    (s .pre .0, (s .pre .1 .1 .1 .1 .0, record { size = s .pre .1 .0; clauses = s .pre .1 .1 .0 .0; slots = s .pre .1 .1 .0 .1 }))
 
 enter-requires : tie.Need-enter-requires
 enter-requires c κs =
-    let s = c .before .before .before .before .before .before .before .before in
+    let s = c .before .before .before .before .before .before .before in
     let t = indexNode (s .args .x .now) in
     let few = s .pre .0 .few in
     let l = s .args .l in
@@ -29,7 +24,7 @@ same-length c = search needs
 
 returns : tie.Need-returns
 returns c =
-    let s = c .before .before .before .before .before .before .before .before .before .before .before in
+    let s = c .before .before .before .before .before .before .before .before .before .before in
     let t = indexNode (s .args .x .now) in
     let l = s .args .l in
     let append = c .before .before .before .before .before .before .append in
