@@ -2,3 +2,4 @@
 pub mod Form
 pub mod Rows
 pub mod Encode
+pub mod Quick

@@ -1,10 +1,12 @@
 // Reading a derivation: its version, the first refusal of 40 to 44 and 65, the step count, the step at an index.
 ghost use mathlib.Core.Path.{_≡_};
-ghost use Prim.Native.Nat.{_+_, _*_, _/_, _<_, _≤_, _^_};
+ghost use mathlib.Core.Bool.{true, cond};
+ghost use Prim.Native.Nat.{ℕ, _+_, _*_, _/_, _<_, _≤_, _^_, min};
 ghost use lib.ListN.{length};
 ghost use Rattle.scope.specs.Outcome.{verdictOf, first};
 ghost use Rattle.scope.specs.Block.{recordsIn};
 ghost use Rattle.rules.specs.Steps.{derivations, letterOf, versionOf, formatOf, stepOf, stepAt, stepOk, ruleIn, sizeOk, formTest};
+ghost use Rattle.rules.specs.declared.Version.the-variants.{One, Two};
 ghost use Rattle.steps.specs.Opened.{placeOf, formNumber, blockRow, stepRow, stepCount, openedOf};
 use rules::Step;
 use rules::Version;
@@ -170,8 +172,79 @@ fn blocks_verdict(d: &[u8]) -> Verdict
     Verdict::Fine
 }
 
-// Rows 44 and 65 of all steps.
-fn forms_verdict(d: &[u8], steps: usize) -> Verdict
+// Step i of block j.
+fn step_in_block(d: &[u8], j: usize, i: usize) -> Step
+    requires { ⌜ (i < 126) × (512 * j + 512 ≤ length (now d)) ⌝ }
+    ensures { λ r. ⌜ r ≡ stepAt (now (d .entry)) (126 * j + i) ⌝ }
+{
+    let at = 512 * j + (4 + 4 * i);
+    let end = at + 4;
+    step_read(&d[at..end])
+}
+
+// Whether a version is the second.
+fn is_two(version: Version) -> bool
+    ensures { λ r. ⌜ cond r Two One ≡ version ⌝ }
+{
+    match version {
+        Version::One => false,
+        Version::Two => true,
+    }
+}
+
+// Whether a step passes rows 44 and 65. All tests are made, so that the compiler can make a loop over steps into vector code.
+fn passes(two: bool, s: Step) -> bool
+    ensures { λ r. ⌜ (r ≡ true → formNumber (cond two Two One) s ≡ 0) ⌝ }
+{
+    let bare = s.position == 0;
+    let both = (s.rule == 85) | (s.rule == 67) | (s.rule == 83) | (s.rule == 71);
+    let older = ((s.rule == 69) & bare) | ((s.rule == 82) & (s.position <= 2));
+    (both & bare) | (older & !two)
+}
+
+// Whether the first steps of block j do.
+fn block_passes(d: &[u8], two: bool, j: usize, count: usize) -> bool
+    requires { ⌜ (count ≤ 126) × (512 * j + 512 ≤ length (now d)) ⌝ }
+    ensures { λ r. ⌜ (r ≡ true → (q : ℕ) → q < count → formNumber (cond two Two One) (stepAt (now (d .entry)) (126 * j + q)) ≡ 0) ⌝ }
+{
+    let mut fine = true;
+    let mut i = 0;
+    while i < count {
+        let s = step_in_block(d, j, i);
+        fine = fine & passes(two, s);
+        i += 1;
+    }
+    fine
+}
+
+// How many of so many steps a block can hold.
+fn held(left: usize) -> usize
+    ensures { λ r. ⌜ r ≡ min left 126 ⌝ }
+{
+    if left < 126 {
+        return left;
+    }
+    126
+}
+
+// Whether all steps do.
+fn all_pass(d: &[u8], two: bool, steps: usize) -> bool
+    requires { ⌜ steps ≤ 126 * (length (now d) / 512) ⌝ }
+    ensures { λ r. ⌜ (r ≡ true → (k : ℕ) → k < steps → formNumber (cond two Two One) (stepAt (now (d .entry)) k) ≡ 0) ⌝ }
+{
+    let mut block = 0;
+    while 126 * block < steps {
+        let count = held(steps - 126 * block);
+        if !block_passes(d, two, block, count) {
+            return false;
+        }
+        block += 1;
+    }
+    true
+}
+
+// Rows 44 and 65 of all steps, one after another.
+fn first_form(d: &[u8], steps: usize) -> Verdict
     requires { ⌜ steps ≤ 126 * (length (now d) / 512) ⌝ }
     ensures { λ r. ⌜ verdictOf r ≡ first (stepRow (now (d .entry))) 0 steps ⌝ }
 {
@@ -185,6 +258,18 @@ fn forms_verdict(d: &[u8], steps: usize) -> Verdict
         k += 1;
     }
     Verdict::Fine
+}
+
+// Rows 44 and 65 of all steps: only where one does not pass are they looked at one after another.
+fn forms_verdict(d: &[u8], steps: usize) -> Verdict
+    requires { ⌜ steps ≤ 126 * (length (now d) / 512) ⌝ }
+    ensures { λ r. ⌜ verdictOf r ≡ first (stepRow (now (d .entry))) 0 steps ⌝ }
+{
+    let two = is_two(version_of(d));
+    if all_pass(d, two, steps) {
+        return Verdict::Fine;
+    }
+    first_form(d, steps)
 }
 
 // The first refusal of a derivation's form.

@@ -1,71 +1,32 @@
--- `steps::forms_verdict` meets its contract: what is left of the steps at k is the answer. Assumes nothing.
-use mathlib.Core.Path.{_≡_, _∙_, ap₂, sym}
-use Prim.Native.Nat.{_≤_, _-_}
-use native.Mathlib.Nat.{sub-zero}
-use Rattle.scope.specs.Outcome.{first}
-use Rattle.scope.proofs.First.{stops, goes, done}
-use Rattle.rules.specs.Steps.{versionOf, stepAt}
-use Rattle.steps.specs.Opened.{formNumber, stepRow}
-use Rattle.steps.proofs.Rows.{step-refused, step-fine}
+-- `steps::forms_verdict` meets its contract. Steps that all pass are not refused. Assumes nothing.
+use native.Mathlib.Omega.{arith}
 use borrow.Author.Needs.{needs}
+use mathlib.Core.Path.{_∙_}
+use Rattle.steps.proofs.Quick.{pass-fine}
 use Rattle.steps.proofs.forms_verdict.Statement.{statement}
 use Rattle.steps.proofs.forms_verdict.Tie as tie
 
-abbrev Inv-loop : tie.InvT-loop
-Inv-loop d steps version k₀ k = (k ≤ steps) × (first (stepRow d) k (steps - k) ≡ first (stepRow d) 0 steps)
-
-abbrev μ-loop : tie.MeasureT-loop
-μ-loop d steps version k₀ k = steps - k
-
--- the test of step k is that of its four bytes, in the derivation's version
-tested : (c : tie.After-form-number Inv-loop μ-loop) → let l = c .before .before .before in
-    let d = l .before .before .before .args .d .now in
-    c .form-number .result ≡ formNumber (versionOf d) (stepAt d (l .loop .k))
-tested c = c .form-number .ensures ∙ ap₂ formNumber (c .before .before .before .before .version-of .ensures) (c .before .step-at .ensures)
-
-version-of-requires : tie.Need-version-of-requires Inv-loop μ-loop
+version-of-requires : tie.Need-version-of-requires
 version-of-requires c κs = search needs
 
-loop-holds : tie.Need-loop-holds Inv-loop μ-loop
-loop-holds c = (search needs, simp sub-zero)
+is-two-requires : tie.Need-is-two-requires
+is-two-requires c κs = search needs
 
-step-at-requires : tie.Need-step-at-requires Inv-loop μ-loop
-step-at-requires c κs = search needs
+all-pass-requires : tie.Need-all-pass-requires
+all-pass-requires c κs = search needs
 
-form-number-requires : tie.Need-form-number-requires Inv-loop μ-loop
-form-number-requires c κs = search needs
-
-returns : tie.Need-returns Inv-loop μ-loop
+returns : tie.Need-returns
 returns c =
-    let row = step-refused _ _ _ (tested (c .before)) (c .if1 .taken) in
-    sym (stops _ _ _ _ _ (c .before .before .before .loop-test .taken) row) ∙ c .before .before .before .before .loop .inv .1
+    let s = c .before .before .before .before .before in
+    let is-two = c .before .before .is-two in
+    let version-of = c .before .before .before .version-of in
+    pass-fine (s .args .d .now) (is-two .result) (s .args .steps) (is-two .ensures ∙ version-of .ensures) (c .before .all-pass .ensures (c .if1 .taken))
 
-add-k : tie.Need-add-k Inv-loop μ-loop
-add-k c = search needs
+first-form-requires : tie.Need-first-form-requires
+first-form-requires c κs = search needs
 
-loop-less : tie.Need-loop-less Inv-loop μ-loop
-loop-less c = search needs
-
-loop-again : tie.Need-loop-again Inv-loop μ-loop
-loop-again c =
-    let row = step-fine _ _ _ (tested (c .before)) (c .if1 .left) in
-    (search needs, sym (goes _ _ _ (c .before .before .before .loop-test .taken) row) ∙ c .before .before .before .before .loop .inv .1)
-
-returns-2 : tie.Need-returns-2 Inv-loop μ-loop
-returns-2 c = sym (done _ _ _ (c .loop-test .left)) ∙ c .before .loop .inv .1
+returns-2 : tie.Need-returns-2
+returns-2 c = c .first-form .ensures
 
 pub forms-verdict-spec : {M : Type 1} → statement M
-forms-verdict-spec =
-    tie.close
-    (tie.spec
-    Inv-loop
-    μ-loop
-    version-of-requires
-    loop-holds
-    step-at-requires
-    form-number-requires
-    returns
-    add-k
-    loop-less
-    loop-again
-    returns-2)
+forms-verdict-spec = tie.close (tie.spec version-of-requires is-two-requires all-pass-requires returns first-form-requires returns-2)
