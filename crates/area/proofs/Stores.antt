@@ -1,12 +1,15 @@
 -- What the stores of each function leave in the work area. Assumes nothing.
-use mathlib.Core.Path.{_≡_, refl, ap, _∙_, subst}
+use mathlib.Core.Path.{_≡_, refl, sym, ap, _∙_, subst}
+use mathlib.Core.Logic.{_⊎_, inl, inr}
 use mathlib.Core.List.{List}
-use Prim.Native.Nat.{ℕ, _+_, _-_, _<_, _≤_}
+use Prim.Native.Nat.{ℕ, _+_, _-_, _%_, _<_, _≤_}
 use native.Mathlib.Omega.{arith}
 use native.Mathlib.Numerals.{add-one}
+use native.Mathlib.Decide.{ℕ-discrete}
 use lib.ListN.{length, getD, set, length-set}
 use lib.Seq.{getD-set-same, getD-set-other}
-use Rattle.area.specs.Area.{areaSize, mostNodes, mostSlots, strikesFrom, countsFrom, sizesFrom, headsFrom, clauseCount, depth, newest, splitCount, splitSize, splitHead, trailAt, Trail, Shrunk, Struck, Saved}
+use Rattle.area.specs.Area.{areaSize, mostNodes, mostSlots, strikesFrom, countsFrom, sizesFrom, headsFrom, notes, clauseCount, depth, newest, packedAt, flagOf, noteAt, strikeAt, splitCount, splitSize, splitHead, trailAt, Trail, Shrunk, Struck, Saved}
+use Rattle.area.proofs.Packed.{noted-note, noted-flag, flagged-note, flagged-flag}
 
 -- ---- literals leave
 
@@ -33,30 +36,88 @@ shrink-ends {n} {c} {w₀} {w} f b p =
 
 -- ---- a strike, a split
 
-module _ (w : List ℕ) (m kind : ℕ) (size : areaSize ≤ length w) (b : m < mostSlots) where
+module _ (w : List ℕ) (m kind : ℕ) (size : areaSize ≤ length w) (b : m < mostSlots) (few : newest w ≤ mostSlots) (z : kind % notes ≡ 0) where
+  I : ℕ
+  I = newest w
+
+  few′ : I ≤ mostSlots
+  unfolding I
+  few′ = few
+
   w₁ : List ℕ
-  w₁ = set w (strikesFrom + m) (newest w + 1 + kind)
+  w₁ = set w (strikesFrom + I) (packedAt w I - packedAt w I % notes + m)
 
   w₂ : List ℕ
-  w₂ = set w₁ 2 (m + 1)
+  w₂ = set w₁ (strikesFrom + m) (packedAt w₁ m % notes + (notes + kind))
+
+  w₃ : List ℕ
+  w₃ = set w₂ 2 (I + 1)
 
   z₁ : length w₁ ≡ length w
   unfolding w₁
-  z₁ = length-set w (strikesFrom + m) (newest w + 1 + kind)
+  z₁ = length-set w (strikesFrom + I) (packedAt w I - packedAt w I % notes + m)
 
-  struck₂ : Struck kind m w w₂
-  unfolding w₂ w₁
-  struck₂ = record {
-    size = length-set w₁ 2 (m + 1) ∙ z₁;
-    head = getD-set-same w₁ 2 (m + 1) 0 (omega (arith, z₁, size)) ∙ add-one m;
-    here = getD-set-other w₁ 2 (strikesFrom + m) (m + 1) 0 (λ e. omega (arith, e)) ∙ getD-set-same w (strikesFrom + m) (newest w + 1 + kind) 0 (omega (arith, size, b))
-        ∙ ap (_+ kind) (add-one (newest w));
-    else = λ i p q. getD-set-other w₁ 2 i (m + 1) 0 p ∙ getD-set-other w (strikesFrom + m) i (newest w + 1 + kind) 0 q;
+  z₂ : length w₂ ≡ length w
+  unfolding w₂
+  z₂ = length-set w₁ (strikesFrom + m) (packedAt w₁ m % notes + (notes + kind)) ∙ z₁
+
+  here₁ : packedAt w₁ I ≡ packedAt w I - packedAt w I % notes + m
+  unfolding w₁
+  here₁ = getD-set-same w (strikesFrom + I) (packedAt w I - packedAt w I % notes + m) 0 (omega (arith, size, few′))
+
+  away₁ : (i : ℕ) → (i ≡ strikesFrom + I → ⊥) → getD w₁ i 0 ≡ getD w i 0
+  unfolding w₁
+  away₁ i e = getD-set-other w (strikesFrom + I) i (packedAt w I - packedAt w I % notes + m) 0 e
+
+  here₂ : packedAt w₂ m ≡ packedAt w₁ m % notes + (notes + kind)
+  unfolding w₂
+  here₂ = getD-set-same w₁ (strikesFrom + m) (packedAt w₁ m % notes + (notes + kind)) 0 (omega (arith, z₁, size, b))
+
+  away₂ : (i : ℕ) → (i ≡ strikesFrom + m → ⊥) → getD w₂ i 0 ≡ getD w₁ i 0
+  unfolding w₂
+  away₂ i e = getD-set-other w₁ (strikesFrom + m) i (packedAt w₁ m % notes + (notes + kind)) 0 e
+
+  away₃ : (i : ℕ) → (i ≡ 2 → ⊥) → getD w₃ i 0 ≡ getD w₂ i 0
+  unfolding w₃
+  away₃ i e = getD-set-other w₂ 2 i (I + 1) 0 e
+
+  packed₃ : (i : ℕ) → packedAt w₃ i ≡ packedAt w₂ i
+  packed₃ i = away₃ (strikesFrom + i) (λ q. omega (arith, q))
+
+  -- the first store leaves the flags, the second the notes
+  flag₁ : (s : ℕ) → strikeAt w₁ s ≡ strikeAt w s
+  flag₁ s = go (ℕ-discrete s I)
+    where
+      go : Dec (s ≡ I) → strikeAt w₁ s ≡ strikeAt w s
+      go (yes e) = ap (strikeAt w₁) e ∙ ap flagOf here₁ ∙ noted-flag (packedAt w I) m (omega (arith, b)) ∙ ap (strikeAt w) (sym e)
+      go (no e) = ap flagOf (away₁ (strikesFrom + s) (λ q. e (omega (arith, q))))
+
+  note₂ : (i : ℕ) → noteAt w₂ i ≡ noteAt w₁ i
+  note₂ i = go (ℕ-discrete i m)
+    where
+      go : Dec (i ≡ m) → noteAt w₂ i ≡ noteAt w₁ i
+      go (yes e) = ap (noteAt w₂) e ∙ ap (_% notes) here₂ ∙ flagged-note (packedAt w₁ m) kind z ∙ ap (noteAt w₁) (sym e)
+      go (no e) = ap (_% notes) (away₂ (strikesFrom + i) (λ q. e (omega (arith, q))))
+
+  beside : (i x : ℕ) → x ≤ mostSlots → (i < strikesFrom) ⊎ (countsFrom ≤ i) → i ≡ strikesFrom + x → ⊥
+  beside i x h (inl a) e = omega (arith, a, e)
+  beside i x h (inr a) e = omega (arith, a, e, h)
+
+  struck₃ : Struck kind m w w₃
+  struck₃ = record {
+    size = unfold w₃ in length-set w₂ 2 (I + 1) ∙ z₂;
+    head = unfold w₃ I in getD-set-same w₂ 2 (newest w + 1) 0 (omega (arith, z₂, size)) ∙ add-one (newest w);
+    note = unfold I in ap (_% notes) (packed₃ (newest w)) ∙ note₂ (newest w) ∙ ap (_% notes) here₁ ∙ noted-note (packedAt w (newest w)) m (omega (arith, b));
+    here = ap flagOf (packed₃ m) ∙ ap flagOf here₂ ∙ flagged-flag (packedAt w₁ m) kind z;
+    older = λ i e. ap (_% notes) (packed₃ i) ∙ note₂ i ∙ ap (_% notes) (away₁ (strikesFrom + i) (λ q. e (unfold I in omega (arith, q))));
+    others = λ s e. ap flagOf (packed₃ s) ∙ ap flagOf (away₂ (strikesFrom + s) (λ q. e (omega (arith, q)))) ∙ flag₁ s;
+    else = λ i p q. away₃ i p ∙ away₂ i (beside i m (omega (arith, b)) q) ∙ away₁ i (beside i I few′ q);
   }
 
-  pub is-struck : Struck kind m w (set (set w (strikesFrom + m) (newest w + 1 + kind)) 2 (m + 1))
-  unfolding w₂ w₁
-  is-struck = struck₂
+  pub is-struck : Struck kind m w (set (set (set w (strikesFrom + newest w) (packedAt w (newest w) - packedAt w (newest w) % notes + m)) (strikesFrom + m)
+      (packedAt (set w (strikesFrom + newest w) (packedAt w (newest w) - packedAt w (newest w) % notes + m)) m % notes + (notes + kind))) 2 (newest w + 1))
+  unfolding w₃ w₂ w₁ I
+  is-struck = struck₃
 
 module _ (w : List ℕ) (size : areaSize ≤ length w) (low : depth w < mostNodes) where
   D : ℕ

@@ -1,8 +1,9 @@
--- The derivation checker's work area. Place 0: how many clauses; 1: how many splits are open; 2: the newest strike. Then come the
--- clauses one after the other, of any length: where each begins, and a slot for each literal; the strikes by slot; what is saved at
--- each open split; and last the trail. Assumes nothing.
+-- The derivation checker's work area. Place 0: how many clauses; 1: how many splits are open; 2: how many strikes there are. Then come
+-- the clauses one after the other, of any length: where each begins, and a slot for each literal; the strikes, by slot and in the order
+-- in which they were made; what is saved at each open split; and last the trail. Assumes nothing.
 use mathlib.Core.Path.{_≡_}
 use mathlib.Core.Bool.{Bool, false, cond, not, _&&_, _||_}
+use mathlib.Core.Logic.{_⊎_}
 use mathlib.Core.List.{List, [], _∷_}
 use Prim.Native.Nat.{ℕ, zero, suc, _+_, _-_, _*_, _%_, _<_, _≤_}
 use lib.Dec.{eqb, leb, ltb}
@@ -51,7 +52,7 @@ abbrev pub strikesFrom : ℕ
 strikesFrom = slotsFrom + mostSlots
 
 abbrev pub countsFrom : ℕ
-countsFrom = strikesFrom + mostSlots
+countsFrom = strikesFrom + (mostSlots + 1)
 
 abbrev pub sizesFrom : ℕ
 sizesFrom = countsFrom + mostNodes
@@ -62,7 +63,7 @@ headsFrom = sizesFrom + mostNodes
 abbrev pub trailFrom : ℕ
 trailFrom = headsFrom + mostNodes
 
--- how many clauses, how many open splits, the newest strike's slot + 1
+-- how many clauses, how many open splits, how many strikes
 abbrev pub clauseCount : List ℕ → ℕ
 clauseCount w = getD w 0 0
 
@@ -79,21 +80,30 @@ baseAt w k = getD w (basesFrom + k) 0
 abbrev pub slotAt : List ℕ → ℕ → ℕ
 slotAt w s = getD w (slotsFrom + s) 0
 
--- the strike in slot s: 0 where there is none, else one more than the newest strike was before, and `whole` more where the clause is
--- struck, not the literal
-abbrev pub strikeAt : List ℕ → ℕ → ℕ
-strikeAt w s = getD w (strikesFrom + s) 0
+-- two things stand in one number: the slot of strike i, below `notes`; and the strike in slot s, 0 where there is none, else `notes`, and
+-- `whole` more where the clause is struck, not the literal
+abbrev pub notes : ℕ
+notes = 8192
 
 abbrev pub whole : ℕ
 whole = 16384
 
-abbrev pub linkAt : List ℕ → ℕ → ℕ
-linkAt w s = strikeAt w s % whole
+abbrev pub packedAt : List ℕ → ℕ → ℕ
+packedAt w i = getD w (strikesFrom + i) 0
+
+abbrev pub flagOf : ℕ → ℕ
+flagOf v = v - v % notes
+
+abbrev pub noteAt : List ℕ → ℕ → ℕ
+noteAt w i = packedAt w i % notes
+
+abbrev pub strikeAt : List ℕ → ℕ → ℕ
+strikeAt w s = flagOf (packedAt w s)
 
 abbrev pub isWhole : List ℕ → ℕ → Bool
 isWhole w s = leb whole (strikeAt w s)
 
--- at open split d: how many literals were held, how many clauses there were, and the newest strike
+-- at open split d: how many literals were held, how many clauses there were, and how many strikes
 abbrev pub splitCount : List ℕ → ℕ → ℕ
 splitCount w d = getD w (countsFrom + d) 0
 
@@ -137,9 +147,12 @@ pub record Shrunk (n c : ℕ) (w w′ : List ℕ) : Type 0 where
 -- the strike in slot m is the newest
 pub record Struck (kind m : ℕ) (w w′ : List ℕ) : Type 0 where
   pub size : length w′ ≡ length w
-  pub head : newest w′ ≡ suc m
-  pub here : strikeAt w′ m ≡ suc (newest w) + kind
-  pub else : (i : ℕ) → (i ≡ 2 → ⊥) → (i ≡ strikesFrom + m → ⊥) → getD w′ i 0 ≡ getD w i 0
+  pub head : newest w′ ≡ suc (newest w)
+  pub note : noteAt w′ (newest w) ≡ m
+  pub here : strikeAt w′ m ≡ notes + kind
+  pub older : (i : ℕ) → (i ≡ newest w → ⊥) → noteAt w′ i ≡ noteAt w i
+  pub others : (s : ℕ) → (s ≡ m → ⊥) → strikeAt w′ s ≡ strikeAt w s
+  pub else : (i : ℕ) → (i ≡ 2 → ⊥) → (i < strikesFrom) ⊎ (countsFrom ≤ i) → getD w′ i 0 ≡ getD w i 0
 
 -- the split is saved
 pub record Saved (w w′ : List ℕ) : Type 0 where

@@ -7,29 +7,28 @@ use Prim.Native.Nat.{ℕ, suc, _<_, _≤_}
 use lib.Dec.{eqb}
 use lib.ListN.{getD, length}
 use Rattle.calculus.specs.Order.{mem}
-use Rattle.area.specs.Area.{mostSlots, strikesFrom, countsFrom, newest, strikeAt, linkAt}
+use Rattle.area.specs.Area.{mostSlots, strikesFrom, countsFrom, newest, strikeAt, noteAt}
 
--- the newest slot + 1
+-- how many there are
 abbrev pub headOf : List ℕ → ℕ
-headOf [] = 0
-headOf (m ∷ L) = suc m
+headOf L = length L
 
--- the slots of a list have strikes, each one, and each leads to the one before it
+-- the slots of a list are noted in turn, the first one last, each once
 abbrev pub Chain : (ℕ → ℕ) → List ℕ → Type 0
 Chain f [] = Unit {0}
-Chain f (m ∷ L) = ((m < mostSlots) × (mem m L ≡ false) × (f m ≡ suc (headOf L))) × Chain f L
+Chain f (m ∷ L) = ((m < mostSlots) × (mem m L ≡ false) × (f (length L) ≡ m)) × Chain f L
 
 -- L are the slots with a strike
 pub record Strikes (w L : List ℕ) : Type 0 where
   pub head : newest w ≡ headOf L
-  pub chain : Chain (linkAt w) L
+  pub chain : Chain (noteAt w) L
   pub flags : (m : ℕ) → m < mostSlots → eqb (strikeAt w m) 0 ≡ not (mem m L)
 
--- a slot + 1 was the newest once
+-- there were so many strikes once
 abbrev pub Reaches : ℕ → List ℕ → Type 0
 Reaches head w = (K : List ℕ) × (L : List ℕ) × (Strikes w (K ++ L) × (head ≡ headOf L))
 
--- the strikes since `head` was the newest are undone, the others are kept, and all else is as it was
+-- the strikes since there were `head` are undone, the others are kept, and all else is as it was
 pub record Unwound (head : ℕ) (w w′ : List ℕ) : Type 0 where
   pub size : length w′ ≡ length w
   pub strikes : (K L : List ℕ) → Strikes w (K ++ L) → head ≡ headOf L → Strikes w′ L × ((m : ℕ) → mem m L ≡ true → strikeAt w′ m ≡ strikeAt w m)

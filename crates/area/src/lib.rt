@@ -2,13 +2,13 @@
 // and the way back from them, and the open splits. The layout is in specs/Area.antt.
 ghost use mathlib.Core.Path.{_≡_};
 ghost use mathlib.Core.Bool.{cond, _&&_};
-ghost use Prim.Native.Nat.{ℕ, suc, _+_, _-_, _*_, _<_, _≤_};
+ghost use Prim.Native.Nat.{ℕ, suc, _+_, _-_, _*_, _%_, _<_, _≤_};
 ghost use lib.Dec.{eqb};
 ghost use lib.ListN.{length};
 ghost use Rattle.calculus.specs.Order.{valueOf};
 ghost use Rattle.calculus.specs.Model.{Fresh};
 ghost use Rattle.rules.specs.Rules.{isHolds};
-ghost use Rattle.area.specs.Area.{areaSize, mostNodes, mostClauses, mostSlots, whole, clauseCount, depth, newest, baseAt, slotAt, strikeAt, lengthAt, trailAt, gOf, Vals, Trail, valueCode, Entered, Shrunk, Struck, Saved, Ranged, standsIn, freeIn, leftOf, trueFrom};
+ghost use Rattle.area.specs.Area.{areaSize, mostNodes, mostClauses, mostSlots, notes, whole, clauseCount, depth, newest, baseAt, slotAt, strikeAt, lengthAt, trailAt, gOf, Vals, Trail, valueCode, Entered, Shrunk, Struck, Saved, Ranged, standsIn, freeIn, leftOf, trueFrom};
 ghost use Rattle.area.specs.Strikes.{Reaches, Unwound};
 
 // What a clause has left: how many literals, and the slot of the first, 0 where there is none.
@@ -24,17 +24,18 @@ const CLAUSES: usize = 80 + 3 * NODES;
 
 const MOST_SLOTS: usize = 80 + 4 * NODES;
 
-// Places 0 to 2: how many clauses, how many open splits, the newest strike's slot + 1. From BASES on the slot where each clause begins,
-// which is where the one before it ends. From SLOTS on the literals of the clauses, from STRIKES on a strike for each. From COUNTS,
-// SIZES and HEADS on what is saved at each open split: the literals held, the clauses, the newest strike. From TRAIL on the count of
-// the literals held, the literals, and each node's entry.
+// Places 0 to 2: how many clauses, how many open splits, how many strikes. From BASES on the slot where each clause begins, which is
+// where the one before it ends. From SLOTS on the literals of the clauses. From STRIKES on two things in each number: below NOTES the
+// slot of the strike with this index, and above it whether the slot with this index is struck. From COUNTS, SIZES and HEADS on what is
+// saved at each open split: the literals held, the clauses, the strikes. From TRAIL on the count of the literals held, the literals,
+// and each node's entry.
 pub const BASES: usize = 3;
 
 pub const SLOTS: usize = BASES + (CLAUSES + 1);
 
 const STRIKES: usize = SLOTS + MOST_SLOTS;
 
-pub const COUNTS: usize = STRIKES + MOST_SLOTS;
+pub const COUNTS: usize = STRIKES + (MOST_SLOTS + 1);
 
 pub const SIZES: usize = COUNTS + NODES;
 
@@ -46,7 +47,9 @@ pub const LITERALS: usize = 1;
 
 const ENTRIES: usize = LITERALS + NODES;
 
-// What a strike has more where the whole clause is struck.
+// What the number of a slot with a strike has more than its note, and what it has more where the whole clause is struck.
+const NOTES: u16 = 8192;
+
 pub const WHOLE: u16 = 16384;
 
 // A literal joins the trail.
@@ -100,23 +103,27 @@ pub fn value(work: &[u16], n: usize, l: u16) -> u16
 // A strike is made in slot m: of its literal where `kind` is 0, of the clause where it is WHOLE.
 pub fn strike(work: &mut [u16], m: usize, kind: u16)
     requires { ⌜ (areaSize ≤ length (now work)) × (m < mostSlots) × (newest (now work) ≤ mostSlots) × (kind ≤ whole) ⌝ }
+    requires { ⌜ kind % notes ≡ 0 ⌝ }
     ensures { λ _. ⌜ Struck kind m (now (work .entry)) (now (work .exit)) ⌝ }
 {
-    let head = work[2];
-    work[STRIKES + m] = head + 1 + kind;
-    work[2] = (m + 1) as u16;
+    let i = work[2] as usize;
+    let old = work[STRIKES + i];
+    work[STRIKES + i] = old - old % NOTES + m as u16;
+    work[STRIKES + m] = work[STRIKES + m] % NOTES + (NOTES + kind);
+    work[2] = (i + 1) as u16;
 }
 
-// The strikes made since `head` was the newest are undone.
+// The strikes made since there were `head` are undone.
 pub fn unwind(work: &mut [u16], head: u16)
     requires { ⌜ areaSize ≤ length (now work) ⌝ }
     requires { ⌜ Reaches head (now work) ⌝ }
     ensures { λ _. ⌜ Unwound head (now (work .entry)) (now (work .exit)) ⌝ }
 {
     while work[2] != head {
-        let m = (work[2] - 1) as usize;
-        work[2] = work[STRIKES + m] % WHOLE - 1;
-        work[STRIKES + m] = 0;
+        let i = work[2] - 1;
+        let m = (work[STRIKES + i as usize] % NOTES) as usize;
+        work[STRIKES + m] = work[STRIKES + m] % NOTES;
+        work[2] = i;
     }
 }
 
@@ -137,7 +144,8 @@ pub fn strike_in(work: &[u16], m: usize) -> u16
     requires { ⌜ (areaSize ≤ length (now work)) × (m < mostSlots) ⌝ }
     ensures { λ r. ⌜ r ≡ strikeAt (now (work .entry)) m ⌝ }
 {
-    work[STRIKES + m]
+    let v = work[STRIKES + m];
+    v - v % NOTES
 }
 
 // The literal in slot s.

@@ -1,6 +1,7 @@
 -- What the work area holds after a literal has joined, and after a strike. Assumes nothing.
 use mathlib.Core.Path.{_≡_, refl, sym, ap, _∙_, subst, fun-ext}
 use mathlib.Core.Bool.{true, false}
+use mathlib.Core.Logic.{inl, inr}
 use mathlib.Core.List.{List, [], _∷_, _++_, map, append-assoc, append-nil}
 use Prim.Native.Nat.{ℕ, zero, suc, _+_, _-_, _*_, _<_, _≤_}
 use native.Mathlib.Omega.{arith}
@@ -19,7 +20,7 @@ use Rattle.branch.specs.Clauses.{flat, offset, Listed}
 use Rattle.branch.specs.Holds.{Strike, strike, clausesIn, literalsIn, slotOf, Marked, Frame, History, history, branch, branchOf, waits, waitingOf, End, clausesTo, clausesOf, Splits, Base, Holds, Joined}
 use Rattle.branch.proofs.Offsets.{offset-next, offset-most, offset-all}
 use Rattle.branch.proofs.Appends.{listed-first, literals-few}
-use Rattle.branch.proofs.Marks.{kindOf, slot-below, marked-more, marked-strike}
+use Rattle.branch.proofs.Marks.{kindOf, marked-more, marked-strike}
 
 abbrev pub branchBy : List ℕ → List Strike → Branch
 branchBy G S = record { G = G; struckClauses = clausesIn S; struckLiterals = literalsIn S }
@@ -236,11 +237,8 @@ module _ (t : ℕ → Node) (n : ℕ) (goals w : List ℕ) (few : n ≤ mostNode
   -- a strike was made
   module _ (x : Strike) (w′ : List ℕ) (a : x .clause < length (clausesOf t goals w)) (b : x .position < length (getD (clausesOf t goals w) (x .clause) []))
       (z : strikeAt w (slotOf (clausesOf t goals w) x) ≡ 0) (p : Struck (kindOf (x .whole)) (slotOf (clausesOf t goals w) x) w w′) where
-    low : slotOf (clausesOf t goals w) x < mostSlots
-    low = omega (arith, slot-below (clausesOf t goals w) (x .clause) (x .position) a b, slots-fit t n goals w few (h .base))
-
     trail-kept : trailAt w′ ≡ trailAt w
-    trail-kept = fun-ext (λ i. p .else (trailFrom + i) (λ q. omega (arith, q)) (λ q. omega (arith, q, low)))
+    trail-kept = fun-ext (λ i. p .else (trailFrom + i) (λ q. omega (arith, q)) (inr (omega arith)))
 
     clauses-kept : clausesOf t goals w′ ≡ clausesOf t goals w
     clauses-kept = ap (λ (r : ℕ → ℕ). clausesTo t goals r (r 0)) trail-kept
@@ -248,13 +246,13 @@ module _ (t : ℕ → Node) (n : ℕ) (goals w : List ℕ) (few : n ≤ mostNode
     pub struck-holds : Holds t n goals w′ (history (x ∷ s .strikes) (s .frames))
     struck-holds = record {
       base = shorter-base t n goals w few (h .base) (trailAt w 0) w′ (omega arith) (omega (arith, h .base .size, p .size)) (subst (Trail n) (sym trail-kept) (h .base .trail))
-          (ap held trail-kept) (p .else 0 (λ q. omega (arith, q)) (λ q. omega (arith, q)) ∙ h .base .listed .count)
-          (λ i c d. p .else i (λ q. omega (arith, q, c)) (λ q. omega (arith, q, d)));
+          (ap held trail-kept) (p .else 0 (λ q. omega (arith, q)) (inl (omega arith)) ∙ h .base .listed .count)
+          (λ i c d. p .else i (λ q. omega (arith, q, c)) (inl d));
       marked = subst (λ (c : List (List ℕ)). Marked c w′ (x ∷ s .strikes)) (sym clauses-kept)
           (marked-strike (clausesOf t goals w) w w′ (s .strikes) (slots-fit t n goals w few (h .base)) (h .marked) x a b z p);
-      depths = p .else 1 (λ q. omega (arith, q)) (λ q. omega (arith, q)) ∙ h .depths;
+      depths = p .else 1 (λ q. omega (arith, q)) (inl (omega arith)) ∙ h .depths;
       splits = splits-same t goals w w′ (trailAt w 0) (trailAt w′ 0) (s .strikes) (x ∷ s .strikes) (s .frames)
-          (kept-same (length (s .frames)) w w′ most (λ i c d. p .else i (λ q. omega (arith, q, c)) (λ q. omega (arith, q, c, low))))
+          (kept-same (length (s .frames)) w w′ most (λ i c d. p .else i (λ q. omega (arith, q, c)) (inr c)))
           (omega (arith, ap (λ (r : ℕ → ℕ). r 0) trail-kept)) (λ q i. ap (λ (r : ℕ → ℕ). r (1 + q)) trail-kept) (x ∷ [], refl) (h .splits);
     }
 

@@ -9,16 +9,16 @@ use native.Mathlib.Omega.{arith}
 use native.Mathlib.Decide.{ℕ-discrete}
 use lib.Dec.{eqb, leb}
 use lib.ListN.{length, getD, List·getD-append, length-append}
-use borrow.Author.Tests.{eq-eqb, ne-eqb, le-leb, lt-leb}
+use borrow.Author.Tests.{eq-eqb, ne-eqb}
 use Rattle.scope.proofs.Tests.{by-test}
 use Rattle.calculus.specs.Order.{mem}
 use Rattle.calculus.specs.Model.{All}
 use Rattle.calculus.proofs.Literals.{mem-same, mem-later}
 use Rattle.calculus.proofs.Lists.{all-imply}
 use Rattle.rules.specs.Rules.{Place, samePlace, among}
-use Rattle.area.specs.Area.{mostSlots, strikesFrom, whole, newest, strikeAt, linkAt, isWhole, Struck}
-use Rattle.area.specs.Strikes.{headOf, Chain, Strikes, Unwound}
-use Rattle.area.proofs.Strikes.{head-most, struck-more}
+use Rattle.area.specs.Area.{mostSlots, notes, whole, newest, packedAt, flagOf, noteAt, strikeAt, isWhole, Struck}
+use Rattle.area.specs.Strikes.{headOf, Strikes, Unwound}
+use Rattle.area.proofs.Strikes.{chain-same, head-most, struck-more}
 use Rattle.branch.specs.Clauses.{flat, offset}
 use Rattle.branch.specs.Holds.{Strike, clausesIn, literalsIn, slotOf, Valid, Marked}
 use Rattle.branch.proofs.Offsets.{map-append, offset-low, offset-next, offset-most, slot-same}
@@ -51,18 +51,14 @@ valid-clauses cs w S a = all-imply (Valid cs w) (λ s. s .clause < length cs) (�
 -- ---- strikes that stay
 
 -- the strikes' numbers are as they were
-strikes-same : (w w′ L : List ℕ) → newest w′ ≡ newest w → ((m : ℕ) → m < mostSlots → strikeAt w′ m ≡ strikeAt w m) → Strikes w L → Strikes w′ L
+strikes-same : (w w′ L : List ℕ) → newest w′ ≡ newest w → ((m : ℕ) → m < mostSlots → packedAt w′ m ≡ packedAt w m) → Strikes w L → Strikes w′ L
 strikes-same w w′ L p e h = record {
   head = p ∙ h .head;
-  chain = chain-kept L (h .chain);
-  flags = λ m i. ap (λ (v : ℕ). eqb v 0) (e m i) ∙ h .flags m i;
+  chain = chain-same (noteAt w) (noteAt w′) L (λ i q. ap (_% notes) (e i (omega (arith, q, h .head, head-most w L h)))) (h .chain);
+  flags = λ m i. ap (λ (v : ℕ). eqb (flagOf v) 0) (e m i) ∙ h .flags m i;
 }
-  where
-    chain-kept : (M : List ℕ) → Chain (linkAt w) M → Chain (linkAt w′) M
-    chain-kept [] c = tt
-    chain-kept (m ∷ M) c = ((c .0 .0, c .0 .1, ap (_% whole) (e m (c .0 .0)) ∙ c .0 .2), chain-kept M (c .1))
 
-module _ (cs ds : List (List ℕ)) (w w′ : List ℕ) (S : List Strike) (p : newest w′ ≡ newest w) (e : (m : ℕ) → m < mostSlots → strikeAt w′ m ≡ strikeAt w m) where
+module _ (cs ds : List (List ℕ)) (w w′ : List ℕ) (S : List Strike) (p : newest w′ ≡ newest w) (e : (m : ℕ) → m < mostSlots → packedAt w′ m ≡ packedAt w m) where
   -- clauses come
   pub marked-more : length (flat cs) ≤ mostSlots → Marked cs w S → Marked (cs ++ ds) w′ S
   marked-more room h = record {
@@ -76,7 +72,7 @@ module _ (cs ds : List (List ℕ)) (w w′ : List ℕ) (S : List Strike) (p : ne
           record {
             clause = omega (arith, v .clause, length-append cs ds);
             position = subst (λ (c : List ℕ). s .position < length c) (sym (List·getD-append cs ds [] (s .clause) (v .clause))) (v .position);
-            kind = ap (isWhole w′) z ∙ ap (leb whole) (e (slotOf cs s) (omega (arith, slot-below cs (s .clause) (s .position) (v .clause) (v .position), room))) ∙ v .kind;
+            kind = ap (isWhole w′) z ∙ ap (λ (u : ℕ). leb whole (flagOf u)) (e (slotOf cs s) (omega (arith, slot-below cs (s .clause) (s .position) (v .clause) (v .position), room))) ∙ v .kind;
           }
 
   -- clauses go
@@ -93,7 +89,7 @@ module _ (cs ds : List (List ℕ)) (w w′ : List ℕ) (S : List Strike) (p : ne
           record {
             clause = b;
             position = subst (λ (c : List ℕ). s .position < length c) (List·getD-append cs ds [] (s .clause) b) (v .position);
-            kind = ap (isWhole w′) (sym z) ∙ ap (leb whole) (e (slotOf (cs ++ ds) s) y) ∙ v .kind;
+            kind = ap (isWhole w′) (sym z) ∙ ap (λ (u : ℕ). leb whole (flagOf u)) (e (slotOf (cs ++ ds) s) y) ∙ v .kind;
           }
 
       all-both : (T : List Strike) → All (λ s. s .clause < length cs) T → All (Valid (cs ++ ds) w) T → All (Valid cs w′) T
@@ -119,7 +115,7 @@ module _ (cs : List (List ℕ)) (w w′ : List ℕ) (S : List Strike) (room : le
   pub marked-strike : (s : Strike) → s .clause < length cs → s .position < length (getD cs (s .clause) []) → strikeAt w (slotOf cs s) ≡ 0
       → Struck (kindOf (s .whole)) (slotOf cs s) w w′ → Marked cs w′ (s ∷ S)
   marked-strike s a b z p = record {
-    chained = struck-more (kindOf (s .whole)) (slotOf cs s) w w′ (map (slotOf cs) S) (small (s .whole)) low (h .chained) fresh p;
+    chained = struck-more (kindOf (s .whole)) (slotOf cs s) w w′ (map (slotOf cs) S) low (h .chained) fresh p;
     valid = (
       record { clause = a; position = b; kind = new (s .whole) (p .here) },
       all-with (slotOf cs) (Valid cs w) (Valid cs w′) S keep (h .valid),
@@ -132,19 +128,15 @@ module _ (cs : List (List ℕ)) (w w′ : List ℕ) (S : List Strike) (room : le
       fresh : mem (slotOf cs s) (map (slotOf cs) S) ≡ false
       fresh = unmarked w (map (slotOf cs) S) (slotOf cs s) (h .chained) low z
 
-      small : (b : Bool) → kindOf b % whole ≡ 0
-      small true = refl
-      small false = refl
-
-      new : (b : Bool) → strikeAt w′ (slotOf cs s) ≡ suc (newest w) + kindOf b → isWhole w′ (slotOf cs s) ≡ b
-      new true e = le-leb whole (strikeAt w′ (slotOf cs s)) (omega (arith, e))
-      new false e = lt-leb whole (strikeAt w′ (slotOf cs s)) (omega (arith, e, head-most w (map (slotOf cs) S) (h .chained)))
+      new : (b : Bool) → strikeAt w′ (slotOf cs s) ≡ notes + kindOf b → isWhole w′ (slotOf cs s) ≡ b
+      new true e = ap (leb whole) e
+      new false e = ap (leb whole) e
 
       keep : (x : Strike) → mem (slotOf cs x) (map (slotOf cs) S) ≡ true → Valid cs w x → Valid cs w′ x
       keep x i v = record {
         clause = v .clause;
         position = v .position;
-        kind = ap (leb whole) (p .else (strikesFrom + slotOf cs x) (λ q. omega (arith, q)) (λ q. other x i (omega (arith, q)))) ∙ v .kind;
+        kind = ap (leb whole) (p .others (slotOf cs x) (other x i)) ∙ v .kind;
       }
         where
           other : (x : Strike) → mem (slotOf cs x) (map (slotOf cs) S) ≡ true → slotOf cs x ≡ slotOf cs s → ⊥

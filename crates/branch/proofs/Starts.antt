@@ -13,7 +13,7 @@ use Rattle.scope.proofs.Lists.{zeros-at}
 use Rattle.calculus.specs.Expansion.{expand}
 use Rattle.calculus.specs.Order.{mem, clauses}
 use Rattle.trail.proofs.Trails.{empty-held, empty-trail}
-use Rattle.area.specs.Area.{areaSize, basesFrom, slotsFrom, strikesFrom, trailFrom, clauseCount, strikeAt, trailAt, gOf}
+use Rattle.area.specs.Area.{areaSize, basesFrom, slotsFrom, strikesFrom, trailFrom, clauseCount, flagOf, strikeAt, trailAt, gOf}
 use Rattle.branch.specs.Clauses.{Listed, Filled}
 use Rattle.branch.specs.Holds.{Goals, clausesOf, Holds, fresh}
 use Rattle.branch.proofs.Appends.{flat-singles, offset-singles}
@@ -86,7 +86,7 @@ module _ (t : ℕ → Node) (n : ℕ) (goals w₀ w₁ w₂ : List ℕ) (size : 
       chained = record {
         head = zero-low 2 (λ q. omega (arith, q)) (omega arith);
         chain = tt;
-        flags = λ m i. eq-eqb (strikeAt w₃ m) 0 (zero-high (strikesFrom + m) (omega arith)) ∙ sym (ap not (mem-none m));
+        flags = λ m i. eq-eqb (strikeAt w₃ m) 0 (ap flagOf (zero-high (strikesFrom + m) (omega arith))) ∙ sym (ap not (mem-none m));
       };
       valid = tt;
     };

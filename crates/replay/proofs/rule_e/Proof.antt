@@ -77,7 +77,7 @@ strike-requires c κs =
     let if2 = c .before .if2 in
     let st = sym (stands .ensures) ∙ not-false _ (if1 .left) in
     let H = s .pre .1 in
-    (size-of few H, true-below t n w few k st (true-slot .ensures) (if2 .left) H, newest-of few H, omega arith)
+    ((size-of few H, true-below t n w few k st (true-slot .ensures) (if2 .left) H, newest-of few H, omega arith), omega arith)
 
 same-length-3 : tie.Need-same-length-3
 same-length-3 c = search needs

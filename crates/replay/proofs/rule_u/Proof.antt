@@ -134,7 +134,7 @@ strike-requires c κs =
     let st = sym (stands .ensures) ∙ not-false _ (if1 .left) in
     let H = s .pre .1 in
     let o = left-below t n w few k st (remaining .ensures) H (s .pre .0 .table) (if2 .left) in
-    (size-of few H, o .0, newest-of few H, omega arith)
+    ((size-of few H, o .0, newest-of few H, omega arith), omega arith)
 
 push-requires : tie.Need-push-requires
 push-requires c κs =
