@@ -270,8 +270,9 @@ pub fn check_run(
 {
     branch::begin(x, n, goals, work);
     let mut i = from;
+    let mut at = steps::place(from);
     while i < count {
-        let s = steps::step_at(d, i);
+        let s = steps::step_by(d, i, at);
         if s.rule == 71 {
             return refusal(64, i);
         }
@@ -285,6 +286,7 @@ pub fn check_run(
             }
             Status::Running => {}
         }
+        at = steps::place_after(i, at);
         i += 1;
     }
     refusal(47, count)

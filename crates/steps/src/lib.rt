@@ -135,6 +135,27 @@ pub fn step_at(d: &[u8], k: usize) -> Step
     step_read(&d[at..end])
 }
 
+// Step k of a derivation, where its place is known.
+pub fn step_by(d: &[u8], k: usize, at: usize) -> Step
+    requires { ⌜ (at ≡ placeOf k) × (placeOf k + 4 ≤ length (now d)) ⌝ }
+    ensures { λ r. ⌜ r ≡ stepAt (now (d .entry)) k ⌝ }
+{
+    let end = at + 4;
+    step_read(&d[at..end])
+}
+
+// Where the step after step k starts, where the place of step k is known: no division.
+pub fn place_after(k: usize, at: usize) -> usize
+    requires { ⌜ (at ≡ placeOf k) × (placeOf k + 12 < 2 ^ 64) ⌝ }
+    ensures { λ r. ⌜ r ≡ placeOf (k + 1) ⌝ }
+{
+    let next = at + 4;
+    if next % 512 == 508 {
+        return next + 8;
+    }
+    next
+}
+
 // How many steps the blocks state: the last one's, and all the others are full.
 pub fn stated(d: &[u8]) -> usize
     requires { ⌜ 0 < length (now d) / 512 ⌝ }
