@@ -33,7 +33,7 @@ pub const BASES: usize = 3;
 
 pub const SLOTS: usize = BASES + (CLAUSES + 1);
 
-const STRIKES: usize = SLOTS + MOST_SLOTS;
+pub const STRIKES: usize = SLOTS + MOST_SLOTS;
 
 pub const COUNTS: usize = STRIKES + (MOST_SLOTS + 1);
 

@@ -1,19 +1,18 @@
--- The start: zeros, then the goals. Assumes nothing.
+-- The start: zeros where something is read before it is written, then the goals. Assumes nothing.
 use mathlib.Core.Path.{_≡_, refl, sym, ap, _∙_, subst}
 use mathlib.Core.Bool.{false, not}
-use mathlib.Core.Logic.{inl, inr}
+use mathlib.Core.Logic.{_⊎_, inl, inr}
 use mathlib.Core.List.{List, [], _∷_, map}
 use Prim.Native.Nat.{ℕ, zero, suc, _+_, _-_, _<_, _≤_}
 use native.Mathlib.Omega.{arith}
-use lib.ListN.{length, getD, set, replicate, length-set, length-map, length-replicate}
+use lib.ListN.{length, getD, set, length-set, length-map}
 use lib.Seq.{getD-set-same, getD-set-other}
 use borrow.Author.Tests.{eq-eqb}
 use Rattle.scope.specs.declared.Node.{Node}
-use Rattle.scope.proofs.Lists.{zeros-at}
 use Rattle.calculus.specs.Expansion.{expand}
 use Rattle.calculus.specs.Order.{mem, clauses}
 use Rattle.trail.proofs.Trails.{empty-held, empty-trail}
-use Rattle.area.specs.Area.{areaSize, basesFrom, slotsFrom, strikesFrom, trailFrom, clauseCount, flagOf, strikeAt, trailAt, gOf}
+use Rattle.area.specs.Area.{areaSize, mostNodes, basesFrom, slotsFrom, strikesFrom, trailFrom, clauseCount, flagOf, strikeAt, trailAt, gOf}
 use Rattle.branch.specs.Clauses.{Listed, Filled}
 use Rattle.branch.specs.Holds.{Goals, clausesOf, Holds, fresh}
 use Rattle.branch.proofs.Appends.{flat-singles, offset-singles}
@@ -26,7 +25,23 @@ mem-none : (m : ℕ) → mem m [] ≡ false
 unfolding mem
 mem-none m = refl
 
-module _ (t : ℕ → Node) (n : ℕ) (goals w₀ w₁ w₂ : List ℕ) (size : areaSize ≤ length w₀) (gs : Goals n goals) (z : (i : ℕ) → getD w₀ i 0 ≡ 0)
+-- the places that are cleared: the counts, the strikes, the trail
+abbrev Clear : ℕ → Type 0
+Clear i = (i < basesFrom + 1) ⊎ ((strikesFrom ≤ i) × (i < strikesFrom + 8145)) ⊎ ((trailFrom ≤ i) × (i < trailFrom + 4033))
+
+module _ {w a b c : List ℕ} (p : Filled 0 (basesFrom + 1) (λ _. 0) w a) (q : Filled strikesFrom 8145 (λ _. 0) a b) (r : Filled trailFrom 4033 (λ _. 0) b c) where
+  cleared : (i : ℕ) → Clear i → getD c i 0 ≡ 0
+  cleared i (inl h) =
+      let e : 0 + i ≡ i = omega arith in
+      r .else i (inl (omega (arith, h))) ∙ q .else i (inl (omega (arith, h))) ∙ ap (λ (k : ℕ). getD a k 0) (sym e) ∙ p .here i h
+  cleared i (inr (inl h)) =
+      let e : strikesFrom + (i - strikesFrom) ≡ i = omega (arith, h .0) in
+      r .else i (inl (omega (arith, h .1))) ∙ ap (λ (k : ℕ). getD b k 0) (sym e) ∙ q .here (i - strikesFrom) (omega (arith, h .0, h .1))
+  cleared i (inr (inr h)) =
+      let e : trailFrom + (i - trailFrom) ≡ i = omega (arith, h .0) in
+      ap (λ (k : ℕ). getD c k 0) (sym e) ∙ r .here (i - trailFrom) (omega (arith, h .0, h .1))
+
+module _ (t : ℕ → Node) (n : ℕ) (goals w₀ w₁ w₂ : List ℕ) (size : areaSize ≤ length w₀) (few : n ≤ mostNodes) (gs : Goals n goals) (z : (i : ℕ) → Clear i → getD w₀ i 0 ≡ 0)
     (b : Filled (basesFrom + 1) (length goals) suc w₀ w₁) (a : Filled slotsFrom (length goals) (λ k. getD goals k 0) w₁ w₂) where
   w₃ : List ℕ
   w₃ = set w₂ 0 (length goals)
@@ -40,20 +55,20 @@ module _ (t : ℕ → Node) (n : ℕ) (goals w₀ w₁ w₂ : List ℕ) (size : 
   away i n = getD-set-other w₂ 0 i (length goals) 0 n
 
   zero-low : (i : ℕ) → (i ≡ 0 → ⊥) → i < basesFrom + 1 → getD w₃ i 0 ≡ 0
-  zero-low i n h = away i n ∙ a .else i (inl (omega (arith, h))) ∙ b .else i (inl h) ∙ z i
+  zero-low i n h = away i n ∙ a .else i (inl (omega (arith, h))) ∙ b .else i (inl h) ∙ z i (inl h)
 
-  zero-high : (i : ℕ) → strikesFrom ≤ i → getD w₃ i 0 ≡ 0
-  zero-high i h = away i (λ q. omega (arith, q, h)) ∙ a .else i (inr (omega (arith, h, gs .most))) ∙ b .else i (inr (omega (arith, h, gs .most))) ∙ z i
+  zero-high : (i : ℕ) → strikesFrom ≤ i → Clear i → getD w₃ i 0 ≡ 0
+  zero-high i h k = away i (λ q. omega (arith, q, h)) ∙ a .else i (inr (omega (arith, h, gs .most))) ∙ b .else i (inr (omega (arith, h, gs .most))) ∙ z i k
 
   count₃ : clauseCount w₃ ≡ length goals
   unfolding w₃
   count₃ = getD-set-same w₂ 0 (length goals) 0 (omega (arith, size, a .size, b .size))
 
-  trail₃ : (i : ℕ) → trailAt w₃ i ≡ 0
-  trail₃ i = zero-high (trailFrom + i) (omega arith)
+  trail₃ : (i : ℕ) → i < 4033 → trailAt w₃ i ≡ 0
+  trail₃ i h = zero-high (trailFrom + i) (omega arith) (inr (inr (omega arith, omega (arith, h))))
 
   list₃ : gOf w₃ ≡ []
-  list₃ = empty-held n (trailAt w₃) (trail₃ 0)
+  list₃ = empty-held n (trailAt w₃) (trail₃ 0 (omega arith))
 
   clauses₃ : clausesOf t goals w₃ ≡ map (_∷ []) goals
   clauses₃ = ap (clauses (expand t) goals) list₃ ∙ clauses-none (expand t) goals
@@ -79,14 +94,14 @@ module _ (t : ℕ → Node) (n : ℕ) (goals w₀ w₁ w₂ : List ℕ) (size : 
     base = record {
       size = omega (arith, size, size₃);
       aims = gs;
-      trail = empty-trail n (trailAt w₃) (trail₃ 0) (λ m i. trail₃ (2017 + m));
+      trail = empty-trail n (trailAt w₃) (trail₃ 0 (omega arith)) (λ m i. trail₃ (2017 + m) (omega (arith, i, few)));
       listed = subst (λ (c : List (List ℕ)). Listed c w₃) (sym clauses₃) listed₃;
     };
     marked = record {
       chained = record {
         head = zero-low 2 (λ q. omega (arith, q)) (omega arith);
         chain = tt;
-        flags = λ m i. eq-eqb (strikeAt w₃ m) 0 (ap flagOf (zero-high (strikesFrom + m) (omega arith))) ∙ sym (ap not (mem-none m));
+        flags = λ m i. eq-eqb (strikeAt w₃ m) 0 (ap flagOf (zero-high (strikesFrom + m) (omega arith) (inr (inl (omega arith, omega (arith, i)))))) ∙ sym (ap not (mem-none m));
       };
       valid = tt;
     };
@@ -102,14 +117,12 @@ module _ (t : ℕ → Node) (n : ℕ) (goals w₀ w₁ w₂ : List ℕ) (size : 
   unfolding w₃
   started-empty = list₃
 
--- after zeros
-pub zeros-length : {w₀ : List ℕ} (w : List ℕ) → w₀ ≡ replicate (length w) 0 → length w₀ ≡ length w
-zeros-length w e = ap length e ∙ length-replicate (length w) 0
-
-pub begun : (t : ℕ → Node) (n : ℕ) (w : List ℕ) {goals w₀ w₁ w₂ : List ℕ} → areaSize ≤ length w → Goals n goals → w₀ ≡ replicate (length w) 0
+-- after the places are cleared
+pub begun : (t : ℕ → Node) (n : ℕ) (w : List ℕ) {goals a b w₀ w₁ w₂ : List ℕ} → areaSize ≤ length w → n ≤ mostNodes → Goals n goals
+    → Filled 0 (basesFrom + 1) (λ _. 0) w a → Filled strikesFrom 8145 (λ _. 0) a b → Filled trailFrom 4033 (λ _. 0) b w₀
     → Filled (basesFrom + 1) (length goals) suc w₀ w₁ → Filled slotsFrom (length goals) (λ k. getD goals k 0) w₁ w₂
     → Holds t n goals (set w₂ 0 (length goals)) fresh × (gOf (set w₂ 0 (length goals)) ≡ [])
-begun t n w {goals} {w₀} {w₁} {w₂} size gs e b a =
-    let y : areaSize ≤ length w₀ = omega (arith, size, zeros-length w e) in
-    let z : (i : ℕ) → getD w₀ i 0 ≡ 0 = λ i. ap (λ (l : List ℕ). getD l i 0) e ∙ zeros-at (length w) i in
-    (started t n goals w₀ w₁ w₂ y gs z b a, started-empty t n goals w₀ w₁ w₂ y gs z b a)
+begun t n w {goals} {a} {b} {w₀} {w₁} {w₂} size few gs p q r x y =
+    let u : areaSize ≤ length w₀ = omega (arith, size, p .size, q .size, r .size) in
+    let z : (i : ℕ) → Clear i → getD w₀ i 0 ≡ 0 = cleared p q r in
+    (started t n goals w₀ w₁ w₂ u few gs z x y, started-empty t n goals w₀ w₁ w₂ u few gs z x y)

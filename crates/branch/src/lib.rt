@@ -6,11 +6,12 @@ use area::HEADS;
 use area::LITERALS;
 use area::SIZES;
 use area::SLOTS;
+use area::STRIKES;
 use area::TRAIL;
 ghost use mathlib.Core.Path.{_≡_};
 ghost use mathlib.Core.List.{[], _∷_};
 ghost use Prim.Native.Nat.{suc, _+_, _-_, _*_, _/_, _%_, _≤_, _<_};
-ghost use lib.ListN.{length, getD, replicate};
+ghost use lib.ListN.{length, getD};
 ghost use Rattle.scope.specs.Table.{arity};
 ghost use Rattle.calculus.specs.Expansion.{neg, chosen, templates, expand};
 ghost use Rattle.calculus.specs.Model.{Fresh};
@@ -18,6 +19,11 @@ ghost use Rattle.index.specs.Index.{mostNodes, indexNode};
 ghost use Rattle.area.specs.Area.{areaSize, mostClauses, mostSlots, clauseRoom, literalRoom, goalRoom, basesFrom, slotsFrom, clauseCount, depth, baseAt, trailAt, gOf, Trail};
 ghost use Rattle.branch.specs.Clauses.{Filled, Appended, Room, choices, Chooses};
 ghost use Rattle.branch.specs.Holds.{Indexed, Goals, Joined, Holds, Held, Restores, fresh};
+
+// How many numbers the strikes take, and the trail.
+const STRIKE_CELLS: usize = 8145;
+
+const TRAIL_CELLS: usize = 4033;
 
 // The row of a literal: by kind and sign, 2 * kind + sign.
 fn row_of(x: &[u16], n: usize, l: u16) -> usize
@@ -245,13 +251,14 @@ pub fn restore(x: &[u16], n: usize, work: &mut [u16]) -> u16
     l
 }
 
-// Every number becomes 0.
-fn zeros(work: &mut [u16])
-    ensures { λ _. ⌜ now (work .exit) ≡ replicate (length (now (work .entry))) 0 ⌝ }
+// m numbers from a place on become 0.
+fn clear(work: &mut [u16], from: usize, m: usize)
+    requires { ⌜ from + m ≤ length (now work) ⌝ }
+    ensures { λ _. ⌜ Filled from m (λ _. 0) (now (work .entry)) (now (work .exit)) ⌝ }
 {
     let mut i = 0;
-    while i < work.len() {
-        work[i] = 0;
+    while i < m {
+        work[from + i] = 0;
         i += 1;
     }
 }
@@ -280,7 +287,7 @@ fn aim(goals: &[u16], work: &mut [u16])
     }
 }
 
-// The start: nothing is held, and nothing struck.
+// The start: nothing is held, and nothing struck. What is written before it is read is not cleared.
 pub fn begin(x: &[u16], n: usize, goals: &[u16], work: &mut [u16])
     requires { ⌜ Indexed (now x) n ⌝ }
     requires { ⌜ Goals n (now goals) ⌝ }
@@ -289,7 +296,9 @@ pub fn begin(x: &[u16], n: usize, goals: &[u16], work: &mut [u16])
     ensures { λ _. ⌜ gOf (now (work .exit)) ≡ [] ⌝ }
 {
     let m = goals.len();
-    zeros(work);
+    clear(work, 0, BASES + 1);
+    clear(work, STRIKES, STRIKE_CELLS);
+    clear(work, TRAIL, TRAIL_CELLS);
     number(work, m);
     aim(goals, work);
     work[0] = m as u16;
