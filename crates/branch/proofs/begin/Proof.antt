@@ -18,22 +18,52 @@ clear-requires-2 : tie.Need-clear-requires-2
 clear-requires-2 c κs = omega (arith, c .before .before .before .before .before .before .before .before .pre .1 .1, c .before .before .before .clear .ensures .size)
 
 clear-requires-3 : tie.Need-clear-requires-3
-clear-requires-3 c κs = omega (arith, c .before .before .before .before .before .before .before .before .before .before .before .before .pre .1 .1, c .before .before .before .clear2 .ensures .size, c .before .before .before .before .before .before .before .clear .ensures .size)
+clear-requires-3 c κs =
+    let s = c .before .before .before .before .before .before .before .before .before .before .before .before in
+    let clear2 = c .before .before .before .clear2 .ensures .size in
+    let clear = c .before .before .before .before .before .before .before .clear .ensures .size in
+    omega (arith, s .pre .1 .1, clear2, clear)
 
 number-requires : tie.Need-number-requires
-number-requires c κs = (omega (arith, c .before .before .before .before .before .before .before .before .before .before .before .before .before .before .before .before .pre .1 .1, c .before .before .before .clear3 .ensures .size, c .before .before .before .before .before .before .before .clear2 .ensures .size, c .before .before .before .before .before .before .before .before .before .before .before .clear .ensures .size), omega (arith, c .before .before .before .before .before .before .before .before .before .before .before .before .before .before .before .before .pre .1 .0 .most))
+number-requires c κs =
+    let s = c .before .before .before .before .before .before .before .before .before .before .before .before .before .before .before .before in
+    let clear3 = c .before .before .before .clear3 .ensures .size in
+    let clear2 = c .before .before .before .before .before .before .before .clear2 .ensures .size in
+    let clear = c .before .before .before .before .before .before .before .before .before .before .before .clear .ensures .size in
+    (omega (arith, s .pre .1 .1, clear3, clear2, clear), omega (arith, s .pre .1 .0 .most))
 
 aim-requires : tie.Need-aim-requires
-aim-requires c κs = (omega (arith, c .before .before .before .before .before .before .before .before .before .before .before .before .before .before .before .before .before .before .before .before .pre .1 .1, c .before .before .before .number .ensures .size, c .before .before .before .before .before .before .before .clear3 .ensures .size, c .before .before .before .before .before .before .before .before .before .before .before .clear2 .ensures .size, c .before .before .before .before .before .before .before .before .before .before .before .before .before .before .before .clear .ensures .size), omega (arith, c .before .before .before .before .before .before .before .before .before .before .before .before .before .before .before .before .before .before .before .before .pre .1 .0 .most))
+aim-requires c κs =
+    let s = c .before .before .before .before .before .before .before .before .before .before .before .before .before .before .before .before .before .before .before .before in
+    let number = c .before .before .before .number .ensures .size in
+    let clear3 = c .before .before .before .before .before .before .before .clear3 .ensures .size in
+    let clear2 = c .before .before .before .before .before .before .before .before .before .before .before .clear2 .ensures .size in
+    let clear = c .before .before .before .before .before .before .before .before .before .before .before .before .before .before .before .clear .ensures .size in
+    (omega (arith, s .pre .1 .1, number, clear3, clear2, clear), omega (arith, s .pre .1 .0 .most))
 
 cast-work : tie.Need-cast-work
-cast-work c = omega (arith, c .before .before .before .before .before .before .before .before .before .before .before .before .before .before .before .before .before .before .before .before .before .before .before .pre .1 .0 .most)
+cast-work c =
+    let s = c .before .before .before .before .before .before .before .before .before .before .before .before .before .before .before .before .before .before .before .before .before .before .before in
+    omega (arith, s .pre .1 .0 .most)
 
 slice-write-work : tie.Need-slice-write-work
-slice-write-work c = omega (arith, c .before .before .before .before .before .before .before .before .before .before .before .before .before .before .before .before .before .before .before .before .before .before .before .pre .1 .1, c .before .before .aim .ensures .size, c .before .before .before .before .before .before .number .ensures .size, c .before .before .before .before .before .before .before .before .before .before .clear3 .ensures .size, c .before .before .before .before .before .before .before .before .before .before .before .before .before .before .clear2 .ensures .size, c .before .before .before .before .before .before .before .before .before .before .before .before .before .before .before .before .before .before .clear .ensures .size)
+slice-write-work c =
+    let s = c .before .before .before .before .before .before .before .before .before .before .before .before .before .before .before .before .before .before .before .before .before .before .before in
+    let aim = c .before .before .aim .ensures .size in
+    let number = c .before .before .before .before .before .before .number .ensures .size in
+    let clear3 = c .before .before .before .before .before .before .before .before .before .before .clear3 .ensures .size in
+    let clear2 = c .before .before .before .before .before .before .before .before .before .before .before .before .before .before .clear2 .ensures .size in
+    let clear = c .before .before .before .before .before .before .before .before .before .before .before .before .before .before .before .before .before .before .clear .ensures .size in
+    omega (arith, s .pre .1 .1, aim, number, clear3, clear2, clear)
 
 same-length : tie.Need-same-length
-same-length c = simp length-set (c .before .before .aim .ensures .size ∙ c .before .before .before .before .before .before .number .ensures .size ∙ c .before .before .before .before .before .before .before .before .before .before .clear3 .ensures .size ∙ c .before .before .before .before .before .before .before .before .before .before .before .before .before .before .clear2 .ensures .size ∙ c .before .before .before .before .before .before .before .before .before .before .before .before .before .before .before .before .before .before .clear .ensures .size)
+same-length c =
+    let aim = c .before .before .aim .ensures .size in
+    let number = c .before .before .before .before .before .before .number .ensures .size in
+    let clear3 = c .before .before .before .before .before .before .before .before .before .before .clear3 .ensures .size in
+    let clear2 = c .before .before .before .before .before .before .before .before .before .before .before .before .before .before .clear2 .ensures .size in
+    let clear = c .before .before .before .before .before .before .before .before .before .before .before .before .before .before .before .before .before .before .clear .ensures .size in
+    simp length-set (aim ∙ number ∙ clear3 ∙ clear2 ∙ clear)
 
 returns : tie.Need-returns
 returns c =

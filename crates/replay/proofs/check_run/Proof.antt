@@ -149,7 +149,10 @@ loop-again c =
     let f = stepAt (s .args .d .now) in
     let g = c .before .before .before .before .before .before .before .before .before .before .before .loop .inv .1 in
     let r = step-told (s .args .version) (c .before .before .before .before .before .apply-in .last .1 .1 .1 .0) (g .history) (c .before .before .before .before .before .apply-in .ensures) (c .before .before .before .before .before .before .before .before .before .step-by .ensures) (c .before .enum-told3 .given .1) (g .holds) in
-    (c .before .before .before .before .before .apply-in .kept .1 .1 .1 .0 ∙ c .before .before .before .before .before .before .before .before .before .before .before .loop .inv .0, going-goes (s .args .version) t n goals f (s .args .count) g (c .before .before .before .before .before .before .before .before .before .before .loop-test .taken) (no-name (c .before .before .before .before .before .before .before .before .before .step-by .ensures) (c .before .before .before .before .before .before .before .if1 .left)) r, c .place-after .ensures)
+    let kept = c .before .before .before .before .before .apply-in .kept .1 .1 .1 .0 ∙ c .before .before .before .before .before .before .before .before .before .before .before .loop .inv .0 in
+    let below = c .before .before .before .before .before .before .before .before .before .before .loop-test .taken in
+    let other = no-name (c .before .before .before .before .before .before .before .before .before .step-by .ensures) (c .before .before .before .before .before .before .before .if1 .left) in
+    (kept, going-goes (s .args .version) t n goals f (s .args .count) g below other r, c .place-after .ensures)
 
 refusal-requires-3 : tie.Need-refusal-requires-3 Inv-loop μ-loop
 refusal-requires-3 c κs = search needs
