@@ -1,5 +1,5 @@
 /* The library beside the plain implementation, every call, in one run: times of both by turns, the ratio and the aim. The answers and all bytes
- * of both are compared, and the run ends at a difference. `bench [--figures FILE] [CALL ..]`. */
+ * of both are compared, and the run ends at a difference. `bench [--figures FILE] [CALL ..]`; derive goes with check, open and step. */
 #include "asks.h"
 #include "measure.h"
 

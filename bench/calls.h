@@ -34,9 +34,9 @@ static struct {
     uint16_t wishes[BEV_WISHES];
     size_t wished, questions;               /* how many wishes, the allowance */
     char dimacs[65536];
-    size_t dimacs_len;
+    size_t dimacs_len, room;                /* of dimacs: the text, the bytes of the buffer */
     int letter;                             /* of derive and check: 68 version one, 86 version two */
-} asked;
+} asked = { .room = 16384 };
 
 static void count(const a_case *c, int side)
 {
@@ -45,7 +45,7 @@ static void count(const a_case *c, int side)
         say(LIB, v.number, v.place, v.nodes, 0);
     } else {
         p_refusal v = p_read(c->table, c->len);
-        say(PLAIN, v.number, v.place, p_table.nodes, 0);
+        say(PLAIN, v.number, v.place, v.number ? 0 : p_table.nodes, 0);
     }
 }
 
@@ -96,10 +96,10 @@ static void dimacs(const a_case *c, int side)
     const uint8_t *text = (const uint8_t *)asked.dimacs;
     (void)c;
     if (side == LIB) {
-        bev_added v = bev_dimacs(text, asked.dimacs_len, lent[LIB].buffer, 16384);
+        bev_added v = bev_dimacs(text, asked.dimacs_len, lent[LIB].buffer, asked.room);
         say(LIB, v.number, v.place, v.literal, v.used);
     } else {
-        p_added v = p_dimacs(text, asked.dimacs_len, lent[PLAIN].buffer, 16384);
+        p_added v = p_dimacs(text, asked.dimacs_len, lent[PLAIN].buffer, asked.room);
         say(PLAIN, v.number, v.place, v.literal, v.used);
     }
 }

@@ -67,6 +67,13 @@ static unsigned no(unsigned l) { return l ^ 1; }
 enum { none = 65535 };
 static unsigned chain(unsigned kind, unsigned so_far, unsigned l) { return so_far == none ? l : node(kind, so_far, l); }
 
+/* A literal of two nodes, each with any sign; that of the second is picked first. */
+static unsigned any_signs(unsigned kind, unsigned x, unsigned y)
+{
+    unsigned b = 2 * y + pick(2), a = 2 * x + pick(2);
+    return node(kind, a, b);
+}
+
 /* A chain of ANDs or ORs, in pairs or in threes. */
 typedef struct { unsigned kind, so_far, waiting; int threes; } a_chain;
 
@@ -215,7 +222,7 @@ static void random_list(a_case *c, unsigned n, unsigned seed, size_t goals)
             y = pick(n);
         while (z == x || z == y)
             z = pick(n);
-        unsigned pair = node(OR, 2 * x + pick(2), 2 * y + pick(2));
+        unsigned pair = any_signs(OR, x, y);
         uint16_t *goal = &all.goal[k * goals / clauses];
         *goal = (uint16_t)chain(AND, *goal, node(OR, pair, 2 * z + pick(2)));
     }
@@ -300,7 +307,7 @@ static void easy_nodes(unsigned n, unsigned seed)
         if (pick(3))
             x = pick(96);
         if (x != y)
-            node(kind, 2 * x + pick(2), 2 * y + pick(2));
+            any_signs(kind, x, y);
     }
 }
 
