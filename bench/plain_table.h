@@ -31,36 +31,52 @@ static inline p_refusal p_no(unsigned number, size_t place)
 
 /* Blocks */
 
-static uint16_t p_weight[64]; /* 3 to the 8 i */
+/* A block is eight rows of 64 bytes: 3 to the 64 r, and to the 8 j within a row. */
+static uint32_t p_row[8], p_column[8];
 
-static void p_weights(void)
+static uint32_t p_power(unsigned k)
 {
     uint32_t w = 1;
-    for (int i = 0; i < 64; i++, w = w * 6561u % 65521)
-        p_weight[i] = (uint16_t)w;
+    while (k-- > 0)
+        w = 3 * w % 65521;
+    return w;
 }
 
-/* Sixteen bytes at once: neighbours are joined with weights 3, 9 and 81, then each eight weighed by 3 to the 8 i. */
-static inline __m128i p_sixteen(__m128i v, int i)
+static void p_powers(void)
 {
-    const __m128i low = _mm_set1_epi16(255), nine = _mm_set1_epi32(9 << 16 | 1), third = _mm_set1_epi64x(81);
-    __m128i odd = _mm_srli_epi16(v, 8), x = _mm_add_epi16(_mm_and_si128(v, low), _mm_add_epi16(odd, _mm_add_epi16(odd, odd)));
-    x = _mm_madd_epi16(x, nine);
-    x = _mm_add_epi32(x, _mm_mul_epu32(_mm_srli_epi64(x, 32), third));
-    return _mm_mul_epu32(x, _mm_set_epi64x(p_weight[2 * i + 1], p_weight[2 * i]));
+    for (unsigned i = 0; i < 8; i++) {
+        p_row[i] = p_power(64 * i);
+        p_column[i] = p_power(8 * i);
+    }
 }
 
+/* Sixteen bytes, each eight of them joined with weights 1 to 2,187, times the row's. */
+static inline __m128i p_sixteen(__m128i v, __m128i row)
+{
+    const __m128i low = _mm_set1_epi16(255), even = _mm_set1_epi32(9 << 16 | 1), odd = _mm_set1_epi32(27 << 16 | 3), four = _mm_set1_epi64x(81);
+    __m128i x = _mm_add_epi32(_mm_madd_epi16(_mm_and_si128(v, low), even), _mm_madd_epi16(_mm_srli_epi16(v, 8), odd));
+    return _mm_mul_epu32(_mm_add_epi32(x, _mm_mul_epu32(_mm_srli_epi64(x, 32), four)), row);
+}
+
+/* Column by column over the rows, and the columns at the end. */
 static unsigned p_check(const uint8_t *b)
 {
     const __m128i last = _mm_set_epi64x(0x0000FFFFFFFFFFFF, -1);
-    uint64_t sums[2];
-    if (!p_weight[0])
-        p_weights();
-    __m128i sum = p_sixteen(_mm_and_si128(_mm_loadu_si128((const __m128i *)(b + 496)), last), 31);
-    for (int i = 0; i < 31; i++)
-        sum = _mm_add_epi64(sum, p_sixteen(_mm_loadu_si128((const __m128i *)(b + 16 * i)), i));
-    _mm_storeu_si128((__m128i *)sums, sum);
-    return (unsigned)((sums[0] + sums[1]) % 65521);
+    __m128i sum[4] = { _mm_setzero_si128(), _mm_setzero_si128(), _mm_setzero_si128(), _mm_setzero_si128() };
+    uint64_t column[8], all = 0;
+    if (!p_row[0])
+        p_powers();
+    for (int r = 0; r < 8; r++) {
+        __m128i row = _mm_set1_epi32((int)p_row[r]);
+        for (int c = 0; c < 4; c++) {
+            __m128i v = _mm_loadu_si128((const __m128i *)(b + 64 * r + 16 * c));
+            sum[c] = _mm_add_epi64(sum[c], p_sixteen(r == 7 && c == 3 ? _mm_and_si128(v, last) : v, row));
+        }
+    }
+    memcpy(column, sum, sizeof column);
+    for (int j = 0; j < 8; j++)
+        all += column[j] * p_column[j];
+    return (unsigned)(all % 65521);
 }
 
 static inline unsigned p_word(const uint8_t *b) { return b[0] | (unsigned)b[1] << 8; }
@@ -92,9 +108,11 @@ static inline unsigned p_record(uint64_t r, size_t n)
 {
     unsigned kind = r & 255, a = r >> 17 & 32767, b = r >> 33 & 32767, c = (unsigned)(r >> 49);
     if (kind - 3 < 4 && !(r & 0xFFFF00000000FF00)) {
-        if ((a >= n) | (b >= n))
+        if (a < b && b < n)
+            return 0;
+        if (a >= n || b >= n)
             return 15;
-        return (kind == 5 ? a == b : a >= b) ? 16 : 0;
+        return kind == 5 && a != b ? 0 : 16;
     }
     if (kind - 7 < 2 && !(r & 0xFF00)) {
         if (a >= n || b >= n || c >= n)
