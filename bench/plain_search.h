@@ -29,6 +29,7 @@ typedef struct {
     uint16_t at[2048];            /* by node: 4 x position + 2 x sign + 1; 0 not held */
     uint64_t row[P_NODES + 1];    /* by position: the operands, and in the low bits where the row's codes begin */
     uint16_t trail[P_NODES + 2];  /* by position */
+    uint16_t forced[P_NODES + 2]; /* by position: the literal of its first unit clause, where it has the bit of one */
     uint16_t open[P_NODES + 2];   /* positions whose clause was open as they joined */
     uint16_t number[P_NODES + 2]; /* by position: the number of its first clause, for derive alone */
     p_level level[P_NODES];
@@ -45,7 +46,9 @@ static p_set p_rests[P_NODES + 1]; /* by position; 0 rests on nothing */
 static uint16_t p_code[14 * 16], p_code3[18 * 64];
 static uint8_t p_count[18];
 
-/* Classes after an operand got its value, by edge: its sign, 8 kind and side, how the parent is held, the other's value. */
+/* Classes after an operand got its value, by its sign, then 16 times kind, side and sign of the edge, 4 times how the parent is held, and the
+ * other's value (of three operands, the others' values). In the higher bits of a unit: whether its literal is the other's negation (4), and
+ * whether it is the second of the others (8). */
 static uint8_t p_edge_class[2][16 * 16], p_edge_class3[2][4 * 4 * 16];
 
 /* Clauses of a row, as operands 2 i + sign, -1 behind the last. */
@@ -95,6 +98,13 @@ static unsigned p_code_of(unsigned row, unsigned i)
     return best;
 }
 
+/* What an edge makes of a code; of three operands, this one is taken for the first. */
+static uint8_t p_edge_code(unsigned code)
+{
+    unsigned class = code & 3;
+    return (uint8_t)(class == P_UNIT ? P_UNIT | (code >> 4 & 1) << 2 | (unsigned)((code >> 2 & 3) == 2) << 3 : class == P_CONFLICT ? P_CONFLICT : P_MET);
+}
+
 static void p_codes(void)
 {
     for (unsigned row = 2; row < 18; row++) {
@@ -109,13 +119,12 @@ static void p_codes(void)
     for (unsigned k = 0; k < 2 * 16 * 16; k++) {
         unsigned no = k >> 8, kind = 3 + (k >> 4 & 3), side = k >> 6 & 1, sign = k >> 7 & 1, held = k >> 2 & 3, other = k & 3;
         unsigned mine = 1 + (no != sign), i = side ? other + 4 * mine : mine + 4 * other;
-        unsigned class = held & 1 && other < 3 ? p_code[16 * (2 * kind + held / 2) + i] & 3u : 0;
-        p_edge_class[no][k & 255] = class == P_OPEN ? P_MET : (uint8_t)class;
+        p_edge_class[no][k & 255] = held & 1 && other < 3 ? p_edge_code(p_code[16 * (2 * kind + held / 2) + i]) : P_MET;
     }
     for (unsigned k = 0; k < 2 * 4 * 4 * 16; k++) {
         unsigned no = k >> 8, kind = 7 + (k >> 6 & 1), sign = k >> 7 & 1, held = k >> 4 & 3, others = k & 15;
-        unsigned class = held & 1 && (others & 3) < 3 && others < 12 ? p_code3[64 * (2 * kind + held / 2) + 1 + (no != sign) + 4 * others] & 3u : 0;
-        p_edge_class3[no][k & 255] = class == P_OPEN ? P_MET : (uint8_t)class;
+        unsigned row = 64 * (2 * kind + held / 2) + 1 + (no != sign);
+        p_edge_class3[no][k & 255] = held & 1 && (others & 3) < 3 && others < 12 ? p_edge_code(p_code3[row + 4 * others]) : P_MET;
     }
 }
 
@@ -219,14 +228,18 @@ P_INLINE unsigned p_code_at(const p_state *s, uint64_t r, const int threes)
     return threes ? p_code3[i + 16u * s->value[r >> 48]] : p_code[i];
 }
 
-P_INLINE void p_flag(p_state *s, unsigned q, unsigned class)
+P_INLINE void p_flag(p_state *s, unsigned q, unsigned class, unsigned literal)
 {
-    if (class == P_UNIT) {
+    if (class & P_UNIT) {
+        s->forced[q] = (uint16_t)literal;
         s->unit[q / 64] |= (uint64_t)1 << q % 64;
         s->summary |= (uint64_t)1 << q / 64;
     } else if (q < s->conflict)
         s->conflict = q;
 }
+
+/* The operand that a code chooses. */
+P_INLINE unsigned p_chosen(uint64_t r, unsigned code) { return (unsigned)(r >> (16 + 16 * (code >> 2 & 3)) & 65535) ^ (code >> 4 & 1); }
 
 P_INLINE void p_join(p_state *s, unsigned l, const int threes, const int numbered)
 {
@@ -240,17 +253,17 @@ P_INLINE void p_join(p_state *s, unsigned l, const int threes, const int numbere
     s->row[q] = r = (r & ~(uint64_t)65535) | (threes ? 64 * row : 16 * row);
     if (numbered)
         s->number[q + 1] = (uint16_t)(s->number[q] + p_count[row]);
-    unsigned class = p_code_at(s, r, threes) & 3;
+    unsigned code = p_code_at(s, r, threes), class = code & 3;
     s->open[s->opens] = (uint16_t)q;
     s->opens += class == P_OPEN;
     if (class - 1 < 2)
-        p_flag(s, q, class);
+        p_flag(s, q, class, p_chosen(r, code));
     const uint8_t *classes = p_edge_class[no];
     for (const uint32_t *e = px.edge + px.first[n], *end = px.edge + px.end[n]; e < end; e++) {
         unsigned at = s->at[*e & 2047];
         class = classes[(*e >> 28) * 16 + (at & 3) * 4 + s->value[*e >> 11 & 4095]];
         if (class)
-            p_flag(s, at / 4, class);
+            p_flag(s, at / 4, class, (*e >> 11 & 4095) ^ class >> 2);
     }
     if (!threes)
         return;
@@ -259,7 +272,7 @@ P_INLINE void p_join(p_state *s, unsigned l, const int threes, const int numbere
         unsigned at = s->at[*e & 2047];
         class = classes[(*e >> 54) * 64 + (at & 3) * 16 + s->value[*e >> 16 & 4095] + 4u * s->value[*e >> 32 & 4095]];
         if (class)
-            p_flag(s, at / 4, class);
+            p_flag(s, at / 4, class, (unsigned)(*e >> (class & 8 ? 32 : 16) & 4095) ^ (class >> 2 & 1));
     }
 }
 
@@ -283,16 +296,13 @@ static void p_again(p_state *s, unsigned held)
     p_back(s, held);
     s->opens = s->cursor = s->levels = 0;
     for (unsigned q = 1; q <= held; q++) {
-        unsigned class = (p_table.threes ? p_code_at(s, s->row[q], 1) : p_code_at(s, s->row[q], 0)) & 3;
+        unsigned code = p_table.threes ? p_code_at(s, s->row[q], 1) : p_code_at(s, s->row[q], 0);
         s->open[s->opens] = (uint16_t)q;
-        s->opens += class == P_OPEN;
-        if (class == P_UNIT)
-            p_flag(s, q, class);
+        s->opens += (code & 3) == P_OPEN;
+        if ((code & 3) == P_UNIT)
+            p_flag(s, q, P_UNIT, p_chosen(s->row[q], code));
     }
 }
-
-/* The operand that a code chooses. */
-P_INLINE unsigned p_chosen(uint64_t r, unsigned code) { return (unsigned)(r >> (16 + 16 * (code >> 2 & 3)) & 65535) ^ (code >> 4 & 1); }
 
 /* Where steps go: counted, and written from the second search on. A block is sealed when it is full. */
 typedef struct { uint64_t steps; uint8_t *out, *at, *end; int letter; } p_sink;
@@ -401,18 +411,18 @@ P_INLINE int p_run(p_state *s, uint64_t most, p_sink *sink, const int threes, co
             p_join(s, l ^ 1, threes, numbered);
         } else if (s->summary) {
             unsigned w = (unsigned)__builtin_ctzll(s->summary), q = 64 * w + (unsigned)__builtin_ctzll(s->unit[w]);
-            uint64_t r = s->row[q], rest = s->unit[w] & (s->unit[w] - 1);
-            unsigned code = p_code_at(s, r, threes);
+            uint64_t rest = s->unit[w] & (s->unit[w] - 1);
+            unsigned l = s->forced[q];
             s->unit[w] = rest;
             s->summary ^= (uint64_t)(rest == 0) << w;
-            if ((code & 3) != P_UNIT)
+            if (s->value[l]) /* met or all false by now */
                 continue;
             moves++;
             if (numbered)
-                p_steps(sink, s, 'U', q, code);
+                p_steps(sink, s, 'U', q, p_code_at(s, s->row[q], threes));
             if (jumps)
-                p_rests[s->held + 1] = s->levels ? p_why(s, q, r, code, threes) : (p_set){ 0, 0 };
-            p_join(s, p_chosen(r, code), threes, numbered);
+                p_rests[s->held + 1] = s->levels ? p_why(s, q, s->row[q], p_code_at(s, s->row[q], threes), threes) : (p_set){ 0, 0 };
+            p_join(s, l, threes, numbered);
         } else {
             unsigned i = s->cursor, code = 0;
             while (i < s->opens && ((code = p_code_at(s, s->row[s->open[i]], threes)) & 3) != P_OPEN)
