@@ -63,7 +63,7 @@ headsFrom = sizesFrom + mostNodes
 abbrev pub trailFrom : ℕ
 trailFrom = headsFrom + mostNodes
 
--- how many clauses, how many open splits, how many strikes
+-- how many clauses, how many open splits, how many strikes: so the newest strike stands before place `newest`
 abbrev pub clauseCount : List ℕ → ℕ
 clauseCount w = getD w 0 0
 

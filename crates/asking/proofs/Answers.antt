@@ -13,9 +13,10 @@ use Rattle.scope.proofs.Tests.{refused-no, passed-on}
 use Rattle.table.specs.declared.Counted.{Counted}
 use Rattle.table.specs.declared.Counted.the-variants.{Nodes, Refused}
 use Rattle.table.specs.Counted.{countedOf}
-use Rattle.calculus.specs.Decide.{goalsTest, lentTest, rowsTest, askedBy}
+use Rattle.calculus.specs.Decide.{goalsTest, lentTest, rowsTest, Admitted, askedBy}
 use Rattle.calculus.proofs.Asked.{by-rows}
 use Rattle.asking.specs.Asks.{Prepared, Asks}
+use Rattle.asking.specs.Within.{Admits, Reached, Within}
 use Rattle.asking.proofs.Nodes.{nodesIn, size-in, nodes-read}
 
 -- ---- the row on the list, then 20, then 21 and 23
@@ -41,12 +42,9 @@ module _ (listed : Outcome (Unit {0})) (t goals : List ℕ) (needed points area 
   abbrev counts : Outcome ℕ
   counts = askedBy listed t goals needed points area >>= λ rs. answer (length rs)
 
-  asks-none : (x : List ℕ) (f : Refusal) → askedBy listed t goals needed points area ≡ refused (f .number) (f .place) → Asks listed t goals needed points area x (Refused f)
-  asks-none x f e = record { answered = rw e; prepared = λ n q. absurd (let z : _≡_ {A = ℕ} 0 1 = cc in omega arith) }
-
-  pub table-refuses : (x : List ℕ) (f : Refusal) → tableCount t ≡ refused (f .number) (f .place) → Asks listed t goals needed points area x (Refused f)
+  pub table-refuses : {number place : ℕ} → tableCount t ≡ refused number place → askedBy listed t goals needed points area ≡ refused number place
   unfolding tableCount askedBy
-  table-refuses x f e = asks-none x f (passed-on (decode t) length _ e)
+  table-refuses e = passed-on (decode t) length _ e
 
   asked-in : {nodes : ℕ} → tableCount t ≡ answer nodes
       → askedBy listed t goals needed points area ≡ (rowsTest listed nodes goals needed points area >> answer (nodesIn t nodes))
@@ -54,9 +52,46 @@ module _ (listed : Outcome (Unit {0})) (t goals : List ℕ) (needed points area 
       by-rows listed t goals needed points area (nodes-read t e)
       ∙ ap (λ (k : ℕ). rowsTest listed k goals needed points area >> answer (nodesIn t nodes)) (size-in t nodes)
 
-  pub rows-refuse : (x : List ℕ) (f : Refusal) {nodes : ℕ} → tableCount t ≡ answer nodes
-      → rowsTest listed nodes goals needed points area ≡ refused (f .number) (f .place) → Asks listed t goals needed points area x (Refused f)
-  rows-refuse x f e q = asks-none x f (asked-in e ∙ rw q)
+  pub rows-refuse : {number place nodes : ℕ} → tableCount t ≡ answer nodes → rowsTest listed nodes goals needed points area ≡ refused number place
+      → askedBy listed t goals needed points area ≡ refused number place
+  rows-refuse e q = asked-in e ∙ rw q
+
+  module _ (f : Refusal) (e : askedBy listed t goals needed points area ≡ refused (f .number) (f .place)) where
+    refused-as : (g : Refusal) → _≡_ {A = Counted} (Refused f) (Refused g) → askedBy listed t goals needed points area ≡ refused (g .number) (g .place)
+    refused-as g q =
+        let z : f ≡ g = cc in
+        e ∙ ap (λ (h : Refusal). refused (h .number) (h .place)) z
+
+    no-nodes : {P : Type 0} (n : ℕ) → _≡_ {A = Counted} (Refused f) (Nodes n) → P
+    no-nodes n q = absurd (let z : _≡_ {A = ℕ} 0 1 = cc in omega arith)
+
+    pub admits-none : Admits listed t goals needed points area (Refused f)
+    admits-none = record { refuses = refused-as; counted = λ n q. no-nodes n q; admitted = λ n q. no-nodes n q }
+
+    pub asks-none : (x : List ℕ) → Asks listed t goals needed points area x (Refused f)
+    asks-none x = record { answered = rw e; prepared = λ n q. no-nodes n q }
+
+    pub within-none : (x : List ℕ) → Within listed t goals needed points area x (Refused f)
+    within-none x = record { refuses = refused-as; reached = λ n q. no-nodes n q }
+
+  pub admits-some : (n : ℕ) → tableCount t ≡ answer n → Admitted listed n goals needed points area → Admits listed t goals needed points area (Nodes n)
+  admits-some n e a = record {
+    refuses = λ f q. absurd (let z : _≡_ {A = ℕ} 0 1 = cc in omega arith);
+    counted = λ m q.
+        let z : n ≡ m = cc in
+        rw z at e;
+    admitted = λ m q.
+        let z : n ≡ m = cc in
+        rw z at a;
+  }
+
+  pub within-some : (x : List ℕ) (n : ℕ) → Reached listed t goals needed points area x n → Within listed t goals needed points area x (Nodes n)
+  within-some x n p = record {
+    refuses = λ f q. absurd (let z : _≡_ {A = ℕ} 0 1 = cc in omega arith);
+    reached = λ m q.
+        let z : n ≡ m = cc in
+        rw z at p;
+  }
 
   pub asks-some : (x : List ℕ) (n : ℕ) → Prepared listed t goals needed points area x n → Asks listed t goals needed points area x (Nodes n)
   asks-some x n p = record {

@@ -1,2 +1,3 @@
 -- What a search is given. Assumes nothing.
 pub mod Asks
+pub mod Within

@@ -1,5 +1,5 @@
 // What the calls that search ask before: rows 10 to 17, a row on the list (62 for goals), 20, 21 and 23 in one place; and the index of the
-// table's nodes, which they work on.
+// table's nodes, which they work on, or of those up to the highest goal's.
 use scope::Refusal;
 use scope::Verdict;
 use table::Counted;
@@ -13,6 +13,7 @@ ghost use Rattle.calculus.specs.Model.{mostGoals};
 ghost use Rattle.calculus.specs.Decide.{listRow, goalsTest, lentTest, rowsTest};
 ghost use Rattle.index.specs.Index.{indexSize, mostNodes};
 ghost use Rattle.asking.specs.Asks.{Asks};
+ghost use Rattle.asking.specs.Within.{Admits, Farther, Reach, Within};
 
 fn wide(l: u16) -> usize
     ensures { λ r. ⌜ r ≡ l ⌝ }
@@ -101,8 +102,32 @@ fn rows(
     }
 }
 
-// The node count of a table to which the literals may be put, and the index of its nodes; or the first row's refusal. `listed` is what the
-// call's own row on the list says.
+// The node count of a table to which the literals may be put, or the first row's refusal. `listed` is what the call's own row on the list
+// says.
+fn admit(
+    listed: Verdict,
+    t: &[u8],
+    goals: &[u16],
+    needed: usize,
+    points: usize,
+    area: usize,
+) -> Counted
+    ensures { λ r. ⌜ Admits (verdictOf listed) (now (t .entry)) (now (goals .entry)) needed points area r ⌝ }
+{
+    let c = table::count(t);
+    match c {
+        Counted::Refused(f) => Counted::Refused(f),
+        Counted::Nodes(nodes) => {
+            let v = rows(listed, nodes, goals, needed, points, area);
+            match v {
+                Verdict::Refused(f) => Counted::Refused(f),
+                Verdict::Fine => Counted::Nodes(nodes),
+            }
+        }
+    }
+}
+
+// The same, and the index of the table's nodes.
 pub fn ask_by(
     listed: Verdict,
     t: &[u8],
@@ -115,18 +140,12 @@ pub fn ask_by(
     requires { ⌜ length (now x) ≡ indexSize ⌝ }
     ensures { λ r. ⌜ Asks (verdictOf listed) (now (t .entry)) (now (goals .entry)) needed points area (now (x .exit)) r ⌝ }
 {
-    let c = table::count(t);
-    match c {
+    let a = admit(listed, t, goals, needed, points, area);
+    match a {
         Counted::Refused(f) => Counted::Refused(f),
         Counted::Nodes(nodes) => {
-            let v = rows(listed, nodes, goals, needed, points, area);
-            match v {
-                Verdict::Refused(f) => Counted::Refused(f),
-                Verdict::Fine => {
-                    index::build(t, nodes, x);
-                    Counted::Nodes(nodes)
-                }
-            }
+            index::build(t, nodes, x);
+            Counted::Nodes(nodes)
         }
     }
 }
@@ -144,4 +163,48 @@ pub fn ask(
     ensures { λ r. ⌜ Asks (listRow (now (goals .entry))) (now (t .entry)) (now (goals .entry)) needed points area (now (x .exit)) r ⌝ }
 {
     ask_by(list_row(goals), t, goals, needed, points, area, x)
+}
+
+// How many nodes there are up to the literal's, or `top` where that is more.
+fn farther(top: usize, l: u16) -> usize
+    ensures { λ r. ⌜ Farther top l r ⌝ }
+{
+    let end = wide(l / 2) + 1;
+    if top < end { end } else { top }
+}
+
+// How many nodes there are up to the highest of the literals'.
+fn reach(goals: &[u16]) -> usize
+    ensures { λ r. ⌜ Reach (now (goals .entry)) r ⌝ }
+{
+    let mut top = 0;
+    let mut i = 0;
+    while i < goals.len() {
+        top = farther(top, goals[i]);
+        i += 1;
+    }
+    top
+}
+
+// What `ask` asks; the index is of the nodes up to the highest goal's alone, which are all that a search of the goals comes to.
+pub fn ask_within(
+    t: &[u8],
+    goals: &[u16],
+    needed: usize,
+    points: usize,
+    area: usize,
+    x: &mut [u16],
+) -> Counted
+    requires { ⌜ length (now x) ≡ indexSize ⌝ }
+    ensures { λ r. ⌜ Within (listRow (now (goals .entry))) (now (t .entry)) (now (goals .entry)) needed points area (now (x .exit)) r ⌝ }
+{
+    let a = admit(list_row(goals), t, goals, needed, points, area);
+    match a {
+        Counted::Refused(f) => Counted::Refused(f),
+        Counted::Nodes(_) => {
+            let top = reach(goals);
+            index::build(t, top, x);
+            Counted::Nodes(top)
+        }
+    }
 }

@@ -5,26 +5,23 @@ use mathlib.Core.Logic.{_⊎_, inl, inr}
 use mathlib.Core.List.{List, [], _∷_, _++_, map, append-nil}
 use Prim.Native.Nat.{ℕ, zero, suc, _+_, _-_, _*_, _/_, _%_, _<_, _≤_}
 use native.Mathlib.Omega.{arith}
-use native.Mathlib.Nat.{zero-add}
 use native.Mathlib.Decide.{ℕ-discrete, decLt}
 use lib.Dec.{leb, ltb}
 use lib.ListN.{length, getD, set, length-set, length-map, length-append, List·getD-append}
 use lib.Seq.{getD-set-same, getD-set-other, getD-append-add}
 use borrow.Author.Tests.{leb-true, le-ltb}
 use Rattle.scope.specs.declared.Node.{Node}
-use Rattle.scope.specs.Table.{arity, listFrom}
+use Rattle.scope.specs.Table.{arity}
 use Rattle.scope.proofs.Operands.{arity-most}
-use Rattle.scope.proofs.Lists.{length-listFrom, getD-listFrom}
-use Rattle.scope.proofs.Tests.{and-left, and-right}
 use Rattle.calculus.specs.Expansion.{chosen, templates, expand}
 use Rattle.calculus.specs.Order.{clauses}
-use Rattle.calculus.proofs.Lists.{every, every-all, all-at, all-getD, getD-map}
+use Rattle.calculus.proofs.Lists.{every, every-all, all-getD}
 use Rattle.index.specs.Index.{indexNode}
 use Rattle.index.proofs.Nodes.{operand-low}
-use Rattle.area.specs.Area.{areaSize, mostClauses, mostSlots, clauseRoom, literalRoom, basesFrom, slotsFrom, strikesFrom, clauseCount, baseAt, slotAt}
+use Rattle.area.specs.Area.{mostClauses, mostSlots, literalRoom, basesFrom, slotsFrom, strikesFrom, clauseCount, baseAt, slotAt}
 use Rattle.branch.specs.Clauses.{flat, offset, Listed, Filled, Appended, Room}
 use Rattle.branch.specs.Holds.{Indexed}
-use Rattle.branch.proofs.Offsets.{flat-append, flat-map, offset-map, offset-low, offset-high, offset-all, offset-none}
+use Rattle.branch.proofs.Offsets.{flat-append, flat-map, offset-low, offset-high, offset-all, offset-none}
 
 -- ---- numbers that are stored one after the other
 

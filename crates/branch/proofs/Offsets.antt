@@ -4,7 +4,7 @@ use mathlib.Core.List.{List, [], _∷_, _++_, map, append-assoc}
 use Prim.Native.Nat.{ℕ, zero, suc, _+_, _-_, _<_, _≤_}
 use native.Mathlib.Omega.{arith}
 use native.Mathlib.Decide.{decLt}
-use lib.ListN.{length, getD, length-append, length-map, List·getD-append}
+use lib.ListN.{length, getD, length-append, List·getD-append}
 use lib.Seq.{getD-append-add}
 use Rattle.branch.specs.Clauses.{flat, offset}
 
@@ -21,12 +21,6 @@ pub flat-map : (f : ℕ → ℕ) (cs : List (List ℕ)) → flat (map (map f) cs
 unfolding flat
 flat-map f [] = refl
 flat-map f (c ∷ cs) = ap (map f c ++_) (flat-map f cs) ∙ sym (map-append f c (flat cs))
-
-pub offset-map : (f : ℕ → ℕ) (cs : List (List ℕ)) (k : ℕ) → offset (map (map f) cs) k ≡ offset cs k
-unfolding offset
-offset-map f cs zero = refl
-offset-map f [] (suc k) = refl
-offset-map f (c ∷ cs) (suc k) = ap (_+ offset (map (map f) cs) k) (length-map c f) ∙ ap (length c +_) (offset-map f cs k)
 
 -- ---- clauses in front, and clauses behind
 

@@ -4,7 +4,7 @@ use mathlib.Core.List.{List, [], _++_}
 use mathlib.Core.Bool.{Bool, true, false, false≢true}
 use Prim.Native.Nat.{ℕ, _*_, _-_, _<_}
 use native.Mathlib.Omega.{arith}
-use lib.ListN.{length, take, replicate}
+use lib.ListN.{length, getD, take, replicate}
 use lib.Seq.{take-append-seam}
 use Rattle.scope.specs.declared.Node.{Node}
 use Rattle.scope.specs.declared.Refusal.{Refusal}
@@ -16,14 +16,15 @@ use Rattle.calculus.specs.Order.{Answer, answerOf}
 use Rattle.calculus.specs.Model.{Below, mostGoals}
 use Rattle.calculus.specs.Decide.{listRow, Admitted, asked, Satisfies, _⇔_}
 use Rattle.calculus.proofs.Asked.{list-met, asked-read}
+use Rattle.calculus.proofs.Lists.{all-getD, all-each, all-map}
 use Rattle.rules.specs.Derive.{isImpossible}
 use Rattle.index.specs.Index.{indexNode}
-use Rattle.asking.specs.Asks.{Prepared}
-use Rattle.asking.proofs.Nodes.{search-in, searches-in}
+use Rattle.asking.specs.Within.{Reached}
+use Rattle.asking.proofs.Nodes.{searches-within}
 use Rattle.meaning.proofs.Numbers.{Numbered, gives, rowed, then, asked-numbered}
 use Rattle.questions.specs.Indices.{picked, upTo}
 use Rattle.questions.specs.Asking.{asks, answered, Decides, Setting, says, FilledBy}
-use Rattle.questions.proofs.Answers.{picked-fit, is-possible, not-impossible}
+use Rattle.questions.proofs.Answers.{is-possible, not-impossible}
 use Rattle.questions.proofs.Settings.{made, making, some-node, decides}
 use Rattle.clashing.specs.Clash.{clashes, walk, argued, clash}
 use Rattle.clashing.specs.Clashes.{clashedOf, Clashing, Clashes}
@@ -81,8 +82,8 @@ clash-numbered t goals w =
     (λ rs. rowed (isImpossible (answered rs goals)) 63 0 _ (omega arith) (gives (walk (clashes (answered rs) goals) (length goals) [])))
 
 -- goals that were asked passed
-pub passed : {t goals : List ℕ} {needed lent area : ℕ} {x : List ℕ} {n : ℕ} → Prepared (listRow goals) t goals needed lent area x n → Passed n goals
-passed {goals = goals} p = record { most = list-met goals (p .admitted .list) .1; below = p .admitted .below }
+pub passed : {t goals : List ℕ} {needed lent area : ℕ} {x : List ℕ} {n : ℕ} → Reached (listRow goals) t goals needed lent area x n → Passed n goals
+passed {goals = goals} p = record { most = list-met goals (p .admitted .list) .1; below = p .below }
 
 module _ (t goals w : List ℕ) (all : Bytes t) where
   clash-asked : {rs : List Node} → asked t goals 0 0 (length w) ≡ answer rs → clash t goals w ≡ argued (answered rs) goals
@@ -134,19 +135,20 @@ module _ (t goals w : List ℕ) (all : Bytes t) where
   unfolding clash
   refuses r f e q = clashes-by r (e ∙ rw q) (λ number place z. refl)
 
-  module _ {x : List ℕ} {n : ℕ} (p : Prepared (listRow goals) t goals 0 0 (length w) x n) where
+  module _ {x : List ℕ} {n : ℕ} (p : Reached (listRow goals) t goals 0 0 (length w) x n) where
+    fits : (is : List ℕ) → Below n (picked goals is)
+    fits is =
+        let some = some-node n goals (p .below) (list-met goals (p .admitted .list) .0) in
+        all-map (λ l. l < 2 * n) (λ i. getD goals i 0) is
+        (all-each (λ i. getD goals i 0 < 2 * n) (λ i. all-getD (λ l. l < 2 * n) goals i 0 (omega (arith, some)) (p .below)) is)
+
     -- the questions over the index are those over the nodes
     same-answers : (is : List ℕ) → asks (indexNode x) n (picked goals is) ≡ answered (p .nodes) (picked goals is)
-    same-answers is =
-        let a = asked-read t goals 0 0 (length w) (p .answered) in
-        let d = D t (p .nodes) all (a .0) goals (a .1 .below) (list-met goals (a .1 .list) .0) in
-        let fits : Below (length (p .nodes)) (picked goals is) =
-        picked-fit Setting (says t) (FilledBy (p .nodes)) (λ l. l < 2 * length (p .nodes)) (answered (p .nodes)) d goals (a .1 .below) is in
-        ap answerOf (searches-in p (picked goals is) (rw (p .count) at fits))
+    same-answers is = ap answerOf (searches-within p (picked goals is) (fits is))
 
     same : argued (asks (indexNode x) n) goals ≡ argued (answered (p .nodes)) goals
     same =
-        ap₂ (λ (a : Answer) (is : List ℕ). require (isImpossible a) 63 0 >> answer is) (ap answerOf (search-in p))
+        ap₂ (λ (a : Answer) (is : List ℕ). require (isImpossible a) 63 0 >> answer is) (ap answerOf (searches-within p goals (p .below)))
         (walk-same (clashes (asks (indexNode x) n) goals) (clashes (answered (p .nodes)) goals)
         (clashes-same (asks (indexNode x) n) goals (answered (p .nodes)) same-answers) (length goals) [])
 

@@ -1,5 +1,5 @@
 // Clash: which of goals that are impossible together to argue about. From last to first, a goal is dropped if the others left are still
-// impossible together. The table is read and indexed once.
+// impossible together. The table is read once, and indexed up to the highest goal.
 use searching::Found;
 use table::Counted;
 ghost use mathlib.Core.Path.{_≡_};
@@ -9,7 +9,8 @@ ghost use lib.ListN.{length, take, drop};
 ghost use Rattle.scope.specs.Outcome.{answer, refused};
 ghost use Rattle.index.specs.Index.{indexNode};
 ghost use Rattle.index.specs.Indexed.{Indexed};
-ghost use Rattle.state.specs.Work.{area};
+ghost use Rattle.state.specs.Work.{area, Ready};
+ghost use Rattle.rests.specs.Words.{Sets};
 ghost use Rattle.questions.specs.Indices.{upTo};
 ghost use Rattle.questions.specs.Asking.{asks};
 ghost use Rattle.clashing.specs.Clash.{clashes, walk, argued};
@@ -85,6 +86,7 @@ fn remain(
     n: usize,
     goals: &[u16],
     work: &mut [u16],
+    rests: &mut [u64],
     kept: &[u8],
     first: usize,
     list: &mut [u16],
@@ -92,17 +94,18 @@ fn remain(
 ) -> bool
     requires { ⌜ Indexed (now x) n ⌝ }
     requires { ⌜ Passed n (now goals) ⌝ }
-    requires { ⌜ area ≤ length (now work) ⌝ }
+    requires { ⌜ Ready n (now work) × Sets (now rests) ⌝ }
     requires { ⌜ Walked (now goals) (now kept) first (now list) i ⌝ }
     ensures { λ r. ⌜ r ≡ clashes (asks (indexNode (now (x .entry))) n) (now (goals .entry)) (upTo i (drop first (now (kept .entry)))) ⌝ }
     ensures { λ _. ⌜ Walked (now (goals .entry)) (now (kept .entry)) first (now (list .exit)) i ⌝ }
+    ensures { λ _. ⌜ Ready n (now (work .exit)) × Sets (now (rests .exit)) ⌝ }
 {
     pick(goals, kept, first, list, i);
     let count = i + (64 - first);
     if count == 0 {
         return false;
     }
-    let found = searching::solve(x, n, &list[0..count], work);
+    let found = searching::solve(x, n, &list[0..count], work, rests);
     match found {
         Found::Closed => true,
         Found::Model => false,
@@ -110,10 +113,10 @@ fn remain(
 }
 
 // The walk from last to first, of goals that are impossible together.
-fn narrow(x: &[u16], n: usize, goals: &[u16], work: &mut [u16]) -> Clashed
+fn narrow(x: &[u16], n: usize, goals: &[u16], work: &mut [u16], rests: &mut [u64]) -> Clashed
     requires { ⌜ Indexed (now x) n ⌝ }
     requires { ⌜ Passed n (now goals) ⌝ }
-    requires { ⌜ area ≤ length (now work) ⌝ }
+    requires { ⌜ Ready n (now work) × Sets (now rests) ⌝ }
     ensures { λ r. ⌜ r ≡ clashedOf (answer (walk (clashes (asks (indexNode (now (x .entry))) n) (now (goals .entry))) (length (now (goals .entry))) [])) ⌝ }
 {
     let mut list = [0u16; 64];
@@ -123,7 +126,7 @@ fn narrow(x: &[u16], n: usize, goals: &[u16], work: &mut [u16]) -> Clashed
     let mut i = goals.len();
     while 0 < i {
         i -= 1;
-        let still = remain(x, n, goals, work, &kept, first, &mut list, i);
+        let still = remain(x, n, goals, work, rests, &kept, first, &mut list, i);
         if !still {
             first -= 1;
             kept[first] = i as u8;
@@ -139,10 +142,12 @@ fn argue(x: &[u16], n: usize, goals: &[u16], work: &mut [u16]) -> Clashed
     requires { ⌜ area ≤ length (now work) ⌝ }
     ensures { λ r. ⌜ r ≡ clashedOf (argued (asks (indexNode (now (x .entry))) n) (now (goals .entry))) ⌝ }
 {
-    let found = searching::solve(x, n, goals, work);
+    state::blank(n, work, 0);
+    let mut rests = [0u64; 4036];
+    let found = searching::solve(x, n, goals, work, &mut rests);
     match found {
         Found::Model => refuse(63, 0),
-        Found::Closed => narrow(x, n, goals, work),
+        Found::Closed => narrow(x, n, goals, work, &mut rests),
     }
 }
 
@@ -151,7 +156,7 @@ pub fn clash(t: &[u8], goals: &[u16], work: &mut [u16]) -> Clashed
     ensures { λ r. ⌜ Clashes (now (t .entry)) (now (goals .entry)) (now (work .entry)) (now (work .exit)) r ⌝ }
 {
     let mut x = [0u16; 18378];
-    let a = asking::ask(t, goals, 0, 0, work.len(), &mut x);
+    let a = asking::ask_within(t, goals, 0, 0, work.len(), &mut x);
     match a {
         Counted::Refused(f) => refuse(f.number, f.place),
         Counted::Nodes(n) => argue(&x, n, goals, work),

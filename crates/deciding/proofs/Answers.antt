@@ -1,26 +1,29 @@
 -- Where decide ends: at the first row's refusal, or with what the search came to. Assumes nothing.
-use mathlib.Core.Path.{_≡_, refl, sym, ap, ap₂, _∙_}
-use mathlib.Core.List.{List, []}
+use mathlib.Core.Path.{_≡_, refl, sym, ap, _∙_}
+use mathlib.Core.List.{List, [], _++_}
 use Prim.Native.Nat.{ℕ}
 use native.Mathlib.Omega.{arith}
-use lib.ListN.{length}
-use Rattle.scope.specs.declared.Node.{Node}
+use lib.ListN.{length, drop}
 use Rattle.scope.specs.declared.Refusal.{Refusal}
 use Rattle.scope.specs.declared.Truth.the-variants.{Yes}
 use Rattle.scope.specs.Outcome.{Outcome, answer, refused, _>>=_}
+use Rattle.scope.specs.Table.{listFrom}
 use Rattle.scope.specs.Calls.{evaluate}
 use Rattle.scope.proofs.Tests.{refused-no, bound}
 use Rattle.codec.specs.Valid.{Bytes}
 use Rattle.calculus.specs.Expansion.{expand}
-use Rattle.calculus.specs.Order.{Answer, possible, impossible, unfinished}
+use Rattle.calculus.specs.Order.{Answer, possible, impossible, unfinished, tree, answerOf}
 use Rattle.calculus.specs.Model.{All}
-use Rattle.calculus.specs.Jump.{Jumped, jump, endAnswer}
-use Rattle.calculus.specs.Decide.{nodesOf, jumpOf, Decided as Given, listRow, asked, decidedBy, decided, decide, settingsAfter, _⇔_}
+use Rattle.calculus.specs.Jump.{Jumped, jump, endAnswer, stopped}
+use Rattle.calculus.specs.Decide.{nodesOf, jumpOf, Decided as Given, listRow, asked, settingsOn, decidedBy, decided, decide, settingsAfter, _⇔_}
+use Rattle.calculus.proofs.Search.{grown-whole}
 use Rattle.jumping.proofs.Same.{jump-same}
+use Rattle.jumping.proofs.Answers.{same-answer}
 use Rattle.index.specs.Index.{indexNode}
-use Rattle.asking.specs.Asks.{Prepared}
+use Rattle.asking.specs.Within.{Reached}
 use Rattle.asking.proofs.Models.{all-filled}
-use Rattle.asking.proofs.Nodes.{listed}
+use Rattle.asking.proofs.Finals.{possible-good}
+use Rattle.asking.proofs.Nodes.{setting-within}
 use Rattle.meaning.proofs.Decisions.{decide-plain, decide-exact, decide-evaluates}
 use Rattle.deciding.specs.Decides.{can, cannot, wordOf, Said, saidOf, decidedOf, Room, givenBy, Solved, Decides}
 use Rattle.deciding.specs.declared.Decided.{Decided}
@@ -73,14 +76,22 @@ module _ (t goals s w : List ℕ) (all : Bytes t) (r : Decided) {s′ : List ℕ
 
 -- ---- where decide ends
 
--- the search over the index is that over the nodes
-given-in : {row : Outcome (Unit {0})} {t goals : List ℕ} {needed lent area : ℕ} {x : List ℕ} {n : ℕ} (p : Prepared row t goals needed lent area x n) (s : List ℕ)
-    → givenBy (indexNode x) n goals s ≡ decided (p .nodes) goals s
-given-in {goals = goals} {x = x} {n = n} p s =
-    let e : jump 128 (expand (indexNode x)) goals n 0 [] ≡ jumpOf (p .nodes) goals =
-    jump-same 128 n (indexNode x) (nodesOf (p .nodes)) (p .same) goals (p .indexed .table) (p .admitted .below) n 0 [] tt
-    ∙ ap (λ (k : ℕ). jump 128 (expand (nodesOf (p .nodes))) goals k 0 []) (sym (p .count)) in
-    ap₂ (λ (rs : List Node) (j : Jumped). decidedBy rs s (endAnswer (j .end)) (j .splits)) (listed p) e
+module _ {row : Outcome (Unit {0})} {t goals : List ℕ} {needed lent area : ℕ} {x : List ℕ} {n : ℕ} (p : Reached row t goals needed lent area x n) (s : List ℕ) where
+  -- the setting of what the search over the index ends on
+  set-in : (a : Answer) → a ≡ answerOf (tree (expand (indexNode x)) goals n []) → settingsOn (listFrom (indexNode x) 0 n) s a ≡ settingsOn (p .nodes) s a
+  set-in (possible G) e = ap (_++ drop 1024 s) (setting-within p G (possible-good (grown-whole n (indexNode x) goals (p .indexed .table) (p .below)) (sym e)))
+  set-in impossible e = refl
+  set-in unfinished e = refl
+
+  -- the search over the index is that over the nodes
+  given-in : givenBy (indexNode x) n goals s ≡ decided (p .nodes) goals s
+  given-in =
+      let j : Jumped = jump 128 (expand (indexNode x)) goals n 0 [] in
+      let e : j ≡ jumpOf (p .nodes) goals =
+      jump-same 128 n (indexNode x) (nodesOf (p .nodes)) (p .same) goals (p .indexed .table) (p .below) n (length (p .nodes)) 0 [] tt (omega arith) (p .some) in
+      let b = set-in (endAnswer (j .end)) (same-answer 128 n (indexNode x) goals (p .indexed .table) (p .below)) in
+      ap (λ (y : List ℕ). record { verdict = endAnswer (j .end); settings = y; splits = stopped (j .splits) }) b
+      ∙ ap (λ (k : Jumped). decidedBy (p .nodes) s (endAnswer (k .end)) (k .splits)) e
 
 module _ (t goals s w : List ℕ) (all : Bytes t) where
   refused-by : {number place : ℕ} → asked t goals 1024 (length s) (length w) ≡ refused number place → decide t goals s w ≡ refused number place
@@ -92,7 +103,7 @@ module _ (t goals s w : List ℕ) (all : Bytes t) where
       let d = refused-by q in
       decides t goals s w all (Refused f) (rw d) (rw d) (λ g z. refl)
 
-  module _ {x : List ℕ} {n : ℕ} (p : Prepared (listRow goals) t goals 1024 (length s) (length w) x n) where
+  module _ {x : List ℕ} {n : ℕ} (p : Reached (listRow goals) t goals 1024 (length s) (length w) x n) where
     pub roomy : Room x n s w
     roomy = record { points = p .points; settings = p .admitted .settings; work = p .admitted .work }
 

@@ -70,7 +70,9 @@ fn solve(x: &[u16], n: usize, goals: &[u16], settings: &mut [u8], work: &mut [u1
     requires { ⌜ Room (now x) n (now settings) (now work) ⌝ }
     ensures { λ r. ⌜ Solved (indexNode (now (x .entry))) n (now (goals .entry)) (now (settings .entry)) (now (settings .exit)) r ⌝ }
 {
-    let found = searching::solve_counted(x, n, goals, work);
+    state::blank(n, work, 0);
+    let mut rests = [0u64; 4036];
+    let found = searching::solve_counted(x, n, goals, work, &mut rests);
     match found {
         Ended::Closed(splits) => Decided::Impossible(splits),
         Ended::Model(splits) => {
@@ -85,7 +87,7 @@ pub fn decide(t: &[u8], goals: &[u16], settings: &mut [u8], work: &mut [u16]) ->
     ensures { λ r. ⌜ Decides (now (t .entry)) (now (goals .entry)) (now (settings .entry)) (now (work .entry)) (now (settings .exit)) (now (work .exit)) r ⌝ }
 {
     let mut x = [0u16; 18378];
-    let a = asking::ask(t, goals, 1024, settings.len(), work.len(), &mut x);
+    let a = asking::ask_within(t, goals, 1024, settings.len(), work.len(), &mut x);
     match a {
         Counted::Refused(r) => Decided::Refused(r),
         Counted::Nodes(n) => solve(&x, n, goals, settings, work),

@@ -8,6 +8,7 @@ ghost use lib.ListN.{length};
 ghost use Rattle.calculus.specs.Model.{Goals};
 ghost use Rattle.index.specs.Indexed.{Indexed};
 ghost use Rattle.state.specs.Work.{Ready};
+ghost use Rattle.rests.specs.Words.{Sets};
 ghost use Rattle.granting.specs.Visits.{Room, Listed, Gathered, Stepped, Visited, Ended, Grants};
 
 // On the way, with the questions put and the allowance left; or stopped, with the wishes met and the bound.
@@ -27,13 +28,23 @@ pub struct Grant {
 }
 
 // At a question: a list of g goals and the wishes chosen.
-fn step(x: &[u16], n: usize, g: usize, q: &[u16], work: &mut [u16], st: Stage) -> Stage
+fn step(
+    x: &[u16],
+    n: usize,
+    g: usize,
+    q: &[u16],
+    work: &mut [u16],
+    rests: &mut [u64],
+    st: Stage,
+) -> Stage
     requires { ⌜ Indexed (now x) n ⌝ }
     requires { ⌜ Goals n (now q) ⌝ }
     requires { ⌜ g < length (now q) ⌝ }
     requires { ⌜ Ready n (now work) ⌝ }
     requires { ⌜ (st .stopped ≡ false) × Room st ⌝ }
+    requires { ⌜ Sets (now rests) ⌝ }
     ensures { λ r. ⌜ Stepped (now (x .entry)) n g (now (q .entry)) (now (work .entry)) (now (work .exit)) st r ⌝ }
+    ensures { λ _. ⌜ Sets (now (rests .exit)) ⌝ }
 {
     let size = q.len() - g;
     let put = st.put;
@@ -47,21 +58,23 @@ fn step(x: &[u16], n: usize, g: usize, q: &[u16], work: &mut [u16], st: Stage) -
             left: 0,
         };
     }
-    let found = searching::solve(x, n, q, work);
+    let asked = put + 1;
+    let rest = left - 1;
+    let found = searching::solve(x, n, q, work, rests);
     match found {
         Found::Model => Stage {
             stopped: true,
             met: size,
             bound: size,
-            put: put + 1,
-            left: left - 1,
+            put: asked,
+            left: rest,
         },
         Found::Closed => Stage {
             stopped: false,
             met: 0,
             bound: 0,
-            put: put + 1,
-            left: left - 1,
+            put: asked,
+            left: rest,
         },
     }
 }
@@ -74,6 +87,7 @@ fn visit(
     wishes: &[u16],
     list: &mut [u16],
     work: &mut [u16],
+    rests: &mut [u64],
     lo: usize,
     s: usize,
     at: usize,
@@ -81,8 +95,9 @@ fn visit(
 ) -> Stage
     requires { ⌜ Indexed (now x) n ⌝ }
     requires { ⌜ Listed n g (now wishes) (now list) (now work) lo s at ⌝ }
-    requires { ⌜ Room st ⌝ }
+    requires { ⌜ Room st × Sets (now rests) ⌝ }
     ensures { λ r. ⌜ Visited (now (x .entry)) n g (now (wishes .entry)) (now (list .entry)) (now (list .exit)) (now (work .entry)) (now (work .exit)) lo s at st r ⌝ }
+    ensures { λ _. ⌜ Sets (now (rests .exit)) ⌝ }
 {
     if st.stopped {
         return st;
@@ -91,11 +106,12 @@ fn visit(
         return st;
     }
     if s == 0 {
-        return step(x, n, g, &list[0..at], work, st);
+        return step(x, n, g, &list[0..at], work, rests, st);
     }
     list[at] = wishes[lo];
-    let mid = visit(x, n, g, wishes, list, work, lo + 1, s - 1, at + 1, st);
-    visit(x, n, g, wishes, list, work, lo + 1, s, at, mid)
+    let next = lo + 1;
+    let mid = visit(x, n, g, wishes, list, work, rests, next, s - 1, at + 1, st);
+    visit(x, n, g, wishes, list, work, rests, next, s, at, mid)
 }
 
 // What a walk has come to; where all questions were refused, no wish is met.
@@ -125,10 +141,11 @@ pub fn spend(
     wishes: &[u16],
     list: &mut [u16],
     work: &mut [u16],
+    rests: &mut [u64],
     allowance: usize,
 ) -> Grant
     requires { ⌜ Indexed (now x) n ⌝ }
-    requires { ⌜ Gathered n g (now wishes) (now list) (now work) ⌝ }
+    requires { ⌜ Gathered n g (now wishes) (now list) (now work) × Sets (now rests) ⌝ }
     ensures { λ r. ⌜ Grants (now (x .entry)) n g (now (wishes .entry)) (now (list .entry)) allowance (now (work .exit)) r ⌝ }
 {
     let mut st = Stage {
@@ -140,7 +157,7 @@ pub fn spend(
     };
     let mut s = wishes.len();
     while 0 < s {
-        st = visit(x, n, g, wishes, list, work, 0, s, g, st);
+        st = visit(x, n, g, wishes, list, work, rests, 0, s, g, st);
         s -= 1;
     }
     finish(st)

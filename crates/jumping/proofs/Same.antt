@@ -1,8 +1,9 @@
 -- Nodes that agree below n give one jumping search. Assumes nothing.
 use mathlib.Core.Path.{_≡_, refl, ap, ap₂, _∙_, fun-ext}
 use mathlib.Core.List.{List, [], _∷_}
-use Prim.Native.Nat.{ℕ, zero, suc, _<_}
-use lib.ListN.{getD}
+use Prim.Native.Nat.{ℕ, zero, suc, _+_, _<_, _≤_}
+use native.Mathlib.Omega.{arith}
+use lib.ListN.{length, getD}
 use Rattle.scope.specs.declared.Node.{Node}
 use Rattle.calculus.specs.Expansion.{neg, expand}
 use Rattle.calculus.specs.Order.{move}
@@ -11,6 +12,7 @@ use Rattle.calculus.specs.Jump.{Rests, both, only, less, Held, hold, literals, 
 use Rattle.calculus.specs.declared.Move.{Move}
 use Rattle.calculus.specs.declared.Move.the-variants.{Conflict, Unit as Single, Done, Split}
 use Rattle.calculus.proofs.Literals.{neg-fresh}
+use Rattle.calculus.proofs.Count.{room}
 use Rattle.calculus.proofs.Fresh.{unit-fresh, split-fresh}
 use Rattle.calculus.proofs.Same.{clauses-same, move-same}
 
@@ -37,9 +39,16 @@ module _ (cap n : ℕ) (t u : ℕ → Node) (same : (i : ℕ) → i < n → t i 
         let f : Fresh n (literals H) l = split-fresh n t goals T B (literals H) g l e in
         ap₂ (sides cap d) (r (suc d) (hold l (only cap d)) f) (fun-ext (λ s. r (suc d) (hold (neg l) (less d s)) (neg-fresh n (literals H) l f)))
 
-    pub jump-same : (fuel d : ℕ) (H : List Held) → Good n (literals H) → jump cap (expand t) goals fuel d H ≡ jump cap (expand u) goals fuel d H
+    -- where there is fuel for the nodes that are left, more changes nothing
+    pub jump-same : (fuel more d : ℕ) (H : List Held) → Good n (literals H) → n ≤ fuel + length (literals H) → fuel ≤ more
+        → jump cap (expand t) goals fuel d H ≡ jump cap (expand u) goals more d H
     unfolding jump
-    jump-same zero d H g = rw (← move-same n t u same goals (literals H) g)
+    jump-same zero zero d H g h l = rw (← move-same n t u same goals (literals H) g)
         (step-same d H (move (expand t) goals (literals H)) (λ e F. stop short) (λ e F. stop short) g refl (λ e h f. refl))
-    jump-same (suc fuel) d H g = rw (← move-same n t u same goals (literals H) g)
-        (step-same d H (move (expand t) goals (literals H)) (jump cap (expand t) goals fuel) (jump cap (expand u) goals fuel) g refl (λ e h f. jump-same fuel e (h ∷ H) (f, g)))
+    jump-same zero (suc more) d H g h l = rw (← move-same n t u same goals (literals H) g)
+        (step-same d H (move (expand t) goals (literals H)) (λ e F. stop short) (jump cap (expand u) goals more) g refl
+        (λ e k f. absurd (omega (arith, room n (literals H) (k .literal) g f))))
+    jump-same (suc fuel) zero d H g h l = absurd (omega arith)
+    jump-same (suc fuel) (suc more) d H g h l = rw (← move-same n t u same goals (literals H) g)
+        (step-same d H (move (expand t) goals (literals H)) (jump cap (expand t) goals fuel) (jump cap (expand u) goals more) g refl
+        (λ e k f. jump-same fuel more e (k ∷ H) (f, g) (omega arith) (omega arith)))

@@ -40,7 +40,9 @@ fn verdict(x: &[u16], n: usize, goal: usize, work: &mut [u16]) -> Found
 {
     let l = literal(goal);
     let goals = [l; 1];
-    searching::solve(x, n, &goals, work)
+    state::blank(n, work, 0);
+    let mut rests = [0u64; 4036];
+    searching::solve(x, n, &goals, work, &mut rests)
 }
 
 // Its word.

@@ -135,7 +135,7 @@ fn same(x: Node, y: Node) -> bool
     x.c == y.c
 }
 
-// The first of the first records of block j, so many, that is x, or how many there are where none is.
+// Which of the first `count` records of block j is the first that is x, or `count` where none is.
 fn find_in(t: &[u8], j: usize, count: usize, x: Node) -> usize
     requires { ⌜ (63 * j + count ≤ 2016) × (count ≤ 63) × ((n : ℕ) → n < 63 * j + count → placeOf n + 8 ≤ length (now t)) ⌝ }
     ensures { λ r. ⌜ r ≡ indexOf x (listFrom (nodeAt (now (t .entry))) (63 * j) count) ⌝ }

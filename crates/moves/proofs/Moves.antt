@@ -10,7 +10,7 @@ use lib.Seq.{getD-set-same, getD-set-other}
 use borrow.Author.Tests.{lt-ltb, le-ltb}
 use Rattle.scope.specs.declared.Node.{Node}
 use Rattle.calculus.specs.Expansion.{chosen, expand}
-use Rattle.calculus.specs.Order.{State, met, empty, joined, valueOf, stateOf, literalOf, literalAt, isEmpty, isOne, some, firstOf, bit, moveOf, move}
+use Rattle.calculus.specs.Order.{Value, holds, fails, undecided, State, met, empty, joined, valueOf, stateOf, literalOf, literalAt, isEmpty, isOne, some, firstOf, bit, moveOf, move}
 use Rattle.calculus.specs.Model.{Goals}
 use Rattle.calculus.specs.declared.Move.the-variants.{Conflict, Unit as Single, Done, Split}
 use Rattle.calculus.proofs.Literals.{is-false}
@@ -19,8 +19,8 @@ use Rattle.scope.specs.Table.{operands}
 use Rattle.index.specs.Index.{mostNodes}
 use Rattle.units.specs.Units.{member, Empty, First, positions}
 use Rattle.clause.specs.Coded.{isOpen, Choice, Coded}
-use Rattle.state.specs.Work.{tail, litAt, baseOf, gOf, held, trail, valueCode, cursorAt, cursorOf, conflictOf, waitingOf, placeOf, Numbered, trailAt, literalsAt, basesAt, valuesAt}
-use Rattle.state.specs.Holds.{statesAt, Entered, Closed, AllMet, Waiting, Holds}
+use Rattle.state.specs.Work.{tail, litAt, baseOf, gOf, held, trail, valueCode, cursorAt, codeAt, cursorOf, conflictOf, waitingOf, placeOf, Numbered, trailAt, literalsAt, basesAt, valuesAt}
+use Rattle.state.specs.Holds.{statesAt, Entered, Closed, AllMet, Waiting, Holds, deniedAt, NoneDenied}
 use Rattle.state.proofs.Areas.{count-most, base-most, ready-same}
 use Rattle.state.proofs.Clauses.{sofar, sofar-length, none-by, first-at, none-sofar, found-goal, found-position, goal-state, goals-length}
 use Rattle.moves.specs.Place.{placeNumber, Placed, Without, FirstGoal, CellSet, FirstOpen, Moved, goalsAt}
@@ -44,6 +44,19 @@ step i b (no e) h f = f i (omega (arith, b, e))
 
 pub without-by : {goals G : List ℕ} {v k : ℕ} → FirstGoal goals G v k → length goals ≤ k → Without v goals G
 without-by f h j i = f .before j (omega (arith, i, h))
+
+-- no goal is false
+pub undenied : {goals G : List ℕ} → NoneDenied goals G → FirstGoal goals G 2 (length goals)
+undenied {goals} {G} f = record {
+  low = omega arith;
+  before = λ k i e. f k i (code-fails (valueOf G (getD goals k 0)) e);
+  here = λ i. absurd (omega arith);
+}
+  where
+    code-fails : (v : Value) → valueCode v ≡ 2 → v ≡ fails
+    code-fails holds e = absurd (omega arith)
+    code-fails fails e = refl
+    code-fails undecided e = absurd (omega arith)
 
 -- ---- a cell is set
 
@@ -72,6 +85,7 @@ module _ {t : ℕ → Node} {n : ℕ} {goals w m : List ℕ} (w′ : List ℕ) (
     met-before = subst (λ (r : ℕ → ℕ). AllMet t (held r) r (cursorOf w′)) (sym same) before;
     cursors = subst (λ (r : ℕ → ℕ). (h : ℕ) → h < r 0 → (cursorAt r h ≤ h) × AllMet t (trail h r) r (cursorAt r h)) (sym same) (H .cursors);
     waiting = subst (λ (r : ℕ → ℕ). Waiting goals (held r) (waitingOf w′)) (sym same) (subst (Waiting goals (gOf w)) (sym waits) (H .waiting));
+    denied = λ e. subst (NoneDenied goals) (sym cell-list) (H .denied (sym (rest deniedAt (omega arith)) ∙ e));
   }
 
 -- the place of the move's clause
@@ -255,6 +269,10 @@ module _ {t : ℕ → Node} {n : ℕ} {goals w m : List ℕ} (few : n ≤ mostNo
 
         unit-there : some isOne (S q) ≡ true
         unit-there = bit-true (some isOne (S q)) (sym (H .entered q unit-low .unit) ∙ f .here)
+
+        -- the code that was kept is its
+        pub unit-code : {code : ℕ} → code ≡ codeAt r q → Coded (t (litAt r q / 2)) (S q) code
+        unit-code e = subst (Coded (t (litAt r q / 2)) (S q)) (sym e) (H .entered q unit-low .code (f .here))
 
         pub unit-choice : {code : ℕ} → Coded (t (litAt r q / 2)) (S q) code → Choice (t (litAt r q / 2)) (code / 32 % 8) (literalAt (S q) (firstOf isOne (S q)))
         unit-choice c = c .unit-literal unit-there

@@ -12,6 +12,7 @@ use Rattle.calculus.specs.Model.{Below}
 use Rattle.calculus.specs.declared.Move.{Move}
 use Rattle.calculus.specs.declared.Move.the-variants.{Conflict, Unit as Single, Done, Split}
 use Rattle.clause.specs.declared.Clause.{Clause}
+use Rattle.moves.specs.declared.Forced.{Forced}
 use Rattle.clause.specs.Literals.{literals}
 use Rattle.clause.specs.Coded.{isOpen}
 use Rattle.state.specs.Work.{tail, litAt, baseOf, gOf, valueCode, cursorOf, placeOf}
@@ -71,6 +72,10 @@ pub record FirstOpen (t : ℕ → Node) (w : List ℕ) (q : ℕ) : Type 0 where
   pub low : q ≤ tail w 0
   pub before : (p : ℕ) → cursorOf w ≤ p → p < q → some isOpen (statesAt t (gOf w) (tail w) p) ≡ true → ⊥
   pub here : q < tail w 0 → some isOpen (statesAt t (gOf w) (tail w) q) ≡ true
+
+-- the move of a unit
+abbrev pub forcedMove : Forced → Move
+forcedMove f = Single (f .number) (f .literal)
 
 -- r is the next move, and what holds after it was found
 pub record Moved (t : ℕ → Node) (n : ℕ) (goals w w′ m : List ℕ) (r : Move) : Type 0 where

@@ -2,19 +2,26 @@
 use calculus::Move;
 use clause::Clause;
 ghost use mathlib.Core.Path.{_≡_};
+ghost use mathlib.Core.Bool.{true};
 ghost use Prim.Native.Nat.{_/_, _≤_, _<_};
 ghost use lib.ListN.{length};
 ghost use Rattle.calculus.specs.Expansion.{expand};
 ghost use Rattle.calculus.specs.Order.{move};
-ghost use Rattle.units.specs.Units.{Some, Empty};
+ghost use Rattle.units.specs.Units.{Units, Some, Empty};
 ghost use Rattle.calculus.specs.Model.{Goals};
 ghost use Rattle.index.specs.Index.{mostNodes, indexNode};
 ghost use Rattle.index.specs.Indexed.{Indexed};
 ghost use Rattle.clause.specs.Coded.{Coded};
 ghost use Rattle.clause.specs.Templates.{rows};
 ghost use Rattle.state.specs.Work.{area, tail, litAt, gOf, Ready, Numbered, cursorOf, conflictOf, waitingOf};
-ghost use Rattle.state.specs.Holds.{Holds, Waiting, statesAt};
-ghost use Rattle.moves.specs.Place.{placeNumber, Placed, Kept, Reasoned, Without, FirstGoal, CellSet, FirstOpen, Moved};
+ghost use Rattle.state.specs.Holds.{Holds, Waiting, statesAt, deniedOf, NoneDenied};
+ghost use Rattle.moves.specs.Place.{forcedMove, placeNumber, Placed, Kept, Reasoned, Without, FirstGoal, CellSet, FirstOpen, Moved};
+
+// A unit: the number of its clause, and its literal.
+pub struct Forced {
+    pub number: u16,
+    pub literal: u16,
+}
 
 // The cells of the work area.
 const CURSOR: usize = 0;
@@ -24,6 +31,9 @@ const CONFLICT: usize = 1;
 const WAITING: usize = 2;
 
 const PLACE: usize = 3;
+
+// 0 only where no goal is false: a cell between the cursors and the codes.
+const DENIED: usize = 12103;
 
 // No position.
 const NONE: usize = 2016;
@@ -46,6 +56,20 @@ fn goal_of(n: usize, goals: &[u16], work: &[u16], v: u16) -> usize
         k += 1;
     }
     k
+}
+
+// The first goal that is false, or how many there are.
+fn denied_goal(n: usize, goals: &[u16], work: &[u16]) -> usize
+    requires { ⌜ Ready n (now work) ⌝ }
+    requires { ⌜ (n ≤ mostNodes) × Goals n (now goals) ⌝ }
+    requires { ⌜ Waiting (now goals) (gOf (now work)) (waitingOf (now work)) ⌝ }
+    requires { ⌜ (deniedOf (now work) ≡ 0 → NoneDenied (now goals) (gOf (now work))) ⌝ }
+    ensures { λ r. ⌜ FirstGoal (now (goals .entry)) (gOf (now (work .entry))) 2 r ⌝ }
+{
+    if work[DENIED] == 0 {
+        return goals.len();
+    }
+    goal_of(n, goals, work, 2)
 }
 
 // What the clauses of position q come to.
@@ -123,7 +147,7 @@ fn goal_move(x: &[u16], n: usize, goals: &[u16], work: &mut [u16], masks: &[u64]
     requires { ⌜ (waitingOf (now work) ≡ 0 → ⊥) ⌝ }
     ensures { λ r. ⌜ Moved (indexNode (now (x .entry))) n (now (goals .entry)) (now (work .entry)) (now (work .exit)) (now (masks .entry)) r ⌝ }
 {
-    let k = goal_of(n, goals, work, 2);
+    let k = denied_goal(n, goals, work);
     if k < goals.len() {
         keep(work, GOALS + k);
         return Move::Conflict(k as u16);
@@ -137,22 +161,39 @@ fn goal_move(x: &[u16], n: usize, goals: &[u16], work: &mut [u16], masks: &[u64]
     Move::Unit(u as u16, goals[u])
 }
 
+// Whether the next move is the unit of a position: every goal is true, there is no conflict, and some position has a unit.
+pub fn has_unit(work: &[u16], masks: &[u64]) -> bool
+    requires { ⌜ (area ≤ length (now work)) × Units (now masks) ⌝ }
+    ensures { λ r. ⌜ (r ≡ true → (waitingOf (now (work .entry)) ≡ 0) × (mostNodes ≤ conflictOf (now (work .entry))) × Some (now (masks .entry))) ⌝ }
+{
+    if work[WAITING] != 0 {
+        return false;
+    }
+    if (work[CONFLICT] as usize) < NONE {
+        return false;
+    }
+    units::some(masks)
+}
+
 // The unit at the first position that has one, where every goal is true and there is no conflict.
-fn unit_move(x: &[u16], n: usize, goals: &[u16], work: &mut [u16], masks: &[u64]) -> Move
+pub fn first_unit(x: &[u16], n: usize, goals: &[u16], work: &mut [u16], masks: &[u64]) -> Forced
     requires { ⌜ Indexed (now x) n ⌝ }
     requires { ⌜ Goals n (now goals) ⌝ }
     requires { ⌜ Holds (indexNode (now x)) n (now goals) (now work) (now masks) ⌝ }
     requires { ⌜ (waitingOf (now work) ≡ 0) × (mostNodes ≤ conflictOf (now work)) × Some (now masks) ⌝ }
-    ensures { λ r. ⌜ Moved (indexNode (now (x .entry))) n (now (goals .entry)) (now (work .entry)) (now (work .exit)) (now (masks .entry)) r ⌝ }
+    ensures { λ r. ⌜ Moved (indexNode (now (x .entry))) n (now (goals .entry)) (now (work .entry)) (now (work .exit)) (now (masks .entry)) (forcedMove r) ⌝ }
 {
     let q = units::first(masks);
-    let code = code_at(x, n, work, q);
+    let code = state::code(work, q);
     let l = state::literal(work, q);
     let chosen = clause::choose(x, n, (l / 2) as usize, ((code / 32) % 8) as usize);
     let j = (code / 8) % 4;
     let base = state::base(work, q);
     keep(work, 4 * q + j as usize);
-    Move::Unit(base + j, chosen)
+    Forced {
+        number: base + j,
+        literal: chosen,
+    }
 }
 
 // A split, or none: every goal is true, there is no conflict and no unit. The cursor moves on.
@@ -191,7 +232,8 @@ pub fn next_move(x: &[u16], n: usize, goals: &[u16], work: &mut [u16], masks: &[
         return conflict_at(x, n, goals, work, masks, c);
     }
     if units::some(masks) {
-        return unit_move(x, n, goals, work, masks);
+        let u = first_unit(x, n, goals, work, masks);
+        return Move::Unit(u.number, u.literal);
     }
     split_move(x, n, goals, work, masks)
 }

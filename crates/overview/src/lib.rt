@@ -13,7 +13,8 @@ ghost use Rattle.scope.specs.Outcome.{verdictOf};
 ghost use Rattle.calculus.specs.Model.{Below};
 ghost use Rattle.index.specs.Index.{indexNode};
 ghost use Rattle.index.specs.Indexed.{Indexed};
-ghost use Rattle.state.specs.Work.{area};
+ghost use Rattle.state.specs.Work.{area, Ready};
+ghost use Rattle.rests.specs.Words.{Sets};
 ghost use Rattle.questions.specs.Asking.{asks};
 ghost use Rattle.overview.specs.Overview.{mostAsked, overviewRow, byteOf, bytesOf};
 ghost use Rattle.overview.specs.Overviews.{Overviews};
@@ -45,17 +46,40 @@ fn list_row(goals: &[u16], lent: usize) -> Verdict
 }
 
 // The byte of a goal by itself: 1 possible, 0 impossible.
-fn byte(x: &[u16], n: usize, goal: u16, work: &mut [u16]) -> u8
+fn byte(x: &[u16], n: usize, goal: u16, work: &mut [u16], rests: &mut [u64]) -> u8
     requires { ⌜ Indexed (now x) n ⌝ }
     requires { ⌜ goal < 2 * n ⌝ }
-    requires { ⌜ area ≤ length (now work) ⌝ }
+    requires { ⌜ Ready n (now work) × Sets (now rests) ⌝ }
     ensures { λ r. ⌜ r ≡ byteOf (asks (indexNode (now (x .entry))) n (goal ∷ [])) ⌝ }
+    ensures { λ _. ⌜ Ready n (now (work .exit)) × Sets (now (rests .exit)) ⌝ }
 {
     let goals = [goal];
-    let found = searching::solve(x, n, &goals, work);
+    let found = searching::solve(x, n, &goals, work, rests);
     match found {
         Found::Model => 1,
         Found::Closed => 0,
+    }
+}
+
+// A byte for each goal, over the sets that are lent.
+fn put_each(
+    x: &[u16],
+    n: usize,
+    goals: &[u16],
+    answers: &mut [u8],
+    work: &mut [u16],
+    rests: &mut [u64],
+)
+    requires { ⌜ Indexed (now x) n ⌝ }
+    requires { ⌜ Below n (now goals) ⌝ }
+    requires { ⌜ Ready n (now work) × Sets (now rests) ⌝ }
+    requires { ⌜ length (now goals) ≤ length (now answers) ⌝ }
+    ensures { λ _. ⌜ now (answers .exit) ≡ bytesOf (asks (indexNode (now (x .entry))) n) (now (goals .entry)) ++ drop (length (now (goals .entry))) (now (answers .entry)) ⌝ }
+{
+    let mut i = 0;
+    while i < goals.len() {
+        answers[i] = byte(x, n, goals[i], work, rests);
+        i += 1;
     }
 }
 
@@ -67,11 +91,9 @@ fn put(x: &[u16], n: usize, goals: &[u16], answers: &mut [u8], work: &mut [u16])
     requires { ⌜ length (now goals) ≤ length (now answers) ⌝ }
     ensures { λ _. ⌜ now (answers .exit) ≡ bytesOf (asks (indexNode (now (x .entry))) n) (now (goals .entry)) ++ drop (length (now (goals .entry))) (now (answers .entry)) ⌝ }
 {
-    let mut i = 0;
-    while i < goals.len() {
-        answers[i] = byte(x, n, goals[i], work);
-        i += 1;
-    }
+    state::blank(n, work, 0);
+    let mut rests = [0u64; 4036];
+    put_each(x, n, goals, answers, work, &mut rests);
 }
 
 // Whether each goal by itself is possible.

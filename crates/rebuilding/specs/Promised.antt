@@ -1,4 +1,5 @@
--- What is promised of a rebuild, and of the records before the one that ends it, over any logic whose joins do not see the order of truths. Assumes nothing.
+-- What is promised of a rebuild, and of the records before the one that ends it, over any logic whose joins do not see the order of truths.
+-- Assumes nothing.
 use mathlib.Core.Path.{_≡_}
 use mathlib.Core.Bool.{false}
 use mathlib.Core.List.{List, []}

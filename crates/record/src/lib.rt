@@ -1,9 +1,9 @@
 // Records: where they stand in a table, and reading one; and a quick test of one that is read as two numbers of 32 bits.
 ghost use mathlib.Core.Path.{_≡_};
-ghost use Prim.Native.Nat.{_+_, _%_, _<_, _≤_};
+ghost use Prim.Native.Nat.{_%_, _<_};
 ghost use lib.ListN.{length};
 ghost use Rattle.scope.specs.Outcome.{verdictOf};
-ghost use Rattle.scope.specs.Table.{nodeOf, nodeAt, formOk, rangeOk, orderOk, readRecord};
+ghost use Rattle.scope.specs.Table.{nodeOf, formOk, rangeOk, orderOk, readRecord};
 ghost use mathlib.Core.Bool.{true};
 ghost use Rattle.record.specs.Place.{placeOf};
 ghost use Rattle.record.specs.Halves.{Passes};
@@ -180,16 +180,6 @@ pub fn fields(r: &[u8]) -> Node
         b,
         c,
     }
-}
-
-// Node n of a table: the fields of its record.
-pub fn node_at(t: &[u8], n: usize) -> Node
-    requires { ⌜ (n < 65536) × (placeOf n + 8 ≤ length (now t)) ⌝ }
-    ensures { λ x. ⌜ x ≡ nodeAt (now (t .entry)) n ⌝ }
-{
-    let at = place(n);
-    let end = at + 8;
-    fields(&t[at..end])
 }
 
 // The record of node n: its node or its refusal.

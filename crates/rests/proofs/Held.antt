@@ -1,17 +1,17 @@
 -- The literals held with what they rest on, as words have it. Assumes nothing.
-use mathlib.Core.Path.{_≡_, refl, ap, ap₂, _∙_, fun-ext}
+use mathlib.Core.Path.{_≡_, refl, sym, ap, ap₂, _∙_, fun-ext}
 use mathlib.Core.Bool.{false, _&&_}
 use mathlib.Core.List.{List, [], _∷_}
-use Prim.Native.Nat.{ℕ, suc, _+_, _*_, _/_, _%_, _<_}
+use Prim.Native.Nat.{ℕ, suc, _+_, _*_, _/_, _%_, _<_, _≤_}
 use native.Mathlib.Omega.{arith}
 use native.Mathlib.Decide.{decLt}
 use lib.Dec.{eqb, ltb}
 use lib.ListN.{length, getD, replicate, length-replicate, getD-replicate}
 use borrow.Author.Tests.{lt-ltb, le-ltb}
-use Rattle.calculus.specs.Jump.{Rests, both, Held, hold, literals}
+use Rattle.calculus.specs.Jump.{Rests, nothing, both, Held, hold, literals}
 use Rattle.units.specs.Units.{bit}
 use Rattle.units.proofs.Bits.{bit-none}
-use Rattle.rests.specs.Words.{restAt, Put, Sets, setsSize, SameTo, heldOf}
+use Rattle.rests.specs.Words.{restAt, Put, Cleared, Sets, setsSize, conflictSlot, SameTo, heldOf}
 
 pub held-literals : (m G : List ℕ) → literals (heldOf m G) ≡ G
 unfolding heldOf
@@ -50,14 +50,28 @@ unfolding heldOf
 held-joined {m} {m′} G l u =
     ap₂ (λ (s : Rests) (H : List Held). hold l s ∷ H) (u .here) (held-same m m′ G (put-same u (length G) (omega arith)))
 
--- no set has anything yet
-pub sets-blank : Sets (replicate setsSize 0)
+-- a slot whose words are 0 has the empty set
+pub rests-zero : (m : List ℕ) (q : ℕ) → ((j : ℕ) → j < 2 → getD m (2 * q + j) 0 ≡ 0) → restAt m q ≡ nothing
 unfolding restAt
-sets-blank = record { size = length-replicate {A = ℕ} setsSize 0; none = fun-ext none }
+rests-zero m q z = fun-ext none
   where
-    none : (i : ℕ) → (ltb i 128 && eqb (bit (getD (replicate setsSize 0) (2 * 0 + i / 64) 0) (i % 64)) 1) ≡ false
+    none : (i : ℕ) → (ltb i 128 && eqb (bit (getD m (2 * q + i / 64) 0) (i % 64)) 1) ≡ false
     none i = go (decLt i 128)
       where
-        go : Dec (i < 128) → (ltb i 128 && eqb (bit (getD (replicate setsSize 0) (2 * 0 + i / 64) 0) (i % 64)) 1) ≡ false
-        go (yes h) = rw (lt-ltb i 128 h, getD-replicate {A = ℕ} setsSize (2 * 0 + i / 64) 0 0 (omega arith), bit-none (i % 64))
+        go : Dec (i < 128) → (ltb i 128 && eqb (bit (getD m (2 * q + i / 64) 0) (i % 64)) 1) ≡ false
+        go (yes h) = rw (lt-ltb i 128 h, z (i / 64) (omega (arith, h)), bit-none (i % 64))
         go (no h) = rw (le-ltb i 128 (omega (arith, h)))
+
+-- no set has anything yet
+pub rests-blank : (q : ℕ) → q ≤ conflictSlot → restAt (replicate setsSize 0) q ≡ nothing
+rests-blank q b = rests-zero (replicate setsSize 0) q (λ j h. getD-replicate {A = ℕ} setsSize (2 * q + j) 0 0 (omega (arith, b, h)))
+
+pub sets-blank : Sets (replicate setsSize 0)
+sets-blank = record { size = length-replicate {A = ℕ} setsSize 0; none = rests-blank 0 (omega arith) }
+
+-- where the sets of the slots up to k are cleared, they are as if no set had anything yet
+pub cleared-same : {m m′ : List ℕ} (k : ℕ) → k ≤ conflictSlot → Cleared m k m′ → SameTo k (replicate setsSize 0) m′
+cleared-same k h c q b = c .none q b ∙ sym (rests-blank q (omega (arith, h, b)))
+
+pub cleared-sets : {m m′ : List ℕ} (k : ℕ) → Sets m → Cleared m k m′ → Sets m′
+cleared-sets k s c = record { size = c .size ∙ s .size; none = c .none 0 (omega arith) }

@@ -22,6 +22,11 @@ pub record Put (m : List ℕ) (q : ℕ) (s : Rests) (m′ : List ℕ) : Type 0 w
   pub here : restAt m′ q ≡ s
   pub other : (p : ℕ) → (p ≡ q → ⊥) → restAt m′ p ≡ restAt m p
 
+-- the sets of the slots up to k are empty
+pub record Cleared (m : List ℕ) (k : ℕ) (m′ : List ℕ) : Type 0 where
+  pub size : length m′ ≡ length m
+  pub none : (q : ℕ) → q ≤ k → restAt m′ q ≡ nothing
+
 -- the slots: 0 the empty set, 1 + q that of the literal at position q, and one for the last conflict's
 abbrev pub conflictSlot : ℕ
 conflictSlot = 2017

@@ -4,13 +4,26 @@ ghost use mathlib.Core.Bool.{true, not, _&&_};
 ghost use Prim.Native.Nat.{_<_};
 ghost use lib.Dec.{ltb};
 ghost use Rattle.calculus.specs.Jump.{both, only, less};
-ghost use Rattle.rests.specs.Words.{restAt, There, Put, wordOf};
+ghost use Rattle.rests.specs.Words.{restAt, There, Put, Cleared, wordOf};
 
 // Word k, 0 or 1, of the set that has split d alone.
 fn word_of(k: usize, d: usize) -> u64
     ensures { λ r. ⌜ r ≡ wordOf k d ⌝ }
 {
     if d / 64 == k { 1 << (d % 64) } else { 0 }
+}
+
+// The sets of the slots up to k become empty.
+pub fn clear(m: &mut [u64], k: usize)
+    requires { ⌜ There (now m) k ⌝ }
+    ensures { λ _. ⌜ Cleared (now (m .entry)) k (now (m .exit)) ⌝ }
+{
+    let end = 2 * k + 2;
+    let mut i = 0;
+    while i < end {
+        m[i] = 0;
+        i += 1;
+    }
 }
 
 // A left literal rests on its split, if that counts.

@@ -1,17 +1,17 @@
 -- What the contracts of the search that jumps come to at each return, over the literals held with their sets. Assumes nothing.
 use mathlib.Core.Path.{_≡_, refl, sym, ap, ap₂, _∙_}
 use mathlib.Core.List.{List, [], _∷_}
-use mathlib.Core.Bool.{Bool, true, false, not, _&&_}
+use mathlib.Core.Bool.{Bool, true, false, cond, not, _&&_}
 use Prim.Native.Nat.{ℕ, suc, _+_, _-_, _<_, _≤_}
 use native.Mathlib.Omega.{arith}
-use lib.Dec.{ltb}
+use lib.Dec.{eqb, ltb}
 use lib.ListN.{length, getD}
 use borrow.Author.Tests.{lt-ltb}
 use Rattle.scope.specs.declared.Node.{Node}
 use Rattle.calculus.specs.Expansion.{neg, expand}
 use Rattle.calculus.specs.Order.{clauses, move}
 use Rattle.calculus.specs.Model.{Table, Below}
-use Rattle.calculus.specs.Jump.{Rests, only, less, Held, hold, literals, clauseRest, found, closed, Jumped, stop, sides, jump, endAnswer, stopped}
+use Rattle.calculus.specs.Jump.{Rests, nothing, both, only, less, Held, hold, literals, restOf, falseRest, originRest, clauseRest, found, closed, Jumped, stop, sides, jump, endAnswer, stopped}
 use Rattle.calculus.specs.declared.Move.{Move}
 use Rattle.calculus.specs.declared.Move.the-variants.{Conflict, Unit as Single, Done, Split}
 use Rattle.calculus.proofs.Limits.{most-more}
@@ -22,19 +22,19 @@ use Rattle.jumping.proofs.Answers.{same-answer}
 use Rattle.index.specs.Index.{mostNodes}
 use Rattle.state.specs.Work.{gOf}
 use Rattle.state.specs.Holds.{Holds}
-use Rattle.moves.specs.Place.{placeNumber}
+use Rattle.moves.specs.Place.{placeNumber, Placed}
 use Rattle.rests.specs.Words.{restAt, There, Put, Sets, conflictSlot, SameTo, heldOf}
-use Rattle.rests.proofs.Held.{held-literals, held-same, put-same, put-sets, held-joined}
+use Rattle.rests.proofs.Held.{held-literals, held-same, put-same, put-sets, held-joined, rests-blank}
 use Rattle.grounds.specs.Ground.{Grounded}
 use Rattle.grounds.proofs.Grounds.{unmet}
 use Rattle.searching.specs.Search.{Extends, foundOf, Solved}
-use Rattle.searching.specs.Jumps.{jumpedFrom, Propagated, endOf, madeBy, foundBy, withLeft, Jumps, Counted}
+use Rattle.searching.specs.Jumps.{blank, Due, Joined, jumpedFrom, Propagated, endOf, madeBy, foundBy, withLeft, Jumps, Counted}
 use Rattle.searching.specs.declared.Stop.{Stop}
 use Rattle.searching.specs.declared.Stop.the-variants.{Closed as Shut, Model as Open, Fork}
 use Rattle.searching.specs.declared.Found.{Found}
 use Rattle.searching.specs.declared.Ended.{Ended}
 use Rattle.searching.specs.declared.Ended.the-variants.{Model, Closed}
-use Rattle.searching.proofs.Searches.{Run, run-starts, run-looked, run-room, run-unit, Forked, fork-room, fork-grows, shut-open, shut-fork, open-fork}
+use Rattle.searching.proofs.Searches.{extends-on, placed-there, Run, run-starts, run-looked, run-room, run-unit, Forked, fork-room, fork-grows, shut-open, shut-fork, open-fork}
 
 -- ---- sets that stay
 
@@ -78,6 +78,40 @@ module _ (t : ℕ → Node) (n : ℕ) (goals : List ℕ) (d : ℕ) (m G : List �
 from-put : (t : ℕ → Node) (n : ℕ) (goals : List ℕ) {m m′ : List ℕ} {p : ℕ} {s : Rests} → Put m p s m′ → (G : List ℕ) → length G < p → (d : ℕ)
     → jumpedFrom t n goals d m′ G ≡ jumpedFrom t n goals d m G
 from-put t n goals {m} {m′} u G h d = ap (jump 128 (expand t) goals (n - length G) d) (held-same m m′ G (put-same u (length G) h))
+
+-- ---- before the first split nothing rests on anything
+
+module _ (expand : ℕ → List (List ℕ)) (goals : List ℕ) where
+  rest-blank : (G : List ℕ) → length G < conflictSlot → (l : ℕ) → restOf (heldOf blank G) l ≡ nothing
+  unfolding heldOf restOf
+  rest-blank [] b l = refl
+  rest-blank (x ∷ G) b l = rw (rests-blank (suc (length G)) (omega arith), rest-blank G (omega arith) l) (go (eqb l x))
+    where
+      go : (c : Bool) → cond c nothing nothing ≡ nothing
+      go true = refl
+      go false = refl
+
+  false-blank : (G : List ℕ) → length G < conflictSlot → (c : List ℕ) → falseRest (heldOf blank G) c ≡ nothing
+  unfolding falseRest
+  false-blank G b [] = refl
+  false-blank G b (l ∷ c) = rw (rest-blank G b (neg l), false-blank G b c)
+
+  origin-blank : (G : List ℕ) → length G < conflictSlot → (k : ℕ) → originRest expand goals (heldOf blank G) k ≡ nothing
+  unfolding heldOf originRest
+  origin-blank [] b k = refl
+  origin-blank (x ∷ G) b k =
+      rw (rests-blank (suc (length G)) (omega arith), origin-blank G (omega arith) k) (go (ltb k (length (clauses expand goals (literals (heldOf blank G))))))
+    where
+      go : (c : Bool) → cond c nothing nothing ≡ nothing
+      go true = refl
+      go false = refl
+
+  pub put-blank : (G : List ℕ) → length G < conflictSlot → (k p : ℕ) → p ≤ conflictSlot → Put blank p (clauseRest expand goals (heldOf blank G) k) blank
+  put-blank G b k p i = record {
+    size = refl;
+    here = rests-blank p i ∙ sym (ap₂ both (false-blank G b (getD (clauses expand goals (literals (heldOf blank G))) k [])) (origin-blank G b k));
+    other = λ q e. refl;
+  }
 
 -- ---- the units
 
@@ -179,6 +213,33 @@ module _ {t : ℕ → Node} {n : ℕ} {goals w k m w′ k′ m′ : List ℕ} (r
           kept = put-kept u (omega arith);
           same = λ d. rw q (sym (from-unit t n goals d m′ (gOf w′) (run-room (r .run) T B e) e (rw (z, number) at u)) ∙ r .same d);
         }
+
+-- the unit that was found
+pub due : {t : ℕ → Node} {goals w G : List ℕ} {v : Move} {k l : ℕ} → v ≡ move (expand t) goals G → v ≡ Single k l → gOf w ≡ G → Placed t goals w k → Due t goals w l
+due {t} {goals} {l = l} e q g p = record {
+  placed = placed-there p;
+  next = ap (move (expand t) goals) g ∙ sym e ∙ q ∙ ap (λ (j : ℕ). Single j l) (sym (p .number));
+}
+
+-- it has joined
+pub rested-joined : {t : ℕ → Node} {n l : ℕ} {goals w k m w′ k′ m′ w″ k″ m″ : List ℕ} → Rested t n goals w k m w′ k′ m′ → n ≤ mostNodes → Table n t → Below n goals
+    → Due t goals w′ l → Joined t n l goals w′ m′ w″ k″ m″ → length w″ ≡ length w′ → length k″ ≡ length k′ → Rested t n goals w k m w″ k″ m″
+rested-joined r few T B D J x y = rested-unit r few refl T B (D .next) refl (J .put) (J .holds) (J .list) x y
+
+module _ {t : ℕ → Node} {n : ℕ} {goals w k : List ℕ} (few : n ≤ mostNodes) (h : Holds t n goals w k) where
+  past-held : length (gOf w) < conflictSlot
+  past-held = omega (arith, at-most n (gOf w) (h .ready .trail .good))
+
+  -- where each set is empty
+  pub joined-blank : {l : ℕ} {w″ k″ : List ℕ} → Holds t n goals w″ k″ → gOf w″ ≡ l ∷ gOf w → Joined t n l goals w blank w″ k″ blank
+  joined-blank a q = record {
+    holds = a;
+    list = q;
+    put = put-blank (expand t) goals (gOf w) past-held (placeNumber w) (suc (length (gOf w))) (omega (arith, past-held));
+  }
+
+  pub conflict-blank : Put blank conflictSlot (clauseRest (expand t) goals (heldOf blank (gOf w)) (placeNumber w)) blank
+  conflict-blank = put-blank (expand t) goals (gOf w) past-held (placeNumber w) conflictSlot (omega arith)
 
 -- ---- both sides of a split
 
@@ -348,6 +409,33 @@ module _ {t : ℕ → Node} {n : ℕ} {goals w m w₁ k₁ m₁ : List ℕ} {r :
                       with-made s right ∙ ap₂ (λ (i j : ℕ). stopped (suc (i + j))) (sym (ap madeBy x) ∙ left-made) right-made
                       ∙ stopped-both (L .splits) (rightOf (restAt m₃ conflictSlot) .splits) ∙ ap stopped (sym (ap (λ (j : Jumped). j .splits) whole ∙ b .1));
                 }
+
+-- the search goes on where the units ended
+pub jumps-on : {t : ℕ → Node} {n d : ℕ} {goals w m w₁ k₁ m₁ w₂ k₂ m₂ : List ℕ} {r : Stop} {e : Ended} → Propagated t n goals w m w₁ k₁ m₁ r
+    → Jumps t n goals d w₁ m₁ w₂ k₂ m₂ e → Jumps t n goals d w m w₂ k₂ m₂ e
+jumps-on {d = d} {w = w} {m} {w₁} {m₁ = m₁} {m₂ = m₂} P J = record {
+  holds = J .holds;
+  grows = extends-on (P .grows) (J .grows);
+  sets = J .sets;
+  kept = same-on (length (gOf w)) (length (gOf w₁)) m m₁ m₂ (P .grows .more) (P .kept) (J .kept);
+  ended = ap (λ (j : Jumped). j .end) (sym (P .same d)) ∙ J .ended;
+  counted = J .counted ∙ ap (λ (j : Jumped). stopped (j .splits)) (P .same d);
+}
+
+pub held-low : {t : ℕ → Node} {n : ℕ} {goals w k : List ℕ} → Holds t n goals w k → n ≤ mostNodes → length (gOf w) ≤ mostNodes
+held-low {n = n} {w = w} h b = omega (arith, at-most n (gOf w) (h .ready .trail .good), b)
+
+-- the sets of the literals held are all that a search starts from
+pub jumps-from : {t : ℕ → Node} {n d : ℕ} {goals w m m₁ w₂ k₂ m₂ : List ℕ} {e : Ended} → SameTo (length (gOf w)) m m₁ → Jumps t n goals d w m₁ w₂ k₂ m₂ e
+    → Jumps t n goals d w m w₂ k₂ m₂ e
+jumps-from {t} {n} {d} {goals} {w} {m} {m₁} s J = record {
+  holds = J .holds;
+  grows = J .grows;
+  sets = J .sets;
+  kept = λ q b. J .kept q b ∙ s q b;
+  ended = ap (λ (H : List Held). jump 128 (expand t) goals (n - length (gOf w)) d H .end) (sym (held-same m m₁ (gOf w) s)) ∙ J .ended;
+  counted = J .counted ∙ ap (λ (H : List Held). stopped (jump 128 (expand t) goals (n - length (gOf w)) d H .splits)) (held-same m m₁ (gOf w) s);
+}
 
 -- ---- the whole
 

@@ -1,17 +1,18 @@
 -- What the search that jumps leaves of the work area and its sets: what the definition of the jumping search ends on, from the literals
 -- held with what each rests on. Assumes nothing.
 use mathlib.Core.Path.{_≡_}
-use mathlib.Core.List.{List, []}
+use mathlib.Core.List.{List, [], _∷_}
 use Prim.Native.Nat.{ℕ, suc, _+_, _-_}
-use lib.ListN.{length}
+use lib.ListN.{length, replicate}
 use Rattle.scope.specs.declared.Node.{Node}
 use Rattle.calculus.specs.Expansion.{expand}
 use Rattle.calculus.specs.Order.{move}
-use Rattle.calculus.specs.Jump.{Rests, End, found, closed, Jumped, stop, jump, endAnswer, stopped}
-use Rattle.calculus.specs.declared.Move.the-variants.{Split}
+use Rattle.calculus.specs.Jump.{Rests, clauseRest, End, found, closed, Jumped, stop, jump, endAnswer, stopped}
+use Rattle.calculus.specs.declared.Move.the-variants.{Unit as Single, Split}
 use Rattle.state.specs.Work.{gOf, Ready}
 use Rattle.state.specs.Holds.{Holds}
-use Rattle.rests.specs.Words.{restAt, Sets, conflictSlot, SameTo, heldOf}
+use Rattle.moves.specs.Place.{placeNumber, Placed}
+use Rattle.rests.specs.Words.{restAt, Put, Sets, setsSize, conflictSlot, SameTo, heldOf}
 use Rattle.searching.specs.Search.{Extends, foundOf}
 use Rattle.searching.specs.declared.Stop.{Stop}
 use Rattle.searching.specs.declared.Stop.the-variants.{Closed as Shut, Model as Open, Fork}
@@ -23,6 +24,21 @@ use Rattle.searching.specs.declared.Ended.the-variants.{Model, Closed}
 -- the jumping search from G with its sets m, d splits being on the branch, with as much fuel as there are undecided nodes
 abbrev pub jumpedFrom : (ℕ → Node) → ℕ → List ℕ → ℕ → List ℕ → List ℕ → Jumped
 jumpedFrom t n goals d m G = jump 128 (expand t) goals (n - length G) d (heldOf m G)
+
+-- the sets before the first split: each is empty
+abbrev pub blank : List ℕ
+blank = replicate setsSize 0
+
+-- the next move is a unit, l, and the place of its clause is kept
+pub record Due (t : ℕ → Node) (goals w : List ℕ) (l : ℕ) : Type 0 where
+  pub placed : Placed t goals w (placeNumber w)
+  pub next : move (expand t) goals (gOf w) ≡ Single (placeNumber w) l
+
+-- it has joined, with what it rests on
+pub record Joined (t : ℕ → Node) (n l : ℕ) (goals w m w′ k′ m′ : List ℕ) : Type 0 where
+  pub holds : Holds t n goals w′ k′
+  pub list : gOf w′ ≡ l ∷ gOf w
+  pub put : Put m (suc (length (gOf w))) (clauseRest (expand t) goals (heldOf m (gOf w)) (placeNumber w)) m′
 
 -- the units have joined: the search from here is that from the start, and the next move is no unit. k′ is the set of units (crate units)
 pub record Propagated (t : ℕ → Node) (n : ℕ) (goals w m w′ k′ m′ : List ℕ) (r : Stop) : Type 0 where

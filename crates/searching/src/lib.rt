@@ -3,6 +3,7 @@
 // rests on: a right branch is skipped where the left one's conflict does not rest on the split.
 use calculus::Move;
 ghost use mathlib.Core.Path.{_≡_};
+ghost use mathlib.Core.List.{[]};
 ghost use Prim.Native.Nat.{suc, _+_, _≤_};
 ghost use lib.ListN.{length};
 ghost use Rattle.calculus.specs.Model.{Goals};
@@ -10,11 +11,11 @@ ghost use Rattle.calculus.specs.Jump.{stopped};
 ghost use Rattle.index.specs.Index.{indexNode};
 ghost use Rattle.index.specs.Indexed.{Indexed};
 ghost use Rattle.clause.specs.Templates.{rows};
-ghost use Rattle.state.specs.Work.{area, gOf};
+ghost use Rattle.state.specs.Work.{gOf, Ready};
 ghost use Rattle.state.specs.Holds.{Holds};
 ghost use Rattle.rests.specs.Words.{Sets};
 ghost use Rattle.searching.specs.Search.{Solved};
-ghost use Rattle.searching.specs.Jumps.{Propagated, withLeft, Jumps, Counted};
+ghost use Rattle.searching.specs.Jumps.{blank, Due, Joined, Propagated, withLeft, Jumps, Counted};
 
 // Where the units end: at a conflict, at a model, or at a split on a literal.
 pub enum Stop {
@@ -41,6 +42,29 @@ const CONFLICT: usize = 2017;
 // The count of splits stops here.
 const MOST: u64 = 4294967295;
 
+// A unit joins, whose clause's place is kept, with what it rests on.
+fn join(
+    templates: &[[u8; 9]; 18],
+    x: &[u16],
+    n: usize,
+    goals: &[u16],
+    work: &mut [u16],
+    masks: &mut [u64],
+    rests: &mut [u64],
+    l: u16,
+)
+    requires { ⌜ now templates ≡ rows ⌝ }
+    requires { ⌜ Indexed (now x) n ⌝ }
+    requires { ⌜ Goals n (now goals) ⌝ }
+    requires { ⌜ Holds (indexNode (now x)) n (now goals) (now work) (now masks) ⌝ }
+    requires { ⌜ Sets (now rests) × Due (indexNode (now x)) (now goals) (now work) l ⌝ }
+    ensures { λ _. ⌜ Joined (indexNode (now (x .entry))) n l (now (goals .entry)) (now (work .entry)) (now (rests .entry)) (now (work .exit)) (now (masks .exit)) (now (rests .exit)) ⌝ }
+{
+    let slot = state::count(work) as usize + 1;
+    grounds::put_clause(templates, x, n, goals, work, rests, slot);
+    solver::assume(x, n, goals, work, masks, l);
+}
+
 // The units join, one after another, up to another move.
 fn propagate(
     templates: &[[u8; 9]; 18],
@@ -59,22 +83,56 @@ fn propagate(
     ensures { λ r. ⌜ Propagated (indexNode (now (x .entry))) n (now (goals .entry)) (now (work .entry)) (now (rests .entry)) (now (work .exit)) (now (masks .exit)) (now (rests .exit)) r ⌝ }
 {
     loop {
-        let m = moves::next_move(x, n, goals, work, masks);
-        match m {
-            Move::Conflict(_) => {
-                grounds::put_clause(templates, x, n, goals, work, rests, CONFLICT);
-                return Stop::Closed;
+        if moves::has_unit(work, masks) {
+            let u = moves::first_unit(x, n, goals, work, masks);
+            join(templates, x, n, goals, work, masks, rests, u.literal);
+        } else {
+            let m = moves::next_move(x, n, goals, work, masks);
+            match m {
+                Move::Conflict(_) => {
+                    grounds::put_clause(templates, x, n, goals, work, rests, CONFLICT);
+                    return Stop::Closed;
+                }
+                Move::Unit(_, l) => {
+                    join(templates, x, n, goals, work, masks, rests, l);
+                }
+                Move::Done => {
+                    return Stop::Model;
+                }
+                Move::Split(l) => {
+                    return Stop::Fork(l);
+                }
             }
-            Move::Unit(_, l) => {
-                let slot = state::count(work) as usize + 1;
-                grounds::put_clause(templates, x, n, goals, work, rests, slot);
-                solver::assume(x, n, goals, work, masks, l);
-            }
-            Move::Done => {
-                return Stop::Model;
-            }
-            Move::Split(l) => {
-                return Stop::Fork(l);
+        }
+    }
+}
+
+// The same where nothing was split: what joins rests on nothing, and so does a conflict.
+fn first_units(x: &[u16], n: usize, goals: &[u16], work: &mut [u16], masks: &mut [u64]) -> Stop
+    requires { ⌜ Indexed (now x) n ⌝ }
+    requires { ⌜ Goals n (now goals) ⌝ }
+    requires { ⌜ Holds (indexNode (now x)) n (now goals) (now work) (now masks) ⌝ }
+    ensures { λ r. ⌜ Propagated (indexNode (now (x .entry))) n (now (goals .entry)) (now (work .entry)) blank (now (work .exit)) (now (masks .exit)) blank r ⌝ }
+{
+    loop {
+        if moves::has_unit(work, masks) {
+            let u = moves::first_unit(x, n, goals, work, masks);
+            solver::assume(x, n, goals, work, masks, u.literal);
+        } else {
+            let m = moves::next_move(x, n, goals, work, masks);
+            match m {
+                Move::Conflict(_) => {
+                    return Stop::Closed;
+                }
+                Move::Unit(_, l) => {
+                    solver::assume(x, n, goals, work, masks, l);
+                }
+                Move::Done => {
+                    return Stop::Model;
+                }
+                Move::Split(l) => {
+                    return Stop::Fork(l);
+                }
             }
         }
     }
@@ -148,28 +206,64 @@ fn search(
     }
 }
 
-// A question put from the start: whether the goals have a model, which the work area then holds, and the splits made.
-pub fn solve_counted(x: &[u16], n: usize, goals: &[u16], work: &mut [u16]) -> Ended
+// The search from its start, with nothing held. The sets are needed from the first split on: those of the literals held then are empty.
+fn from_start(
+    x: &[u16],
+    n: usize,
+    goals: &[u16],
+    work: &mut [u16],
+    masks: &mut [u64],
+    rests: &mut [u64],
+) -> Ended
     requires { ⌜ Indexed (now x) n ⌝ }
     requires { ⌜ Goals n (now goals) ⌝ }
-    requires { ⌜ area ≤ length (now work) ⌝ }
+    requires { ⌜ Holds (indexNode (now x)) n (now goals) (now work) (now masks) × (gOf (now work) ≡ []) ⌝ }
+    requires { ⌜ Sets (now rests) ⌝ }
     ensures { λ r. ⌜ Counted (indexNode (now (x .entry))) n (now (goals .entry)) (now (work .exit)) r ⌝ }
+    ensures { λ _. ⌜ Sets (now (rests .exit)) ⌝ }
 {
-    let mut masks = [0u64; 33];
-    solver::start(x, n, goals, work, &mut masks);
-    let templates = clause::templates();
-    let mut rests = [0u64; 4036];
-    search(&templates, x, n, goals, work, &mut masks, &mut rests, 0)
+    let stop = first_units(x, n, goals, work, masks);
+    match stop {
+        Stop::Closed => Ended::Closed(0),
+        Stop::Model => Ended::Model(0),
+        Stop::Fork(_) => {
+            let templates = clause::templates();
+            let held = state::count(work) as usize;
+            rests::clear(rests, held);
+            search(&templates, x, n, goals, work, masks, rests, 0)
+        }
+    }
 }
 
-// A question put from the start: whether the goals have a model, which the work area then holds.
-pub fn solve(x: &[u16], n: usize, goals: &[u16], work: &mut [u16]) -> Found
+// A question put from the start, whatever is held: whether the goals have a model, which the work area then holds, and the splits made.
+// The sets are lent, so that one call's questions share them.
+pub fn solve_counted(
+    x: &[u16],
+    n: usize,
+    goals: &[u16],
+    work: &mut [u16],
+    rests: &mut [u64],
+) -> Ended
     requires { ⌜ Indexed (now x) n ⌝ }
     requires { ⌜ Goals n (now goals) ⌝ }
-    requires { ⌜ area ≤ length (now work) ⌝ }
-    ensures { λ r. ⌜ Solved (indexNode (now (x .entry))) n (now (goals .entry)) (now (work .exit)) r ⌝ }
+    requires { ⌜ Ready n (now work) × Sets (now rests) ⌝ }
+    ensures { λ r. ⌜ Counted (indexNode (now (x .entry))) n (now (goals .entry)) (now (work .exit)) r ⌝ }
+    ensures { λ _. ⌜ Sets (now (rests .exit)) ⌝ }
 {
-    let e = solve_counted(x, n, goals, work);
+    let mut masks = [0u64; 33];
+    solver::restart(x, n, goals, work, &mut masks);
+    from_start(x, n, goals, work, &mut masks, rests)
+}
+
+// The same without the splits.
+pub fn solve(x: &[u16], n: usize, goals: &[u16], work: &mut [u16], rests: &mut [u64]) -> Found
+    requires { ⌜ Indexed (now x) n ⌝ }
+    requires { ⌜ Goals n (now goals) ⌝ }
+    requires { ⌜ Ready n (now work) × Sets (now rests) ⌝ }
+    ensures { λ r. ⌜ Solved (indexNode (now (x .entry))) n (now (goals .entry)) (now (work .exit)) r ⌝ }
+    ensures { λ _. ⌜ Sets (now (rests .exit)) ⌝ }
+{
+    let e = solve_counted(x, n, goals, work, rests);
     match e {
         Ended::Model(_) => Found::Model,
         Ended::Closed(_) => Found::Closed,

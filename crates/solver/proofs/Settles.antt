@@ -1,22 +1,24 @@
 -- What start and undo leave: no position is a unit, none has a conflict. Assumes nothing.
 use Rattle.index.specs.Index.{mostNodes}
 use mathlib.Core.Path.{_≡_, refl, sym, ap, _∙_, subst, fun-ext}
-use mathlib.Core.Bool.{false, false≢true}
+use mathlib.Core.Bool.{Bool, false, false≢true}
 use mathlib.Core.Logic.{inl, inr}
 use mathlib.Core.List.{List}
 use Prim.Native.Nat.{ℕ, _+_, _-_, _*_, _<_, _≤_}
 use native.Mathlib.Omega.{arith}
+use native.Mathlib.Decide.{ℕ-discrete}
 use lib.ListN.{length, getD, set, length-set}
 use lib.Seq.{getD-set-same, getD-set-other}
 use Rattle.scope.specs.declared.Node.{Node}
+use Rattle.calculus.specs.Expansion.{neg}
 use Rattle.calculus.specs.Order.{Value, holds, fails, undecided, valueOf, isEmpty, isOne, some, bit}
 use Rattle.units.specs.Units.{Units, Empty}
 use Rattle.trail.proofs.Trails.{trail-length}
 use Rattle.state.specs.Work.{tail, litAt, baseOf, cursorAt, gOf, trail, valueCode, cursorOf, waitingOf, held, Ready, Numbered, trailAt, literalsAt, basesAt, valuesAt, cursorsAt}
-use Rattle.state.specs.Holds.{Holds, AllMet, Waiting, statesAt}
+use Rattle.state.specs.Holds.{Holds, AllMet, Waiting, statesAt, deniedAt, NoneDenied}
 use Rattle.state.specs.Changes.{Popped}
 use Rattle.state.proofs.Areas.{count-most, held-below, ready-same}
-use Rattle.solver.specs.Changes.{Served, Awaited, Settled, Left}
+use Rattle.solver.specs.Changes.{Served, Apart, Awaited, Settled, Left}
 
 -- ---- whether a goal waits
 
@@ -63,7 +65,7 @@ module _ {n : ℕ} {w w′ m′ : List ℕ} {c v : ℕ} (few : n ≤ mostNodes) 
 
   module _ {t : ℕ → Node} {goals : List ℕ} (numbered : Numbered t goals (tail w)) (low : c ≤ tail w 0) (before : AllMet t (gOf w) (tail w) c)
       (cursors : (q : ℕ) → q < tail w 0 → (cursorAt (tail w) q ≤ q) × AllMet t (trail q (tail w)) (tail w) (cursorAt (tail w) q))
-      (waiting : Waiting goals (gOf w) v)
+      (waiting : Waiting goals (gOf w) v) (undenied : NoneDenied goals (gOf w))
       (none : (q : ℕ) → q < tail w 0 → (some isEmpty (statesAt t (gOf w) (tail w) q) ≡ false) × (some isOne (statesAt t (gOf w) (tail w) q) ≡ false)) where
     pub settled-holds : Holds t n goals w′ m′
     settled-holds = record {
@@ -72,6 +74,7 @@ module _ {n : ℕ} {w w′ m′ : List ℕ} {c v : ℕ} (few : n ≤ mostNodes) 
       units = z .units .0;
       entered = λ q i. record {
         unit = z .units .1 q (omega (arith, low′, i, few)) ∙ sym (ap bit (none′ q i .1));
+        code = λ y. absurd (omega (arith, y, z .units .1 q (omega (arith, low′, i, few))));
         conflict = λ y. absurd (false≢true (sym (none′ q i .0) ∙ y));
       };
       clear = λ q i k. z .units .1 q k;
@@ -80,6 +83,7 @@ module _ {n : ℕ} {w w′ m′ : List ℕ} {c v : ℕ} (few : n ≤ mostNodes) 
       met-before = subst (λ (r : ℕ → ℕ). AllMet t (held r) r (cursorOf w′)) (sym same) (subst (AllMet t (gOf w) (tail w)) (sym (z .cursor)) before);
       cursors = subst (λ (r : ℕ → ℕ). (q : ℕ) → q < r 0 → (cursorAt r q ≤ q) × AllMet t (trail q r) r (cursorAt r q)) (sym same) cursors;
       waiting = subst (λ (r : ℕ → ℕ). Waiting goals (held r) (waitingOf w′)) (sym same) (subst (Waiting goals (gOf w)) (sym (z .waiting)) waiting);
+      denied = λ e. subst (NoneDenied goals) (sym settled-list) undenied;
     }
       where
         none′ : (q : ℕ) → q < tail w′ 0 → (some isEmpty (statesAt t (gOf w′) (tail w′) q) ≡ false) × (some isOne (statesAt t (gOf w′) (tail w′) q) ≡ false)
@@ -100,7 +104,7 @@ pub record Leaving (n to : ℕ) (w₀ w : List ℕ) : Type 0 where
   pub bases : (q : ℕ) → q ≤ mostNodes → baseOf (tail w) q ≡ baseOf (tail w₀) q
   pub cursors : (q : ℕ) → cursorAt (tail w) q ≡ cursorAt (tail w₀) q
 
-pub leaving-starts : {n to : ℕ} {w : List ℕ} → Ready n w → to < tail w 0 → Leaving n to w w
+pub leaving-starts : {n to : ℕ} {w : List ℕ} → Ready n w → to ≤ tail w 0 → Leaving n to w w
 leaving-starts h b = record { ready = h; size = refl; low = omega (arith, b); lits = λ q i. refl; bases = λ q i. refl; cursors = λ q. refl }
 
 module _ {n to : ℕ} {w₀ w : List ℕ} (few : n ≤ mostNodes) (v : Leaving n to w₀ w) {c : ℕ} (count : c ≡ length (gOf w)) where
@@ -142,12 +146,52 @@ module _ {n to : ℕ} {w₀ w : List ℕ} (few : n ≤ mostNodes) (v : Leaving n
 -- ---- the goals are looked at anew
 
 -- none waited
-pub awaited-none : {goals w : List ℕ} → Served goals w → waitingOf w ≡ 0 → Awaited goals w w
-awaited-none {goals} {w} s z = record { size = refl; waiting = rw z (waiting-over (λ k i. s .over k (omega (arith, i, z)))); other = λ i e. refl }
-
-pub awaited : {goals w : List ℕ} {v : ℕ} → 2 < length w → Waiting goals (gOf w) v → Awaited goals w (set w 2 v)
-awaited {goals} {w} {v} b a = record {
-  size = length-set w 2 v;
-  waiting = rw (getD-set-same w 2 v 0 b) a;
-  other = λ i e. getD-set-other w 2 i v 0 e;
+pub awaited-none : {goals w : List ℕ} {l : ℕ} → Served goals w → waitingOf w ≡ 0 → Awaited goals l w w
+awaited-none {goals} {w} s z = record {
+  size = refl;
+  waiting = rw z (waiting-over (λ k i. s .over k (omega (arith, i, z))));
+  denied = λ e. inl z;
+  other = λ i d e. refl;
 }
+
+module _ {goals w : List ℕ} {l v : ℕ} (b : deniedAt < length w) (a : Waiting goals (gOf w) v) where
+  -- the negation of l is none of them
+  pub awaited-apart : Apart goals l → Awaited goals l w (set w 2 v)
+  awaited-apart f = record {
+    size = length-set w 2 v;
+    waiting = rw (getD-set-same w 2 v 0 (omega arith)) a;
+    denied = λ e. inr (sym (getD-set-other w 2 deniedAt v 0 (λ y. omega (arith, y))) ∙ e, f);
+    other = λ i d e. getD-set-other w 2 i v 0 d;
+  }
+
+  -- it may be one of them
+  pub awaited-denied : Awaited goals l w (set (set w 2 v) deniedAt 1)
+  awaited-denied =
+      let size : deniedAt < length (set w 2 v) = simp length-set b in
+      record {
+        size = length-set (set w 2 v) deniedAt 1 ∙ length-set w 2 v;
+        waiting = rw (getD-set-other (set w 2 v) deniedAt 2 1 0 (λ y. omega (arith, y)), getD-set-same w 2 v 0 (omega arith)) a;
+        denied = λ e. absurd (omega (arith, e, getD-set-same (set w 2 v) deniedAt 1 0 size));
+        other = λ i d e. getD-set-other (set w 2 v) deniedAt i 1 0 e ∙ getD-set-other w 2 i v 0 d;
+      }
+
+-- ---- whether a literal's negation is among the goals
+
+-- of the first j goals
+pub record Denying (goals : List ℕ) (l : ℕ) (found : Bool) (j : ℕ) : Type 0 where
+  pub turns : j ≤ length goals
+  pub apart : found ≡ false → (k : ℕ) → k < j → getD goals k 0 ≡ neg l → ⊥
+
+pub denying-none : (goals : List ℕ) (l : ℕ) → Denying goals l false 0
+denying-none goals l = record { turns = omega arith; apart = λ e k i. absurd (omega (arith, i)) }
+
+module _ {goals : List ℕ} {l j : ℕ} {found : Bool} (d : Denying goals l found j) where
+  pub denying-more : {other : ℕ} {r : Bool} → j < length goals → other ≡ neg l → (r ≡ false → (found ≡ false) × (getD goals j 0 ≡ other → ⊥)) → Denying goals l r (j + 1)
+  denying-more {r = r} h e f = record { turns = omega arith; apart = λ z k i. go z k i (ℕ-discrete k j) }
+    where
+      go : r ≡ false → (k : ℕ) → k < j + 1 → Dec (k ≡ j) → getD goals k 0 ≡ neg l → ⊥
+      go z k i (yes y) q = f z .1 (ap (λ (i : ℕ). getD goals i 0) (sym y) ∙ q ∙ sym e)
+      go z k i (no y) q = d .apart (f z .0) k (omega arith) q
+
+  pub denying-all : length goals ≤ j → found ≡ false → Apart goals l
+  denying-all h e k i q = d .apart e k (omega arith) q

@@ -15,7 +15,7 @@ use Rattle.calculus.specs.Expansion.{neg, chosen, expand}
 use Rattle.calculus.specs.Order.{Value, holds, fails, undecided, valueOf, State, met, empty, one, many, joined, stateOf, isEmpty, some}
 use Rattle.calculus.specs.Model.{All, Table}
 use Rattle.calculus.proofs.Lists.{all-map, all-imply, getD-map}
-use Rattle.calculus.proofs.Literals.{value-other, undecided-neg}
+use Rattle.calculus.proofs.Literals.{value-joined, value-other, undecided-neg}
 use Rattle.calculus.proofs.Rows.{rowOf, Within, row-within}
 use Rattle.index.specs.Index.{none, opNode}
 use Rattle.clause.specs.Coded.{statesOf}
@@ -34,6 +34,19 @@ module _ (G : List ℕ) (l : ℕ) (f : valueOf G l ≡ undecided) where
       go (yes k) (no q) =
           let z : m ≡ neg l = omega (arith, k, q) in
           absurd (d (sym e ∙ ap (valueOf G) z ∙ undecided-neg G l f))
+
+  -- a literal that is false now was so before, but for the negation of l
+  pub fails-joined : (m : ℕ) → (m ≡ neg l → ⊥) → valueOf (l ∷ G) m ≡ fails → valueOf G m ≡ fails
+  fails-joined m d e = go (ℕ-discrete (m / 2) (l / 2))
+    where
+      never : holds ≡ fails → ⊥
+      never y = let z : _≡_ {A = ℕ} 0 1 = cc in omega arith
+
+      go : Dec (m / 2 ≡ l / 2) → valueOf G m ≡ fails
+      go (no k) = sym (value-other G l m k) ∙ e
+      go (yes k) =
+          let z : m ≡ l = omega (arith, k, d) in
+          absurd (never (sym (ap (valueOf (l ∷ G)) z ∙ value-joined G l) ∙ e))
 
   joined-met : (v : Value) (m : ℕ) → joined v m met ≡ met
   joined-met holds m = refl

@@ -1,19 +1,20 @@
--- What undo_to and start leave. Assumes nothing.
+-- What undo_to, start and restart leave. Assumes nothing.
 use Rattle.index.specs.Index.{mostNodes}
 use mathlib.Core.Path.{_≡_, refl, sym, ap, _∙_, subst}
 use mathlib.Core.Bool.{false, false≢true}
 use mathlib.Core.List.{List, []}
 use Prim.Native.Nat.{ℕ, zero, suc, _+_, _-_, _<_, _≤_}
 use native.Mathlib.Omega.{arith}
-use lib.ListN.{length, getD, drop}
+use lib.ListN.{length, getD, set, drop, length-set}
+use lib.Seq.{getD-set-same, getD-set-other}
 use Rattle.scope.specs.declared.Node.{Node}
 use Rattle.calculus.specs.Expansion.{expand}
 use Rattle.calculus.specs.Order.{Value, holds, fails, undecided, valueOf, mem, empty, joined, isEmpty, isOne, some, clauses, move}
 use Rattle.trail.proofs.Trails.{trail-length, trail-same}
-use Rattle.state.specs.Work.{tail, cursorAt, gOf, trail, Numbered}
-use Rattle.state.specs.Holds.{Holds, AllMet, Waiting, Splits}
+use Rattle.state.specs.Work.{tail, cursorAt, gOf, trail, Numbered, trailAt, basesAt, valuesAt}
+use Rattle.state.specs.Holds.{Holds, AllMet, Waiting, Splits, deniedAt, NoneDenied}
 use Rattle.state.specs.Changes.{Blank}
-use Rattle.state.proofs.Areas.{count-most}
+use Rattle.state.proofs.Areas.{count-most, ready-same}
 use Rattle.state.proofs.Clauses.{sofar, sofar-length, none-at, none-goals, none-position, goal-state, goals-length, split-none}
 use Rattle.solver.specs.Changes.{Settled, Left}
 use Rattle.solver.proofs.Settles.{waiting-over, settled-list, settled-holds}
@@ -33,6 +34,9 @@ goal-holds : (v : Value) (l : ℕ) → isEmpty (joined v l empty) ≡ false → 
 goal-holds holds l a b = refl
 goal-holds fails l a b = absurd (false≢true (sym a))
 goal-holds undecided l a b = absurd (false≢true (sym b))
+
+holds-fails : holds ≡ fails → ⊥
+holds-fails y = let z : _≡_ {A = ℕ} 0 1 = cc in omega arith
 
 -- ---- back to a split
 
@@ -86,6 +90,7 @@ module _ {t : ℕ → Node} {n to : ℕ} {goals w m w₁ : List ℕ} (few : n �
           (subst (AllMet t (trail to (tail w₁)) (tail w₁)) (sym e) (met-before to (omega arith) .1)))
           (λ q i. met-before q (omega (arith, i, k .count)))
           waiting
+          (λ i b y. holds-fails (sym (waiting .over i (omega (arith, b))) ∙ y))
           (λ q i. (none-position t goals (gOf w₁) (tail w₁) isEmpty q (tail w₁ 0) i (none .0), none-position t goals (gOf w₁) (tail w₁) isOne q (tail w₁ 0) i (none .1))),
       settled-list few (k .ready) z ∙ list,
     )
@@ -116,9 +121,36 @@ module _ (t : ℕ → Node) (goals : List ℕ) {n : ℕ} {w w′ m′ : List ℕ
       never : undecided ≡ holds → ⊥
       never y = let z : _≡_ {A = ℕ} 0 1 = cc in omega arith
 
+  undenied : NoneDenied goals (gOf w)
+  unfolding valueOf mem
+  undenied k i y = never (sym (ap (λ (G : List ℕ). valueOf G (getD goals k 0)) empty-list) ∙ y)
+    where
+      never : undecided ≡ fails → ⊥
+      never y = let z : _≡_ {A = ℕ} 0 1 = cc in omega arith
+
   pub started : Holds t n goals w′ m′ × (gOf w′ ≡ [])
   started = (
     settled-holds few (b .ready) z numbered (omega arith) (λ q i. absurd (omega (arith, i))) (λ q i. absurd (omega (arith, i, b .count))) waits
-        (λ q i. absurd (omega (arith, i, b .count))),
+        undenied (λ q i. absurd (omega (arith, i, b .count))),
     settled-list few (b .ready) z ∙ empty-list,
   )
+
+-- all literals have left: with the clauses before the first literal's the area is as good as blank
+module _ {n : ℕ} {w w₁ : List ℕ} (c : ℕ) (few : n ≤ mostNodes) (k : Left n 0 w w₁) where
+  abbrev w₂ : List ℕ
+  w₂ = set (set w₁ (trailAt + basesAt) c) deniedAt 0
+
+  kept : (i : ℕ) → (i ≡ trailAt + basesAt → ⊥) → (i ≡ deniedAt → ⊥) → getD w₂ i 0 ≡ getD w₁ i 0
+  kept i d e = getD-set-other (set w₁ (trailAt + basesAt) c) deniedAt i 0 0 e ∙ getD-set-other w₁ (trailAt + basesAt) i c 0 d
+
+  pub rebased : Blank n c w₂
+  rebased = record {
+    ready =
+        ready-same few (k .ready) (length-set (set w₁ (trailAt + basesAt) c) deniedAt 0 ∙ length-set w₁ (trailAt + basesAt) c)
+        (λ i b. kept (trailAt + i) (λ e. omega (arith, e, b)) (λ e. omega (arith, e, b)))
+        (λ l b. kept (trailAt + (valuesAt + l)) (λ e. omega (arith, e)) (λ e. omega (arith, e, b)));
+    count = kept (trailAt + 0) (λ e. omega (arith, e)) (λ e. omega (arith, e)) ∙ k .count;
+    base =
+        getD-set-other (set w₁ (trailAt + basesAt) c) deniedAt (trailAt + basesAt) 0 0 (λ e. omega (arith, e))
+        ∙ getD-set-same w₁ (trailAt + basesAt) c 0 (omega (arith, k .ready .size));
+  }

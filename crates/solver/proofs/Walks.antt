@@ -1,26 +1,22 @@
 -- The walk along the parents of a node: which positions are entered. Assumes nothing.
-use mathlib.Core.Path.{_≡_, sym, ap, _∙_, subst, fun-ext}
+use mathlib.Core.Path.{_≡_, sym, ap, _∙_, subst}
 use mathlib.Core.Logic.{_⊎_, inl, inr, ⊎-elim}
 use mathlib.Core.List.{List}
-use Prim.Native.Nat.{ℕ, _+_, _*_, _/_, _%_, _<_, _≤_}
+use Prim.Native.Nat.{ℕ, _*_, _/_, _%_, _<_}
 use native.Mathlib.Omega.{arith}
 use native.Mathlib.Decide.{ℕ-discrete}
 use Rattle.scope.specs.declared.Node.{Node}
-use Rattle.index.specs.Index.{indexNode, none, opNode, headOf, nextOf, mostNodes}
+use Rattle.index.specs.Index.{indexNode, none, opNode, headOf, nextOf}
 use Rattle.index.specs.Indexed.{Indexed}
-use Rattle.units.specs.Units.{member}
-use Rattle.state.specs.Work.{tail, litAt, held, gOf, conflictOf, Ready, trailAt, valuesAt}
-use Rattle.state.specs.Holds.{Entered, Closed}
-use Rattle.state.proofs.Areas.{count-most, ready-same}
+use Rattle.state.specs.Work.{tail, litAt, gOf, conflictOf, Ready}
+use Rattle.state.specs.Holds.{Entered}
+use Rattle.state.proofs.Areas.{count-most}
 use Rattle.solver.specs.Changes.{Beside, Renewed, Pending, Walk, Touchable}
+use Rattle.solver.proofs.Marks.{still-at, still-ready, still-literal, still-states, entered-still}
 
--- the trail is not changed
-pub beside-tail : {w w′ : List ℕ} → Beside w w′ → tail w′ ≡ tail w
-beside-tail b = fun-ext (λ i. b .other (trailAt + i) (λ e. omega (arith, e)))
-
-pub beside-ready : {n : ℕ} {w w′ : List ℕ} → n ≤ mostNodes → Beside w w′ → Ready n w → Ready n w′
-beside-ready {n} {w} {w′} few b h =
-    ready-same few h (b .size) (λ i k. b .other (trailAt + i) (λ e. omega (arith, e))) (λ l k. b .other (trailAt + (valuesAt + l)) (λ e. omega (arith, e)))
+-- one change after another
+pub beside-on : {w₀ w w′ : List ℕ} → Beside w₀ w → Beside w w′ → Beside w₀ w′
+beside-on a b = record { size = b .size ∙ a .size; other = λ i e k. b .other i e k ∙ a .other i e k }
 
 -- a link is 0 or a cell that names the node
 abbrev pub On : (ℕ → Node) → ℕ → ℕ → ℕ → Type 0
@@ -30,11 +26,6 @@ On t n node s = (s ≡ 0 → ⊥) → (s < 4 * n) × (opNode t s ≡ node)
 no-operand : (t : ℕ → Node) (y : ℕ) → y % 4 ≡ 0 → opNode t y ≡ none
 unfolding opNode
 no-operand t y e = rw e
-
--- an entered position stays so where its bit stays and the first conflict is not later
-pub entered-still : {t : ℕ → Node} {G : List ℕ} {r : ℕ → ℕ} {c c′ : ℕ} {m m′ : List ℕ} {q : ℕ} → Entered t G r c m q → c′ ≤ c
-    → member m′ q ≡ member m q → Entered t G r c′ m′ q
-entered-still e k s = record { unit = s ∙ e .unit; conflict = λ y. omega (arith, e .conflict y, k) }
 
 module _ {x : List ℕ} {n node : ℕ} {w₀ : List ℕ} (I : Indexed x n) (h : Ready n w₀) (b : node < n) where
   abbrev t : ℕ → Node
@@ -76,37 +67,35 @@ module _ {x : List ℕ} {n node : ℕ} {w₀ : List ℕ} (I : Indexed x n) (h : 
 
     pub walk-goes : {w′ m′ : List ℕ} → Renewed t w m (s / 4) w′ m′ → Walk t n node (nextOf x s) w₀ m₀ w′ m′
     walk-goes {w′} {m′} k = record {
-      beside = record { size = k .beside .size ∙ v .beside .size; other = λ i e. k .beside .other i e ∙ v .beside .other i e };
+      beside = beside-on (v .beside) (k .beside);
       units = k .units;
-      closed = subst (λ (r : ℕ → ℕ). Closed t (held r) r (conflictOf w′)) same
-          (k .closed (subst (λ (r : ℕ → ℕ). Closed t (held r) r (conflictOf w)) (sym same) (v .closed)));
+      closed = k .closed (v .closed);
       waits = λ q i. waits q i (ℕ-discrete (litAt (tail w₀) q / 2) (s / 4)) (v .waits q i);
-      else = λ q i a. k .else q a (λ y. absurd (omega (arith, ap (λ (r : ℕ → ℕ). r 0) same, y, i))) ∙ v .else q i a;
+      else = λ q i a. k .else q a (λ y. absurd (omega (arith, count, y, i))) .0 ∙ v .else q i a;
     }
       where
-        same : tail w ≡ tail w₀
-        same = beside-tail (v .beside)
+        ready : Ready n w
+        ready = still-ready (I .few) h (v .beside)
 
-        -- the renewed position
-        here : (q : ℕ) → q < tail w₀ 0 → litAt (tail w₀) q / 2 ≡ s / 4 → Entered t (gOf w₀) (tail w₀) (conflictOf w′) m′ q
-        here = subst (λ (r : ℕ → ℕ). (q : ℕ) → q < r 0 → litAt r q / 2 ≡ s / 4 → Entered t (held r) r (conflictOf w′) m′ q) same (k .here)
+        count : tail w 0 ≡ tail w₀ 0
+        count = still-at (I .few) h (v .beside) 0 (omega arith)
 
-        -- another is as it was
-        else : (q : ℕ) → q < tail w₀ 0 → (litAt (tail w₀) q / 2 ≡ s / 4 → ⊥) → member m′ q ≡ member m q
-        else q i d =
-            k .else q (omega (arith, i, count-most h, I .few))
-            (subst (λ (r : ℕ → ℕ). q < r 0 → litAt r q / 2 ≡ s / 4 → ⊥) (sym same) (λ a. d))
+        literal : (q : ℕ) → q < tail w₀ 0 → litAt (tail w) q ≡ litAt (tail w₀) q
+        literal = still-literal (I .few) h (v .beside)
 
         waits : (q : ℕ) → q < tail w₀ 0 → Dec (litAt (tail w₀) q / 2 ≡ s / 4)
-            → Entered t (gOf w₀) (tail w₀) (conflictOf w) m q ⊎ Pending t node s (litAt (tail w₀) q / 2)
-            → Entered t (gOf w₀) (tail w₀) (conflictOf w′) m′ q ⊎ Pending t node (nextOf x s) (litAt (tail w₀) q / 2)
-        waits q i (yes e) u = inl (here q i e)
-        waits q i (no e) (inl u) = inl (entered-still u (k .lower) (else q i e))
+            → Entered t (gOf w) (tail w) (conflictOf w) m q ⊎ Pending t node s (litAt (tail w₀) q / 2)
+            → Entered t (gOf w′) (tail w′) (conflictOf w′) m′ q ⊎ Pending t node (nextOf x s) (litAt (tail w₀) q / 2)
+        waits q i (yes e) u = inl (k .here q (omega (arith, i, count)) (ap (_/ 2) (literal q i) ∙ e))
+        waits q i (no e) (inl u) =
+            let b : q < tail w 0 = omega (arith, i, count) in
+            let d = k .else q (omega (arith, i, count-most h, I .few)) (λ a y. e (sym (ap (_/ 2) (literal q i)) ∙ y)) in
+            inl (entered-still u (still-states (I .few) ready (k .beside) t q b) (still-literal (I .few) ready (k .beside) q b) (k .lower) d)
         waits q i (no e) (inr y) =
             let d : y .0 ≡ s → ⊥ = λ a. e (sym (y .3) ∙ ap (_/ 4) a) in
             inr (y .0, I .links .next-all s (y .0) (o z .0) named-low (omega (arith, y .1, d)) (y .2 ∙ sym (o z .1)), y .2, y .3)
 
   -- at its end no position waits
-  pub walk-ends : {m₀ w m : List ℕ} → Walk t n node 0 w₀ m₀ w m → (q : ℕ) → q < tail w₀ 0 → Entered t (gOf w₀) (tail w₀) (conflictOf w) m q
+  pub walk-ends : {m₀ w m : List ℕ} → Walk t n node 0 w₀ m₀ w m → (q : ℕ) → q < tail w₀ 0 → Entered t (gOf w) (tail w) (conflictOf w) m q
   walk-ends v q i =
       ⊎-elim (λ e. e) (λ y. absurd (omega (arith, no-operand t (y .0) (omega (arith, y .1)), y .2, b, I .few))) (v .waits q i)

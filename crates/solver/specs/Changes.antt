@@ -2,24 +2,27 @@
 use mathlib.Core.Path.{_≡_}
 use mathlib.Core.Logic.{_⊎_}
 use mathlib.Core.List.{List}
-use Prim.Native.Nat.{ℕ, _-_, _*_, _/_, _%_, _<_, _≤_}
+use Prim.Native.Nat.{ℕ, _+_, _-_, _*_, _/_, _%_, _<_, _≤_}
 use lib.ListN.{getD, length}
 use Rattle.scope.specs.declared.Node.{Node}
+use Rattle.calculus.specs.Expansion.{neg}
 use Rattle.calculus.specs.Order.{holds, valueOf}
 use Rattle.index.specs.Index.{mostNodes, opNode}
 use Rattle.units.specs.Units.{positions, member, Units, Empty, Putted}
-use Rattle.state.specs.Work.{tail, litAt, baseOf, cursorAt, gOf, cursorOf, conflictOf, waitingOf, Ready, trailAt}
-use Rattle.state.specs.Holds.{Entered, Closed, Waiting}
+use Rattle.state.specs.Work.{tail, litAt, baseOf, cursorAt, codeAt, gOf, cursorOf, conflictOf, waitingOf, Ready, trailAt, codesAt}
+use Rattle.state.specs.Holds.{Entered, Closed, Waiting, deniedAt, deniedOf}
 
--- only the first conflict is changed
+-- before the codes only the first conflict is changed
 pub record Beside (w w′ : List ℕ) : Type 0 where
   pub size : length w′ ≡ length w
-  pub other : (i : ℕ) → (i ≡ 1 → ⊥) → getD w′ i 0 ≡ getD w i 0
+  pub other : (i : ℕ) → (i ≡ 1 → ⊥) → i < trailAt + codesAt → getD w′ i 0 ≡ getD w i 0
 
--- position q is in the set as its code says, and the first conflict is not after q if the code has one
+-- position q is in the set as its code says, which is kept, and the first conflict is not after q if the code has one
 pub record Marked (w m : List ℕ) (q code : ℕ) (w′ m′ : List ℕ) : Type 0 where
   pub beside : Beside w w′
   pub putted : Putted m q (code % 2) m′
+  pub stored : codeAt (tail w′) q ≡ code
+  pub codes : (p : ℕ) → (p ≡ q → ⊥) → codeAt (tail w′) p ≡ codeAt (tail w) p
   pub lower : conflictOf w′ ≤ conflictOf w
   pub least : code / 2 % 2 ≡ 1 → conflictOf w′ ≤ q
   pub from : (conflictOf w′ ≡ conflictOf w) ⊎ ((conflictOf w′ ≡ q) × (code / 2 % 2 ≡ 1))
@@ -29,9 +32,9 @@ pub record Renewed (t : ℕ → Node) (w m : List ℕ) (p : ℕ) (w′ m′ : Li
   pub beside : Beside w w′
   pub units : Units m′
   pub lower : conflictOf w′ ≤ conflictOf w
-  pub closed : Closed t (gOf w) (tail w) (conflictOf w) → Closed t (gOf w) (tail w) (conflictOf w′)
-  pub here : (q : ℕ) → q < tail w 0 → litAt (tail w) q / 2 ≡ p → Entered t (gOf w) (tail w) (conflictOf w′) m′ q
-  pub else : (q : ℕ) → q < positions → (q < tail w 0 → litAt (tail w) q / 2 ≡ p → ⊥) → member m′ q ≡ member m q
+  pub closed : Closed t (gOf w) (tail w) (conflictOf w) → Closed t (gOf w′) (tail w′) (conflictOf w′)
+  pub here : (q : ℕ) → q < tail w 0 → litAt (tail w) q / 2 ≡ p → Entered t (gOf w′) (tail w′) (conflictOf w′) m′ q
+  pub else : (q : ℕ) → q < positions → (q < tail w 0 → litAt (tail w) q / 2 ≡ p → ⊥) → (member m′ q ≡ member m q) × (codeAt (tail w′) q ≡ codeAt (tail w) q)
 
 -- an operand cell of node p, at or below s, names a node
 abbrev pub Pending : (ℕ → Node) → ℕ → ℕ → ℕ → Type 0
@@ -41,8 +44,8 @@ Pending t node s p = (y : ℕ) × (y ≤ s) × (opNode t y ≡ node) × (y / 4 �
 pub record Walk (t : ℕ → Node) (n node s : ℕ) (w₀ m₀ w m : List ℕ) : Type 0 where
   pub beside : Beside w₀ w
   pub units : Units m
-  pub closed : Closed t (gOf w₀) (tail w₀) (conflictOf w)
-  pub waits : (q : ℕ) → q < tail w₀ 0 → Entered t (gOf w₀) (tail w₀) (conflictOf w) m q ⊎ Pending t node s (litAt (tail w₀) q / 2)
+  pub closed : Closed t (gOf w) (tail w) (conflictOf w)
+  pub waits : (q : ℕ) → q < tail w₀ 0 → Entered t (gOf w) (tail w) (conflictOf w) m q ⊎ Pending t node s (litAt (tail w₀) q / 2)
   pub else : (q : ℕ) → tail w₀ 0 ≤ q → q < positions → member m q ≡ member m₀ q
 
 -- what the walk starts from: a position that is not entered is one of a parent of the node
@@ -56,11 +59,17 @@ pub record Served (goals w : List ℕ) : Type 0 where
   pub few : waitingOf w ≤ length goals
   pub over : (k : ℕ) → k < length goals - waitingOf w → valueOf (gOf w) (getD goals k 0) ≡ holds
 
--- those that wait begin with one that is not true, and nothing else is changed
-pub record Awaited (goals w w′ : List ℕ) : Type 0 where
+-- the negation of l is none of the goals
+abbrev pub Apart : List ℕ → ℕ → Type 0
+Apart goals l = (k : ℕ) → k < length goals → getD goals k 0 ≡ neg l → ⊥
+
+-- those that wait begin with one that is not true; that none is false is said only where none waited, or where that was said and the
+-- negation of l, which has joined, is none of them; and nothing else is changed
+pub record Awaited (goals : List ℕ) (l : ℕ) (w w′ : List ℕ) : Type 0 where
   pub size : length w′ ≡ length w
   pub waiting : Waiting goals (gOf w) (waitingOf w′)
-  pub other : (i : ℕ) → (i ≡ 2 → ⊥) → getD w′ i 0 ≡ getD w i 0
+  pub denied : deniedOf w′ ≡ 0 → (waitingOf w ≡ 0) ⊎ ((deniedOf w ≡ 0) × Apart goals l)
+  pub other : (i : ℕ) → (i ≡ 2 → ⊥) → (i ≡ deniedAt → ⊥) → getD w′ i 0 ≡ getD w i 0
 
 -- ---- undo and start
 

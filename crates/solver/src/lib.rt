@@ -1,19 +1,21 @@
-// The solver's state changes: start, assume, undo_to. A literal that joins changes what the clauses of its node's held parents come to, and
-// nothing else. Nothing is noted: what undo_to goes back to had a split as its move, so no clause was a unit or all false there.
+// The solver's state changes: start, restart, assume, undo_to. A literal that joins changes what the clauses of its node's held parents come
+// to, and nothing else. Nothing is noted for the way back: what undo_to goes back to had a split as its move, so no clause was a unit or all
+// false there.
 // The work area's layout is in crate state, specs/Work.antt, the index's in crate index.
 ghost use mathlib.Core.Path.{_≡_};
+ghost use mathlib.Core.Bool.{false};
 ghost use mathlib.Core.List.{[], _∷_};
 ghost use Prim.Native.Nat.{_+_, _-_, _*_, _%_, _≤_, _<_};
-ghost use lib.ListN.{length, drop};
+ghost use lib.ListN.{length, set, drop};
 ghost use Rattle.calculus.specs.Expansion.{expand};
 ghost use Rattle.calculus.specs.Model.{Goals, Fresh};
 ghost use Rattle.index.specs.Index.{mostNodes, indexNode};
 ghost use Rattle.index.specs.Indexed.{Indexed};
-ghost use Rattle.units.specs.Units.{words, Units};
+ghost use Rattle.units.specs.Units.{words, Units, Empty};
 ghost use Rattle.clause.specs.Coded.{statesOf, Coded};
-ghost use Rattle.state.specs.Work.{area, tail, gOf, entryOf, Ready};
-ghost use Rattle.state.specs.Holds.{Holds, Splits, Waiting};
-ghost use Rattle.solver.specs.Changes.{Marked, Renewed, Walk, Touchable, Served, Awaited, Settled, Left};
+ghost use Rattle.state.specs.Work.{area, tail, gOf, entryOf, Ready, trailAt, basesAt};
+ghost use Rattle.state.specs.Holds.{Holds, Splits, Waiting, deniedAt};
+ghost use Rattle.solver.specs.Changes.{Marked, Renewed, Walk, Touchable, Served, Awaited, Settled, Left, Apart};
 
 // The cells of the work area.
 const CURSOR: usize = 0;
@@ -21,6 +23,14 @@ const CURSOR: usize = 0;
 const CONFLICT: usize = 1;
 
 const WAITING: usize = 2;
+
+// 0 only where no goal is false: a cell between the cursors and the codes.
+const DENIED: usize = 12103;
+
+// The trail, and in it how many clauses stand before each literal's.
+const TRAIL: usize = 4;
+
+const BASES: usize = 4034;
 
 // No position.
 const NONE: u16 = 2016;
@@ -30,12 +40,13 @@ const HEADS: usize = 8064;
 
 const LINKS: usize = 10080;
 
-// What the clauses of position q come to is entered.
+// What the clauses of position q come to is entered, and kept.
 fn enter(work: &mut [u16], masks: &mut [u64], q: usize, code: u16)
     requires { ⌜ Units (now masks) ⌝ }
     requires { ⌜ (area ≤ length (now work)) × (q < mostNodes) ⌝ }
     ensures { λ _. ⌜ Marked (now (work .entry)) (now (masks .entry)) q code (now (work .exit)) (now (masks .exit)) ⌝ }
 {
+    state::put_code(work, q, code);
     units::put(masks, q, (code % 2) as u64);
     if (code / 2) % 2 == 1 {
         if (q as u16) < work[CONFLICT] {
@@ -105,17 +116,45 @@ fn waits(n: usize, goals: &[u16], work: &[u16]) -> u16
     0
 }
 
-// The goals that waited are looked at anew.
-fn wait(n: usize, goals: &[u16], work: &mut [u16])
+// Whether two literals are the same, or it was found before.
+fn hit(found: bool, g: u16, other: u16) -> bool
+    ensures { λ r. ⌜ (r ≡ false → (found ≡ false) × (g ≡ other → ⊥)) ⌝ }
+{
+    if g == other {
+        return true;
+    }
+    found
+}
+
+// Whether the negation of a literal is among the goals; no early end, so that several are looked at in one step.
+fn denies(goals: &[u16], l: u16) -> bool
+    requires { ⌜ l < 2 * mostNodes ⌝ }
+    ensures { λ r. ⌜ (r ≡ false → Apart (now (goals .entry)) l) ⌝ }
+{
+    let other = clause::negated(l);
+    let mut found = false;
+    let mut j = 0;
+    while j < goals.len() {
+        found = hit(found, goals[j], other);
+        j += 1;
+    }
+    found
+}
+
+// The goals that waited are looked at anew, as l has joined.
+fn wait(n: usize, goals: &[u16], work: &mut [u16], l: u16)
     requires { ⌜ Ready n (now work) ⌝ }
     requires { ⌜ (n ≤ mostNodes) × Goals n (now goals) ⌝ }
-    requires { ⌜ Served (now goals) (now work) ⌝ }
-    ensures { λ _. ⌜ Awaited (now (goals .entry)) (now (work .entry)) (now (work .exit)) ⌝ }
+    requires { ⌜ Served (now goals) (now work) × (l < 2 * n) ⌝ }
+    ensures { λ _. ⌜ Awaited (now (goals .entry)) l (now (work .entry)) (now (work .exit)) ⌝ }
 {
     if work[WAITING] == 0 {
         return;
     }
     work[WAITING] = waits(n, goals, work);
+    if denies(goals, l) {
+        work[DENIED] = 1;
+    }
 }
 
 // A literal, which is undecided, is assumed true.
@@ -134,7 +173,15 @@ pub fn assume(x: &[u16], n: usize, goals: &[u16], work: &mut [u16], masks: &mut 
     let code = renew(x, n, work, masks, node, e as usize);
     touch(x, n, work, masks, node);
     state::number(work, h as usize, code / 8192);
-    wait(n, goals, work);
+    wait(n, goals, work, l);
+}
+
+// No clause is a unit.
+fn no_units(masks: &mut [u64])
+    requires { ⌜ length (now masks) ≡ words ⌝ }
+    ensures { λ _. ⌜ Units (now (masks .exit)) × Empty (now (masks .exit)) ⌝ }
+{
+    units::clear(masks);
 }
 
 // The cursor is set; no clause is a unit or all false, and this many goals wait.
@@ -145,13 +192,13 @@ fn settle(work: &mut [u16], masks: &mut [u64], cursor: u16, waiting: u16)
     work[CURSOR] = cursor;
     work[CONFLICT] = NONE;
     work[WAITING] = waiting;
-    units::clear(masks);
+    no_units(masks);
 }
 
 // The literals after the first `held` leave those held.
 fn leave(n: usize, work: &mut [u16], held: u16)
     requires { ⌜ Ready n (now work) ⌝ }
-    requires { ⌜ (n ≤ mostNodes) × (held < tail (now work) 0) ⌝ }
+    requires { ⌜ (n ≤ mostNodes) × (held ≤ tail (now work) 0) ⌝ }
     ensures { λ _. ⌜ Left n held (now (work .entry)) (now (work .exit)) ⌝ }
 {
     while held < state::count(work) {
@@ -182,7 +229,37 @@ pub fn start(x: &[u16], n: usize, goals: &[u16], work: &mut [u16], masks: &mut [
     ensures { λ _. ⌜ Holds (indexNode (now (x .entry))) n (now (goals .entry)) (now (work .exit)) (now (masks .exit)) ⌝ }
     ensures { λ _. ⌜ gOf (now (work .exit)) ≡ [] ⌝ }
 {
+    state::blank(n, work, 0);
+    restart(x, n, goals, work, masks);
+}
+
+// So many clauses stand before those of the first literal.
+fn rebase(work: &mut [u16], clauses: u16)
+    requires { ⌜ area ≤ length (now work) ⌝ }
+    ensures { λ _. ⌜ now (work .exit) ≡ set (now (work .entry)) (trailAt + basesAt) clauses ⌝ }
+{
+    work[TRAIL + BASES] = clauses;
+}
+
+// No goal is false.
+fn allow(work: &mut [u16])
+    requires { ⌜ area ≤ length (now work) ⌝ }
+    ensures { λ _. ⌜ now (work .exit) ≡ set (now (work .entry)) deniedAt 0 ⌝ }
+{
+    work[DENIED] = 0;
+}
+
+// Nothing is assumed any more: what is held, of whatever goals, leaves.
+pub fn restart(x: &[u16], n: usize, goals: &[u16], work: &mut [u16], masks: &mut [u64])
+    requires { ⌜ Indexed (now x) n ⌝ }
+    requires { ⌜ Goals n (now goals) ⌝ }
+    requires { ⌜ Ready n (now work) × (length (now masks) ≡ words) ⌝ }
+    ensures { λ _. ⌜ Holds (indexNode (now (x .entry))) n (now (goals .entry)) (now (work .exit)) (now (masks .exit)) ⌝ }
+    ensures { λ _. ⌜ gOf (now (work .exit)) ≡ [] ⌝ }
+{
     let waiting = goals.len() as u16;
-    state::blank(n, work, waiting);
+    leave(n, work, 0);
+    rebase(work, waiting);
+    allow(work);
     settle(work, masks, 0, waiting);
 }

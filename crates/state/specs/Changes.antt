@@ -5,7 +5,7 @@ use mathlib.Core.List.{List, _∷_}
 use Prim.Native.Nat.{ℕ, suc, _+_, _*_, _/_, _%_, _<_, _≤_}
 use lib.ListN.{getD, length, set}
 use Rattle.calculus.specs.Expansion.{neg}
-use Rattle.state.specs.Work.{tail, litAt, baseOf, cursorAt, cursorOf, gOf, Ready, trailAt, literalsAt, entriesAt, basesAt, valuesAt, cursorsAt}
+use Rattle.state.specs.Work.{tail, litAt, baseOf, cursorAt, cursorOf, gOf, Ready, trailAt, literalsAt, entriesAt, basesAt, valuesAt, cursorsAt, codesAt}
 
 -- the values of l and its negation are stored
 abbrev pub valuesSet : List ℕ → ℕ → ℕ → ℕ → List ℕ
@@ -18,6 +18,10 @@ entrySet u h l = set (set (set u (trailAt + (entriesAt + l / 2)) (2 * h + l % 2 
 -- how many clauses stand before those of position h + 1
 abbrev pub baseSet : List ℕ → ℕ → ℕ → List ℕ
 baseSet w h more = set w (trailAt + (basesAt + (h + 1))) (baseOf (tail w) h + more)
+
+-- the code of position q is kept
+abbrev pub codeSet : List ℕ → ℕ → ℕ → List ℕ
+codeSet w q code = set w (trailAt + (codesAt + q)) code
 
 -- a number that neither a joining nor a leaving literal changes: a cell, an earlier literal, a base, a cursor but that at h
 abbrev pub Kept : ℕ → ℕ → Type 0

@@ -2,24 +2,25 @@
 use mathlib.Core.Path.{_≡_}
 use mathlib.Core.Bool.{true}
 use mathlib.Core.List.{List}
-use Prim.Native.Nat.{ℕ, _-_, _<_, _≤_}
+use Prim.Native.Nat.{ℕ, _-_, _/_, _<_, _≤_}
 use lib.ListN.{getD, length}
 use Rattle.scope.specs.declared.Node.{Node}
-use Rattle.calculus.specs.Order.{State, met, holds, valueOf, isEmpty, isOne, some, bit, move}
+use Rattle.calculus.specs.Order.{State, met, holds, fails, valueOf, isEmpty, isOne, some, bit, move}
 use Rattle.calculus.specs.Model.{All}
 use Rattle.calculus.specs.declared.Move.the-variants.{Split}
 use Rattle.index.specs.Index.{mostNodes}
 use Rattle.units.specs.Units.{positions, member, Units}
-use Rattle.clause.specs.Coded.{statesOf}
-use Rattle.state.specs.Work.{tail, gOf, litAt, trail, cursorAt, cursorOf, conflictOf, waitingOf, Ready, Numbered}
+use Rattle.clause.specs.Coded.{statesOf, Coded}
+use Rattle.state.specs.Work.{tail, gOf, litAt, trail, cursorAt, codeAt, cursorOf, conflictOf, waitingOf, Ready, Numbered}
 
 -- what the clauses of the literal at position q are under G
 abbrev pub statesAt : (ℕ → Node) → List ℕ → (ℕ → ℕ) → ℕ → List State
 statesAt t G r q = statesOf t G (litAt r q)
 
--- position q is in the set exactly if a clause of its literal is a unit; and it is not before c if one is all false
+-- position q is in the set exactly if a clause of its literal is a unit, and then its code is kept; it is not before c if one is all false
 pub record Entered (t : ℕ → Node) (G : List ℕ) (r : ℕ → ℕ) (c : ℕ) (m : List ℕ) (q : ℕ) : Type 0 where
   pub unit : member m q ≡ bit (some isOne (statesAt t G r q))
+  pub code : member m q ≡ 1 → Coded (t (litAt r q / 2)) (statesAt t G r q) (codeAt r q)
   pub conflict : some isEmpty (statesAt t G r q) ≡ true → c ≤ q
 
 -- c is no position, or one that has a clause that is all false
@@ -36,6 +37,16 @@ pub record Waiting (goals G : List ℕ) (v : ℕ) : Type 0 where
   pub over : (k : ℕ) → k < length goals - v → valueOf G (getD goals k 0) ≡ holds
   pub on : (v ≡ 0 → ⊥) → (k : ℕ) × (k < length goals) × (valueOf G (getD goals k 0) ≡ holds → ⊥)
 
+-- a cell between the cursors and the codes: 0 only where no goal is false
+abbrev pub deniedAt : ℕ
+deniedAt = 12103
+
+abbrev pub deniedOf : List ℕ → ℕ
+deniedOf w = getD w deniedAt 0
+
+abbrev pub NoneDenied : List ℕ → List ℕ → Type 0
+NoneDenied goals G = (k : ℕ) → k < length goals → valueOf G (getD goals k 0) ≡ fails → ⊥
+
 pub record Holds (t : ℕ → Node) (n : ℕ) (goals w m : List ℕ) : Type 0 where
   pub ready : Ready n w
   pub numbered : Numbered t goals (tail w)
@@ -47,6 +58,7 @@ pub record Holds (t : ℕ → Node) (n : ℕ) (goals w m : List ℕ) : Type 0 wh
   pub met-before : AllMet t (gOf w) (tail w) (cursorOf w)
   pub cursors : (h : ℕ) → h < tail w 0 → (cursorAt (tail w) h ≤ h) × AllMet t (trail h (tail w)) (tail w) (cursorAt (tail w) h)
   pub waiting : Waiting goals (gOf w) (waitingOf w)
+  pub denied : deniedOf w ≡ 0 → NoneDenied goals (gOf w)
 
 -- the next move from G is a split
 abbrev pub Splits : (ℕ → List (List ℕ)) → List ℕ → List ℕ → Type 0

@@ -1,6 +1,7 @@
 -- The layout of the work area: four cells (the cursor, the first conflict, how many goals wait, the place of the last move), and from 4 on
 -- the trail: how many literals are held true, the literals in the order they joined, each node's entry, how many clauses stand before each
--- literal's, each literal's value, and the cursor as each literal joined. Assumes nothing.
+-- literal's, each literal's value, the cursor as each literal joined, a cell that is 0 only where no goal is false (specs/Holds), and the
+-- code that was kept of each literal's clauses. Assumes nothing.
 use mathlib.Core.Path.{_≡_}
 use mathlib.Core.List.{List}
 use Prim.Native.Nat.{ℕ, _+_, _≤_}
@@ -13,7 +14,7 @@ pub use Rattle.trail.specs.Trail.{litAt, entryOf, held, valueCode, Trail}
 unfoldable pub use Rattle.trail.specs.Trail.{trail}
 pub use Rattle.clause.specs.Coded.{tail, valueAt, gOf, Valued}
 
--- where the trail stands, and in it the literals, the entries (crate trail), the bases, the values (crate clause) and the cursors
+-- where the trail stands, and in it the literals, the entries (crate trail), the bases, the values (crate clause), the cursors and the codes
 abbrev pub trailAt : ℕ
 trailAt = 4
 
@@ -40,6 +41,9 @@ valuesSize = 4032
 abbrev pub cursorsAt : ℕ
 cursorsAt = 10083
 
+abbrev pub codesAt : ℕ
+codesAt = 12100
+
 -- what the work area has at least
 abbrev pub area : ℕ
 area = 32768
@@ -58,12 +62,16 @@ waitingOf w = getD w 2 0
 abbrev pub placeOf : List ℕ → ℕ
 placeOf w = getD w 3 0
 
--- of a trail r: how many clauses stand before those of position q, and what the cursor was as the literal at q joined
+-- of a trail r: how many clauses stand before those of position q, what the cursor was as the literal at q joined, and the code that was
+-- kept of its clauses
 abbrev pub baseOf : (ℕ → ℕ) → ℕ → ℕ
 baseOf r q = r (basesAt + q)
 
 abbrev pub cursorAt : (ℕ → ℕ) → ℕ → ℕ
 cursorAt r q = r (cursorsAt + q)
+
+abbrev pub codeAt : (ℕ → ℕ) → ℕ → ℕ
+codeAt r q = r (codesAt + q)
 
 -- the trail is right, and so is the value of each literal
 pub record Ready (n : ℕ) (w : List ℕ) : Type 0 where

@@ -5,14 +5,14 @@ ghost use lib.ListN.{length};
 ghost use Rattle.calculus.specs.Model.{Fresh};
 ghost use Rattle.calculus.specs.Order.{valueOf};
 ghost use Rattle.index.specs.Index.{mostNodes};
-ghost use Rattle.state.specs.Work.{area, tail, litAt, entryOf, baseOf, cursorAt, gOf, valueCode, Ready};
-ghost use Rattle.state.specs.Changes.{valuesSet, entrySet, baseSet, Pushed, Popped, Wiped, Blank};
+ghost use Rattle.state.specs.Work.{area, tail, litAt, entryOf, baseOf, cursorAt, codeAt, gOf, valueCode, Ready};
+ghost use Rattle.state.specs.Changes.{valuesSet, entrySet, baseSet, codeSet, Pushed, Popped, Wiped, Blank};
 
 // The cursor: every clause of the positions before it is met.
 const CURSOR: usize = 0;
 
 // The trail: the count of the literals held, the literals, each node's entry (2 * position + sign + 1, or 0), how many clauses stand before
-// each literal's, each literal's value, the cursor as each literal joined.
+// each literal's, each literal's value, the cursor as each literal joined, the code that was kept of its clauses.
 const TRAIL: usize = 4;
 
 const LITERALS: usize = 1;
@@ -24,6 +24,8 @@ const BASES: usize = 4034;
 const VALUES: usize = 6051;
 
 const CURSORS: usize = 10083;
+
+const CODES: usize = 12100;
 
 // How many literals are held.
 pub fn count(work: &[u16]) -> u16
@@ -63,6 +65,22 @@ pub fn cursor_at(work: &[u16], q: usize) -> u16
     ensures { λ r. ⌜ r ≡ cursorAt (tail (now (work .entry))) q ⌝ }
 {
     work[TRAIL + (CURSORS + q)]
+}
+
+// The code that was kept for position q.
+pub fn code(work: &[u16], q: usize) -> u16
+    requires { ⌜ (area ≤ length (now work)) × (q < mostNodes) ⌝ }
+    ensures { λ r. ⌜ r ≡ codeAt (tail (now (work .entry))) q ⌝ }
+{
+    work[TRAIL + (CODES + q)]
+}
+
+// The code of position q is kept.
+pub fn put_code(work: &mut [u16], q: usize, code: u16)
+    requires { ⌜ (area ≤ length (now work)) × (q < mostNodes) ⌝ }
+    ensures { λ _. ⌜ now (work .exit) ≡ codeSet (now (work .entry)) q code ⌝ }
+{
+    work[TRAIL + (CODES + q)] = code;
 }
 
 // The value of a literal: 0 undecided, 1 true, 2 false.

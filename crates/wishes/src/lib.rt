@@ -116,7 +116,9 @@ fn questions(
     requires { ⌜ Room (now x) n (now settings) (now work) ⌝ }
     ensures { λ r. ⌜ Answered (now (x .entry)) n (now (goals .entry)) (now (wishes .entry)) allowance (now (settings .entry)) (now (settings .exit)) r ⌝ }
 {
-    let found = searching::solve(x, n, goals, work);
+    state::blank(n, work, 0);
+    let mut rests = [0u64; 4036];
+    let found = searching::solve(x, n, goals, work, &mut rests);
     match found {
         Found::Closed => Wished::Refused(Refusal {
             number: 67,
@@ -124,7 +126,8 @@ fn questions(
         }),
         Found::Model => {
             deciding::set_points(x, n, work, settings);
-            let r = granting::spend(x, n, goals.len(), wishes, list, work, allowance);
+            let g = goals.len();
+            let r = granting::spend(x, n, g, wishes, list, work, &mut rests, allowance);
             stand(x, n, work, settings, r.met);
             Wished::Granted(r)
         }

@@ -1,5 +1,4 @@
 -- `branch::some_of` meets its contract. The literals chosen are stored. Assumes nothing.
-use native.Mathlib.Omega.{arith}
 use borrow.Author.Needs.{needs}
 use Rattle.branch.proofs.Appends.{some-is}
 use Rattle.branch.proofs.some_of.Statement.{statement}

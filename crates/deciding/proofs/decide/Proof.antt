@@ -1,8 +1,7 @@
 -- `deciding::decide` meets its contract: a refusal is the first row's that refuses, and else the search decides. Assumes nothing.
 use borrow.Author.Needs.{needs}
 use Rattle.codec.specs.Valid.{Bytes}
-use Rattle.asking.proofs.Answers.{ask-refused}
-use Rattle.asking.proofs.Nodes.{goals-in}
+use Rattle.asking.proofs.Nodes.{goals-within}
 use Rattle.deciding.proofs.Answers.{refuses, roomy, ends}
 use Rattle.deciding.proofs.decide.Statement.{statement}
 use Rattle.deciding.proofs.decide.Tie as tie
@@ -11,11 +10,11 @@ use Rattle.deciding.proofs.decide.Tie as tie
 bytes : (c : tie.After-shared-slice-known) → Bytes (c .before .args .t .now)
 bytes c i = c .shared-slice-known .given i .fits
 
-slice-aggregate-ask : tie.Need-slice-aggregate-ask
-slice-aggregate-ask c = search needs
+slice-aggregate-ask-within : tie.Need-slice-aggregate-ask-within
+slice-aggregate-ask-within c = search needs
 
-ask-requires : tie.Need-ask-requires
-ask-requires c κs = search needs
+ask-within-requires : tie.Need-ask-within-requires
+ask-within-requires c κs = search needs
 
 enum-known-a : tie.Need-enum-known-a
 enum-known-a c = search needs
@@ -28,14 +27,11 @@ slice-aggregate-solve c = search needs
 
 solve-requires : tie.Need-solve-requires
 solve-requires c κs =
-    let k = c .before .before .before .before .before .before .before in
-    let p = k .ask .ensures .prepared _ (c .before .before .before .before .a2 .given .1) in
-    (p .indexed, (goals-in p, roomy _ _ _ _ (bytes (k .before .before .before .before .before)) p))
+    let p = c .before .before .before .before .before .before .before .ask-within .ensures .reached _ (c .before .before .before .before .a2 .given .1) in
+    (p .indexed, (goals-within p, roomy _ _ _ _ (bytes (c .before .before .before .before .before .before .before .before .before .before .before .before)) p))
 
 returns : tie.Need-returns
-returns c =
-    let k = c .before .before .before .before in
-    refuses _ _ _ _ (bytes (k .before .before .before .before .before)) _ (ask-refused _ _ _ _ _ _ _ (k .ask .ensures) (c .before .a .given .1))
+returns c = refuses _ _ _ _ (bytes (c .before .before .before .before .before .before .before .before .before)) _ (c .before .before .before .before .ask-within .ensures .refuses _ (c .before .a .given .1))
 
 same-length : tie.Need-same-length
 same-length c = search needs
@@ -45,15 +41,18 @@ same-length-2 c = search needs
 
 returns-2 : tie.Need-returns-2
 returns-2 c =
-    let k = c .before .before .before .before .before .before .before .before .before .before .before .before in
-    ends _ _ _ _ (bytes (k .before .before .before .before .before)) (k .ask .ensures .prepared _ (c .before .before .before .before .before .before .before .before .before .a2 .given .1)) _ (c .before .before .before .before .solve .ensures)
+    let k1 = c .before .before .before .before in
+    let k2 = k1 .before .before .before .before .before in
+    let k3 = k2 .before .before .before in
+    let k4 = k3 .before .before .before .before .before in
+    ends _ _ _ _ (bytes (k4)) (k3 .ask-within .ensures .reached _ (k2 .a2 .given .1)) _ (k1 .solve .ensures)
 
 pub decide-spec : {M : Type 1} → statement M
 decide-spec =
     tie.close
     (tie.spec
-    slice-aggregate-ask
-    ask-requires
+    slice-aggregate-ask-within
+    ask-within-requires
     enum-known-a
     enum-known-a-2
     slice-aggregate-solve

@@ -9,8 +9,14 @@ sub-size c = search needs
 
 returns : tie.Need-returns
 returns c =
-    let p = c .before .before .before .before .pre in
-    step-spent _ _ _ _ _ _ (p .1 .1 .1 .1 .0) (p .1 .1 .1 .0) (c .if1 .taken)
+    let p = c .before .before .before .before .before .pre in
+    (step-spent _ _ _ _ _ _ (p .1 .1 .1 .1 .0 .0) (p .1 .1 .1 .0) (c .if1 .taken), p .1 .1 .1 .1 .1)
+
+add-asked : tie.Need-add-asked
+add-asked c = search needs
+
+sub-rest : tie.Need-sub-rest
+sub-rest c = search needs
 
 solve-requires : tie.Need-solve-requires
 solve-requires c κs = search needs
@@ -18,36 +24,32 @@ solve-requires c κs = search needs
 enum-told : tie.Need-enum-told
 enum-told c = search needs
 
-add-t16 : tie.Need-add-t16
-add-t16 c = search needs
-
-sub-t17 : tie.Need-sub-t17
-sub-t17 c = search needs
-
 enum-told-2 : tie.Need-enum-told-2
 enum-told-2 c = search needs
-
-add-t18 : tie.Need-add-t18
-add-t18 c = search needs
-
-sub-t19 : tie.Need-sub-t19
-sub-t19 c = search needs
 
 same-length : tie.Need-same-length
 same-length c = search needs
 
-returns-2 : tie.Need-returns-2
-returns-2 c =
-    let p = c .before .before .before .before .before .before .before .before .before .before .pre in
-    step-found _ _ _ _ _ _ (p .1 .1 .1 .1 .0) _ (c .before .before .before .before .before .before .if1 .left) (p .1 .1 .0) (rw (c .enum-told .given .1) at (c .before .before .before .before .solve .ensures))
-
 same-length-2 : tie.Need-same-length-2
 same-length-2 c = search needs
 
+returns-2 : tie.Need-returns-2
+returns-2 c =
+    let p = c .before .before .before .before .before .before .before .before .before .before .before .before .before .before .pre in
+    let e = c .before .before .before .before .before .before .solve .ensures in
+    (step-found _ _ _ _ _ _ (p .1 .1 .1 .1 .0 .0) _ (c .before .before .before .before .before .before .before .before .before .if1 .left) (p .1 .1 .0) (rw (c .enum-told .given .1) at (e .0)), e .1)
+
+same-length-3 : tie.Need-same-length-3
+same-length-3 c = search needs
+
+same-length-4 : tie.Need-same-length-4
+same-length-4 c = search needs
+
 returns-3 : tie.Need-returns-3
 returns-3 c =
-    let p = c .before .before .before .before .before .before .before .before .before .before .pre in
-    step-refused _ _ _ _ _ _ (p .1 .1 .1 .1 .0) _ (c .before .before .before .before .before .before .if1 .left) (rw (c .enum-told2 .given .1) at (c .before .before .before .before .solve .ensures))
+    let p = c .before .before .before .before .before .before .before .before .before .before .before .before .before .before .pre in
+    let e = c .before .before .before .before .before .before .solve .ensures in
+    (step-refused _ _ _ _ _ _ (p .1 .1 .1 .1 .0 .0) _ (c .before .before .before .before .before .before .before .before .before .if1 .left) (rw (c .enum-told2 .given .1) at (e .0)), e .1)
 
 pub step-spec : {M : Type 1} → statement M
 step-spec =
@@ -55,14 +57,14 @@ step-spec =
     (tie.spec
     sub-size
     returns
+    add-asked
+    sub-rest
     solve-requires
     enum-told
-    add-t16
-    sub-t17
     enum-told-2
-    add-t18
-    sub-t19
     same-length
-    returns-2
     same-length-2
+    returns-2
+    same-length-3
+    same-length-4
     returns-3)

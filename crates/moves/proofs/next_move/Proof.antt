@@ -42,8 +42,8 @@ returns-2 c =
 some-requires : tie.Need-some-requires
 some-requires c κs = search needs
 
-unit-move-requires : tie.Need-unit-move-requires
-unit-move-requires c κs =
+first-unit-requires : tie.Need-first-unit-requires
+first-unit-requires c κs =
     let s = c .before .before .before .before .before .before .before .before .before .before .before in
     (s .pre .0, (s .pre .1 .0, (s .pre .1 .1, (c .before .before .before .before .before .if1 .left, c .before .before .before .if2 .left, c .before .before .some .ensures .0 (c .before .if3 .taken)))))
 
@@ -52,7 +52,7 @@ same-length-3 c = search needs
 
 returns-3 : tie.Need-returns-3
 returns-3 c =
-    let m = c .before .before .unit-move .ensures in
+    let m = c .before .before .first-unit .ensures in
     (m .is, (m .holds-on, (m .list, m .kept)))
 
 split-move-requires : tie.Need-split-move-requires
@@ -82,7 +82,7 @@ next-move-spec =
     same-length-2
     returns-2
     some-requires
-    unit-move-requires
+    first-unit-requires
     same-length-3
     returns-3
     split-move-requires

@@ -18,20 +18,26 @@ enum-told-2 c = search needs
 same-length : tie.Need-same-length
 same-length c = search needs
 
-returns : tie.Need-returns
-returns c =
-    let k = c .before .before .before .before in
-    let p = k .before .before .before .before .before .pre in
-    solved-plain (p .0 .table) (p .1 .0 .below) (k .solve-counted .ensures) (sym (ap foundBy (c .enum-told .given .1)))
-
 same-length-2 : tie.Need-same-length-2
 same-length-2 c = search needs
 
+returns : tie.Need-returns
+returns c =
+    let p = c .before .before .before .before .before .before .before .before .before .before .before .before .before .pre in
+    let e = c .before .before .before .before .before .before .solve-counted .ensures in
+    (solved-plain (p .0 .table) (p .1 .0 .below) (e .0) (sym (ap foundBy (c .enum-told .given .1))), e .1)
+
+same-length-3 : tie.Need-same-length-3
+same-length-3 c = search needs
+
+same-length-4 : tie.Need-same-length-4
+same-length-4 c = search needs
+
 returns-2 : tie.Need-returns-2
 returns-2 c =
-    let k = c .before .before .before .before in
-    let p = k .before .before .before .before .before .pre in
-    solved-plain (p .0 .table) (p .1 .0 .below) (k .solve-counted .ensures) (sym (ap foundBy (c .enum-told2 .given .1)))
+    let p = c .before .before .before .before .before .before .before .before .before .before .before .before .before .pre in
+    let e = c .before .before .before .before .before .before .solve-counted .ensures in
+    (solved-plain (p .0 .table) (p .1 .0 .below) (e .0) (sym (ap foundBy (c .enum-told2 .given .1))), e .1)
 
 pub solve-spec : {M : Type 1} → statement M
 solve-spec =
@@ -41,6 +47,8 @@ solve-spec =
     enum-told
     enum-told-2
     same-length
-    returns
     same-length-2
+    returns
+    same-length-3
+    same-length-4
     returns-2)

@@ -1,51 +1,39 @@
 -- `searching::solve_counted` meets its contract: the search from the start is the jumping search of the goals. Assumes nothing.
-use Rattle.searching.proofs.Jumps.{counted-whole}
-use Rattle.rests.proofs.Held.{sets-blank}
-use native.Mathlib.Omega.{arith}
 use borrow.Author.Needs.{needs}
 use Rattle.searching.proofs.solve_counted.Statement.{statement}
 use Rattle.searching.proofs.solve_counted.Tie as tie
 
-slice-aggregate-start : tie.Need-slice-aggregate-start
-slice-aggregate-start c = search needs
+slice-aggregate-restart : tie.Need-slice-aggregate-restart
+slice-aggregate-restart c = search needs
 
-start-requires : tie.Need-start-requires
-start-requires c κs = search needs
+restart-requires : tie.Need-restart-requires
+restart-requires c κs = search needs
 
-templates-requires : tie.Need-templates-requires
-templates-requires c κs = search needs
+slice-aggregate-from-start : tie.Need-slice-aggregate-from-start
+slice-aggregate-from-start c = search needs
 
-slice-aggregate-search : tie.Need-slice-aggregate-search
-slice-aggregate-search c = search needs
-
-slice-aggregate-search-2 : tie.Need-slice-aggregate-search-2
-slice-aggregate-search-2 c = search needs
-
-search-requires : tie.Need-search-requires
-search-requires c κs =
-    let t = c .before .before .before .before in
-    let k = t .before .before .before .before in
-    let p = k .before .before .before .before .before .before .pre in
-    (t .templates .ensures, (p .0, (p .1 .0, (k .start .ensures .0, (sets-blank, omega arith)))))
+from-start-requires : tie.Need-from-start-requires
+from-start-requires c κs =
+    let p = c .before .before .before .before .before .before .before .before .before .before .before .before .before .pre in
+    (p .0, (p .1 .0, (c .before .before .before .before .before .before .restart .ensures, p .1 .1 .1)))
 
 same-length : tie.Need-same-length
 same-length c = search needs
 
+same-length-2 : tie.Need-same-length-2
+same-length-2 c = search needs
+
 returns : tie.Need-returns
-returns c =
-    let k = c .before .before .before .before in
-    let j = k .before .before .before .before .before .before .before .before .before in
-    counted-whole (j .start .ensures .1) (k .search .ensures)
+returns c = search needs
 
 pub solve-counted-spec : {M : Type 1} → statement M
 solve-counted-spec =
     tie.close
     (tie.spec
-    slice-aggregate-start
-    start-requires
-    templates-requires
-    slice-aggregate-search
-    slice-aggregate-search-2
-    search-requires
+    slice-aggregate-restart
+    restart-requires
+    slice-aggregate-from-start
+    from-start-requires
     same-length
+    same-length-2
     returns)

@@ -45,19 +45,29 @@ cast-number c = search needs
 
 number-requires : tie.Need-number-requires
 number-requires c κs =
-    let s = c .before .before .before .before .before .before .before .before .before .before .before .before .before .before .before .before .before .before .before .before .before .before .before .before .before .before .before in
-    let R = c .before .before .before .before .before .before .before .before .before .before .before .before .renew .ensures .0 in
-    number-asked (s .pre .0) (s .pre .1 .1 .0) (s .pre .1 .1 .1) (c .before .before .before .before .before .before .before .before .before .before .before .before .before .before .before .before .before .before .before .push .ensures) R (c .before .before .before .before .before .touch .ensures) (s .pre .1 .0) (c .before .before .before .before .before .before .before .before .before .before .before .before .before .before .before .before .before .before .before .before .before .count .ensures) (c .before .before .before .before .before .before .before .before .before .before .before .before .renew .result / 8192) (omega arith)
+    let k1 = c .before .before .before .before .before in
+    let k2 = k1 .before .before .before .before .before .before .before in
+    let k3 = k2 .before .before .before .before .before .before .before in
+    let k4 = k3 .before .before in
+    let k5 = k4 .before .before .before .before .before .before in
+    let s = k5 in
+    let R = k2 .renew .ensures .0 in
+    number-asked (s .pre .0) (s .pre .1 .1 .0) (s .pre .1 .1 .1) (k3 .push .ensures) R (k1 .touch .ensures) (s .pre .1 .0) (k4 .count .ensures) (k2 .renew .result / 8192) (omega arith)
 
 wait-requires : tie.Need-wait-requires
 wait-requires c κs =
-    let s = c .before .before .before .before .before .before .before .before .before .before .before .before .before .before .before .before .before .before .before .before .before .before .before .before .before .before .before .before .before .before .before in
+    let k1 = c .before .before .before .before .before .before .before .before .before in
+    let k2 = k1 .before .before .before .before .before .before .before in
+    let k3 = k2 .before .before .before .before .before .before .before in
+    let k4 = k3 .before .before in
+    let k5 = k4 .before .before .before .before .before .before in
+    let s = k5 in
     let H = s .pre .1 .1 .0 in
     let f = s .pre .1 .1 .1 in
-    let R = c .before .before .before .before .before .before .before .before .before .before .before .before .before .before .before .before .renew .ensures .0 in
-    let more = c .before .before .before .before .before .before .before .before .before .before .before .before .before .before .before .before .renew .result / 8192 in (
-      ready₄ (s .pre .0) H f (c .before .before .before .before .before .before .before .before .before .before .before .before .before .before .before .before .before .before .before .before .before .before .before .push .ensures) R (c .before .before .before .before .before .before .before .before .before .touch .ensures) more (c .before .before .before .before .before .before .before .before .before .before .before .before .before .before .before .before .before .before .before .before .before .before .before .before .before .count .ensures) (c .before .before .before .number .ensures),
-      ((s .pre .0 .few, s .pre .1 .0), served (s .pre .0) H f (c .before .before .before .before .before .before .before .before .before .before .before .before .before .before .before .before .before .before .before .before .before .before .before .push .ensures) R (c .before .before .before .before .before .before .before .before .before .touch .ensures) more (c .before .before .before .before .before .before .before .before .before .before .before .before .before .before .before .before .before .before .before .before .before .before .before .before .before .count .ensures) (c .before .before .before .number .ensures)),
+    let R = k2 .renew .ensures .0 in
+    let more = k2 .renew .result / 8192 in (
+      ready₄ (s .pre .0) H f (k3 .push .ensures) R (k1 .touch .ensures) more (k4 .count .ensures) (c .before .before .before .number .ensures),
+      ((s .pre .0 .few, s .pre .1 .0), (served (s .pre .0) H f (k3 .push .ensures) R (k1 .touch .ensures) more (k4 .count .ensures) (c .before .before .before .number .ensures), f .0)),
     )
 
 same-length : tie.Need-same-length
@@ -68,16 +78,23 @@ same-length-2 c = search needs
 
 returns : tie.Need-returns
 returns c =
-    let s = c .before .before .before .before .before .before .before .before .before .before .before .before .before .before .before .before .before .before .before .before .before .before .before .before .before .before .before .before .before .before .before .before .before .before in
+    let k1 = c .before .before .before .before .before .before in
+    let k2 = k1 .before .before .before .before .before .before in
+    let k3 = k2 .before .before .before .before .before .before .before in
+    let k4 = k3 .before .before .before in
+    let k5 = k4 .before .before .before .before in
+    let k6 = k5 .before .before in
+    let k7 = k6 .before .before .before .before .before .before in
+    let s = k7 in
     let H = s .pre .1 .1 .0 in
     let f = s .pre .1 .1 .1 in
-    let R = c .before .before .before .before .before .before .before .before .before .before .before .before .before .before .before .before .before .before .before .renew .ensures .0 in
-    let more = c .before .before .before .before .before .before .before .before .before .before .before .before .before .before .before .before .before .before .before .renew .result / 8192 in
+    let R = k3 .renew .ensures .0 in
+    let more = k3 .renew .result / 8192 in
     let w = s .args .work .now in
-    let own = own-entry (s .pre .0) H f (c .before .before .before .before .before .before .before .before .before .before .before .before .before .before .before .before .before .before .before .before .before .before .before .before .before .before .push .ensures) in
-    let k = counted (indexNode (s .args .x .now)) (s .args .l) (tail w 0) (gOf (c .before .before .before .before .before .before .before .before .before .before .before .before .before .before .before .before .before .before .before .before .before .before .before .before .before .before .push .last .1 .0)) (c .before .before .before .before .before .before .before .before .before .before .before .before .before .before .before .before .before .before .before .before .before .before .entry .ensures ∙ own) (c .before .before .before .before .before .before .before .before .before .before .before .before .before .before .before .before .before .before .before .renew .ensures .1) in (
-      assumed (s .pre .0) H f (c .before .before .before .before .before .before .before .before .before .before .before .before .before .before .before .before .before .before .before .before .before .before .before .before .before .before .push .ensures) R (c .before .before .before .before .before .before .before .before .before .before .before .before .touch .ensures) more (c .before .before .before .before .before .before .before .before .before .before .before .before .before .before .before .before .before .before .before .before .before .before .before .before .before .before .before .before .count .ensures) (c .before .before .before .before .before .before .number .ensures) (c .before .before .wait .ensures) k,
-      list₅ (s .pre .0) H f (c .before .before .before .before .before .before .before .before .before .before .before .before .before .before .before .before .before .before .before .before .before .before .before .before .before .before .push .ensures) R (c .before .before .before .before .before .before .before .before .before .before .before .before .touch .ensures) more (c .before .before .before .before .before .before .before .before .before .before .before .before .before .before .before .before .before .before .before .before .before .before .before .before .before .before .before .before .count .ensures) (c .before .before .before .before .before .before .number .ensures) (c .before .before .wait .ensures) k,
+    let own = own-entry (s .pre .0) H f (k5 .push .ensures) in
+    let k = counted (indexNode (s .args .x .now)) (s .args .l) (tail w 0) (gOf (k5 .push .last .1 .0)) (k4 .entry .ensures ∙ own) (k3 .renew .ensures .1) in (
+      assumed (s .pre .0) H f (k5 .push .ensures) R (k2 .touch .ensures) more (k6 .count .ensures) (k1 .number .ensures) (c .before .before .wait .ensures) k,
+      list₅ (s .pre .0) H f (k5 .push .ensures) R (k2 .touch .ensures) more (k6 .count .ensures) (k1 .number .ensures) (c .before .before .wait .ensures) k,
     )
 
 pub assume-spec : {M : Type 1} → statement M

@@ -36,7 +36,7 @@ returns : tie.Need-returns
 returns c =
     let s = c .before .before .before .before .before .before .before .before .before .before .before .before in
     let pre = s .pre .1 .1 .1 in
-    (renewed (indexNode (s .args .x .now)) (s .pre .1 .0) (pre .0) (pre .1) (pre .2) (c .before .before .before .before .before .before .before .code .ensures) (c .before .before .before .before .enter .ensures), c .before .before .before .before .before .before .before .code .ensures)
+    (renewed (indexNode (s .args .x .now)) (s .pre .1 .0) (pre .0) (pre .1) (pre .2) (s .pre .0 .few) (c .before .before .before .before .before .before .before .code .ensures) (c .before .before .before .before .enter .ensures), c .before .before .before .before .before .before .before .code .ensures)
 
 pub renew-spec : {M : Type 1} → statement M
 renew-spec =

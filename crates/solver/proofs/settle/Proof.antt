@@ -15,8 +15,8 @@ slice-write-work-2 c = simp length-set (omega arith)
 slice-write-work-3 : tie.Need-slice-write-work-3
 slice-write-work-3 c = simp length-set (omega arith)
 
-clear-requires : tie.Need-clear-requires
-clear-requires c κs = search needs
+no-units-requires : tie.Need-no-units-requires
+no-units-requires c κs = search needs
 
 same-length : tie.Need-same-length
 same-length c = search needs
@@ -25,7 +25,7 @@ same-length-2 : tie.Need-same-length-2
 same-length-2 c = search needs
 
 returns : tie.Need-returns
-returns c = settled (omega (arith, c .before .before .before .before .before .before .pre .0)) (c .before .before .clear .ensures)
+returns c = settled (omega (arith, c .before .before .before .before .before .before .pre .0)) (c .before .before .no-units .ensures)
 
 pub settle-spec : {M : Type 1} → statement M
 settle-spec =
@@ -34,7 +34,7 @@ settle-spec =
     slice-write-work
     slice-write-work-2
     slice-write-work-3
-    clear-requires
+    no-units-requires
     same-length
     same-length-2
     returns)

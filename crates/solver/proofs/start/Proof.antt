@@ -1,18 +1,15 @@
 -- `solver::start` meets its contract. Assumes nothing.
-use Rattle.index.specs.Index.{indexNode}
-use Rattle.solver.proofs.Undoes.{started}
 use borrow.Author.Needs.{needs}
 use Rattle.solver.proofs.start.Statement.{statement}
 use Rattle.solver.proofs.start.Tie as tie
 
-cast-waiting : tie.Need-cast-waiting
-cast-waiting c = search needs
-
 blank-requires : tie.Need-blank-requires
 blank-requires c κs = search needs
 
-settle-requires : tie.Need-settle-requires
-settle-requires c κs = search needs
+restart-requires : tie.Need-restart-requires
+restart-requires c κs =
+    let p = c .before .before .before .before .before .before .before .before .before .before .pre in
+    (p .0, (p .1 .0, (c .before .before .before .before .blank .ensures .ready, p .1 .1 .1)))
 
 same-length : tie.Need-same-length
 same-length c = search needs
@@ -21,11 +18,7 @@ same-length-2 : tie.Need-same-length-2
 same-length-2 c = search needs
 
 returns : tie.Need-returns
-returns c =
-    let s = c .before .before .before .before .before .before .before .before .before .before .before .before .before .before .before in
-    started (indexNode (s .args .x .now)) (s .args .goals .now) (s .pre .0 .few) (c .before .before .before .before .before .before .before .before .before .blank .ensures) (c .before .before .before .before .settle .ensures)
+returns c = c .before .before .before .before .restart .ensures
 
 pub start-spec : {M : Type 1} → statement M
-start-spec =
-    tie.close
-    (tie.spec cast-waiting blank-requires settle-requires same-length same-length-2 returns)
+start-spec = tie.close (tie.spec blank-requires restart-requires same-length same-length-2 returns)

@@ -3,7 +3,8 @@ use mathlib.Core.Path.{sym, _∙_, subst}
 use Prim.Native.Nat.{ℕ, _+_}
 use Rattle.index.specs.Index.{indexNode, headsAt, linksAt}
 use Rattle.solver.specs.Changes.{Walk}
-use Rattle.solver.proofs.Walks.{On, beside-ready, walk-on, walk-starts, parent-low, walk-less, walk-on-next, walk-goes}
+use Rattle.solver.proofs.Marks.{still-ready}
+use Rattle.solver.proofs.Walks.{On, walk-on, walk-starts, parent-low, walk-less, walk-on-next, walk-goes}
 use native.Mathlib.Omega.{arith}
 use Rattle.solver.proofs.touch.Statement.{statement}
 use Rattle.solver.proofs.touch.Tie as tie
@@ -37,7 +38,7 @@ visit-requires c κs =
     let inv = c .before .before .before .loop .inv in (
       s .pre .0,
       (
-        beside-ready (s .pre .0 .few) (inv .0 .beside) (s .pre .1 .0),
+        still-ready (s .pre .0 .few) (s .pre .1 .0) (inv .0 .beside),
         (inv .0 .units, parent-low (s .pre .0) (s .pre .1 .0) (s .pre .1 .1 .1) (inv .0) (inv .1) (c .before .before .loop-test .taken)),
       ),
     )

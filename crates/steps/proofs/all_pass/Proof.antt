@@ -1,11 +1,10 @@
 -- `steps::all_pass` meets its contract. The loop's invariant: the steps of the blocks before j pass. Assumes nothing.
 use native.Mathlib.Omega.{arith}
 use borrow.Author.Needs.{needs}
-use mathlib.Core.Path.{_≡_, sym, _∙_}
 use mathlib.Core.Bool.{cond, false≢true}
-use Prim.Native.Nat.{_≤_, _-_, _*_, _/_}
+use Prim.Native.Nat.{_≤_, _-_, _/_}
 use lib.ListN.{length}
-use borrow.Author.Tests.{not-true, not-false}
+use borrow.Author.Tests.{not-false}
 use Rattle.rules.specs.declared.Version.the-variants.{One, Two}
 use Rattle.steps.proofs.Quick.{Before, before-none, before-more}
 use Rattle.steps.proofs.all_pass.Statement.{statement}

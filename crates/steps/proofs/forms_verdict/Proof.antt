@@ -1,5 +1,4 @@
 -- `steps::forms_verdict` meets its contract. Steps that all pass are not refused. Assumes nothing.
-use native.Mathlib.Omega.{arith}
 use borrow.Author.Needs.{needs}
 use mathlib.Core.Path.{_∙_}
 use Rattle.steps.proofs.Quick.{pass-fine}

@@ -1,5 +1,4 @@
 -- `steps::is_two` meets its contract. A version is one of two. Assumes nothing.
-use native.Mathlib.Omega.{arith}
 use borrow.Author.Needs.{needs}
 use mathlib.Core.Path.{sym}
 use Rattle.steps.proofs.is_two.Statement.{statement}

@@ -1,6 +1,4 @@
 -- `steps::passes` meets its contract. The tests are those of `quick`. Assumes nothing.
-use native.Mathlib.Omega.{arith}
-use borrow.Author.Needs.{needs}
 use Rattle.steps.proofs.Quick.{quick-passes}
 use Rattle.steps.proofs.passes.Statement.{statement}
 use Rattle.steps.proofs.passes.Tie as tie

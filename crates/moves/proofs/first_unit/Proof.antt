@@ -1,23 +1,24 @@
--- `moves::unit_move` meets its contract. Assumes nothing.
+-- `moves::first_unit` meets its contract. Assumes nothing.
 use mathlib.Core.Path.{_∙_, ap}
 use Prim.Native.Nat.{ℕ, _/_, _%_}
 use Rattle.calculus.specs.Expansion.{chosen}
 use Rattle.index.specs.Index.{indexNode}
 use Rattle.state.proofs.Areas.{count-most, held-below}
-use Rattle.moves.proofs.Moves.{base-low, unit-low, unit-choice, unit-position}
+use Rattle.moves.proofs.Moves.{base-low, unit-low, unit-code, unit-choice, unit-position}
 use native.Mathlib.Omega.{arith}
 use borrow.Author.Needs.{needs}
-use Rattle.moves.proofs.unit_move.Statement.{statement}
-use Rattle.moves.proofs.unit_move.Tie as tie
+use Rattle.moves.proofs.first_unit.Statement.{statement}
+use Rattle.moves.proofs.first_unit.Tie as tie
 
 first-requires : tie.Need-first-requires
 first-requires c κs = search needs
 
-code-at-requires : tie.Need-code-at-requires
-code-at-requires c κs =
+code-requires : tie.Need-code-requires
+code-requires c κs =
     let s = c .before .before .before .before .before .before in
     let p = s .pre .1 .1 .1 in
-    (s .pre .0, (s .pre .1 .1 .0 .ready, unit-low (s .pre .0 .few) (s .pre .1 .0) (s .pre .1 .1 .0) (p .1) (p .0) (c .before .first .ensures)))
+    let b = unit-low (s .pre .0 .few) (s .pre .1 .0) (s .pre .1 .1 .0) (p .1) (p .0) (c .before .first .ensures) in
+    (s .pre .1 .1 .0 .ready .size, omega (arith, b, count-most (s .pre .1 .1 .0 .ready), s .pre .0 .few))
 
 literal-requires : tie.Need-literal-requires
 literal-requires c κs =
@@ -37,7 +38,8 @@ choose-requires c κs =
     let s = c .before .before .before .before .before .before .before .before .before in
     let p = s .pre .1 .1 .1 in
     let b = unit-low (s .pre .0 .few) (s .pre .1 .0) (s .pre .1 .1 .0) (p .1) (p .0) (c .before .before .before .before .first .ensures) in
-    let d = unit-choice (s .pre .0 .few) (s .pre .1 .0) (s .pre .1 .1 .0) (p .1) (p .0) (c .before .before .before .before .first .ensures) (c .before .before .code-at .ensures) in
+    let d = unit-choice (s .pre .0 .few) (s .pre .1 .0) (s .pre .1 .1 .0) (p .1) (p .0) (c .before .before .before .before .first .ensures)
+    (unit-code (s .pre .0 .few) (s .pre .1 .0) (s .pre .1 .1 .0) (p .1) (p .0) (c .before .before .before .before .first .ensures) (c .before .before .code .ensures)) in
     (s .pre .0, (omega (arith, c .literal .ensures, held-below (s .pre .1 .1 .0 .ready) (c .before .before .before .before .first .result) b), rw (c .literal .ensures) (d .0)))
 
 base-requires : tie.Need-base-requires
@@ -74,16 +76,17 @@ returns c =
     let s = c .before .before .before .before .before .before .before .before .before .before .before .before .before .before .before .before in
     let p = s .pre .1 .1 .1 in
     let t = indexNode (s .args .x .now) in
-    let code = c .before .before .before .before .before .before .before .before .before .code-at .result in
-    unit-position (s .pre .0 .few) (s .pre .1 .0) (s .pre .1 .1 .0) (p .1) (p .0) (c .before .before .before .before .before .before .before .before .before .before .before .first .ensures) (c .before .before .before .before .before .before .before .before .before .code-at .ensures) (c .before .before .keep .ensures) (c .before .before .before .before .base .ensures)
+    let code = c .before .before .before .before .before .before .before .before .before .code .result in
+    let k = unit-code (s .pre .0 .few) (s .pre .1 .0) (s .pre .1 .1 .0) (p .1) (p .0) (c .before .before .before .before .before .before .before .before .before .before .before .first .ensures) (c .before .before .before .before .before .before .before .before .before .code .ensures) in
+    unit-position (s .pre .0 .few) (s .pre .1 .0) (s .pre .1 .1 .0) (p .1) (p .0) (c .before .before .before .before .before .before .before .before .before .before .before .first .ensures) k (c .before .before .keep .ensures) (c .before .before .before .before .base .ensures)
     (c .before .before .before .before .before .before .choose .ensures ∙ ap (λ (k : ℕ). chosen (t (k / 2)) (code / 32 % 8)) (c .before .before .before .before .before .before .before .literal .ensures))
 
-pub unit-move-spec : {M : Type 1} → statement M
-unit-move-spec =
+pub first-unit-spec : {M : Type 1} → statement M
+first-unit-spec =
     tie.close
     (tie.spec
     first-requires
-    code-at-requires
+    code-requires
     literal-requires
     cast-choose
     cast-choose-2
