@@ -1,16 +1,16 @@
--- The columns and runs of a block make up its weighted sum, modulo 65,521. Assumes nothing.
+-- The rows of a block make up its weighted sum, modulo 65,521. Assumes nothing.
 use mathlib.Core.Path.{_≡_, _∙_, ap, sym, refl}
 use mathlib.Core.List.{List}
 use Prim.Native.Nat.{ℕ, zero, suc, _+_, _-_, _*_, _/_, _%_, _<_, _≤_}
-use native.Mathlib.Nat.{le-refl, add-zero, zero-add, add-suc, suc-add, mul-zero, zero-mul, mul-suc, mul-comm, mul-one, mul-add, add-mul, mul-assoc, mul-left-comm, mul-le-mul, mod-lt, add-mod, div-add-mod, mul-add-mod-self-left}
+use native.Mathlib.Nat.{add-zero, add-suc, mul-zero, mul-suc, mul-comm, mul-one, mul-add, mul-assoc, mul-left-comm, mul-le-mul, mod-lt, add-mod, div-add-mod, mul-add-mod-self-left}
 use native.Mathlib.Numerals.{add-one}
 use native.Mathlib.Omega.{arith}
 use native.Mathlib.Decide.{ℕ-discrete}
 use lib.Dec.{lit<}
 use lib.ListN.{length, getD, set, drop}
-use lib.Seq.{getD-drop, getD-set-same, getD-set-other}
+use lib.Seq.{drop-drop, getD-drop, getD-set-same, getD-set-other}
 use Rattle.scope.specs.Block.{weight, weighted, checkOf}
-use Rattle.checksum.specs.Sums.{column, Columns, run}
+use Rattle.checksum.specs.Sums.{Rows, rowsSum}
 
 -- a factor may be taken modulo 65,521
 mul-mod : (a b : ℕ) → (a * (b % 65521)) % 65521 ≡ (a * b) % 65521
@@ -39,10 +39,6 @@ weight-add m zero = rw (add-zero, mul-one) (sym (mod-small m))
     mod-small i = omega (arith, weight-small i)
 weight-add m (suc n) = rw (add-suc, weight-add m n, mul-mod 3 (weight m * weight n), mul-mod (weight m) (3 * weight n), mul-left-comm 3)
 
--- what a byte adds to a sum
-pub product-small : (b i : ℕ) → b < 256 → b * weight i ≤ 255 * 65520
-product-small b i h = mul-le-mul {n₂ = 255} {m₂ = 65520} (omega arith) (omega (arith, weight-small i))
-
 -- from a position on, the weights are those from 0 on times the one there
 weighted-from : (b : List ℕ) (m n : ℕ) → (weighted b m + weight m * weighted (drop m b) n) % 65521 ≡ weighted b (m + n) % 65521
 unfolding weighted
@@ -55,143 +51,139 @@ weighted-from b m (suc n) =
     rw mul-add (omega arith) in
     rw (add-suc, getD-drop m b n 0, apart) (sum-mod _ _ _ _ (weighted-from b m n) here)
 
--- The columns
+-- Parts
 
--- the weighted sum of the columns down to a row
-across : List ℕ → ℕ → ℕ → ℕ
-across b r zero = 0
-across b r (suc n) = across b r n + column b n r * weight n
+-- what a byte adds at most, or takes away
+pub gain-small : (x power : ℕ) → x < 256 → power < 32768 → x * power ≤ 8355585
+gain-small x power h l = mul-le-mul {n₂ = 255} {m₂ = 32767} (omega arith) (omega arith)
 
-across-none : (b : List ℕ) (n : ℕ) → across b 0 n ≡ 0
-unfolding column across
-across-none b zero = refl
-across-none b (suc n) = rw (across-none b n, zero-mul)
+-- taking away what a power lacks to 65,521 is adding it
+pub taken : (sum x power : ℕ) → power < 65521 → x * (65521 - power) ≤ sum → (sum - x * (65521 - power)) % 65521 ≡ (sum + x * power) % 65521
+taken sum x power h l =
+    let e : 65521 - power + power ≡ 65521 = omega arith in
+    let whole : x * (65521 - power) + x * power ≡ 65521 * x = sym (mul-add x (65521 - power) power) ∙ ap (x *_) e ∙ mul-comm x 65521 in
+    let f : sum + x * power ≡ 65521 * x + (sum - x * (65521 - power)) = omega (arith, whole) in
+    sym (ap (_% 65521) f ∙ mul-add-mod-self-left 65521 x (sum - x * (65521 - power)))
 
--- a row more
-across-more : (b : List ℕ) (r n : ℕ) → across b (suc r) n ≡ across b r n + weight (34 * r) * weighted (drop (34 * r) b) n
-unfolding column weighted across
-across-more b r zero = rw mul-zero
-across-more b r (suc n) =
-    let w : ℕ = weight (34 * r) in
-    let x : ℕ = getD b (34 * r + n) 0 in
-    let e : n + 34 * r ≡ 34 * r + n = omega arith in
-    let here : (column b n r + x * w) * weight n ≡ column b n r * weight n + w * (x * weight n) =
-    rw (add-mul, mul-comm x w, mul-assoc w) in
-    rw (across-more b r n, e, here, getD-drop (34 * r) b n 0, mul-add) (omega arith)
-
--- all rows
-across-rows : (b : List ℕ) (r : ℕ) → across b r 34 % 65521 ≡ weighted b (34 * r) % 65521
+pub part-none : (b : List ℕ) (at first : ℕ) → 133728361 % 65521 ≡ (first * weighted (drop at b) 0) % 65521
 unfolding weighted
-across-rows b zero = rw across-none
-across-rows b (suc r) =
-    rw (across-more b r 34, mul-suc)
-    (sum-mod _ _ _ _ (across-rows b r) refl ∙ weighted-from b (34 * r) 34)
+part-none b at first = rw mul-zero
 
--- the columns' weighted sum is the block's check
-pub columns-check : {b s : List ℕ} → Columns b s → weighted s 34 % 65521 ≡ checkOf b
-unfolding checkOf weighted across
-columns-check {b} {s} h = ap (_% 65521) (to 34 (omega arith)) ∙ across-rows b 15
+pub power-first : (first : ℕ) → first < 65521 → first ≡ (first * weight 0) % 65521
+unfolding weight
+power-first first h = rw mul-one (omega arith)
+
+pub power-next : {power : ℕ} (first j : ℕ) → power ≡ (first * weight j) % 65521 → (power * 3) % 65521 ≡ (first * weight (j + 1)) % 65521
+unfolding weight
+power-next {power} first j p =
+    rw (add-one, p, mul-comm ((first * weight j) % 65521) 3, mul-mod 3 (first * weight j), mul-mod first (3 * weight j), mul-left-comm 3)
+
+-- one byte more
+pub part-more : {power : ℕ} (sum r : ℕ) (b : List ℕ) (at first j : ℕ)
+    → sum % 65521 ≡ (first * weighted (drop at b) j) % 65521 → power ≡ (first * weight j) % 65521
+    → r % 65521 ≡ (sum + getD b (at + j) 0 * power) % 65521 → r % 65521 ≡ (first * weighted (drop at b) (j + 1)) % 65521
+unfolding weighted
+part-more {power} sum r b at first j p q s =
+    let x : ℕ = getD b (at + j) 0 in
+    let here : (x * power) % 65521 ≡ (first * (x * weight j)) % 65521 = rw (q, mul-mod x (first * weight j), mul-left-comm x first) in
+    s ∙ rw (add-one, getD-drop at b j 0, mul-add) (sum-mod _ _ _ _ p here)
+
+-- Rows
+
+-- sixteen bytes more of a row
+pub row-more : (x y : ℕ) (b : List ℕ) (at m power : ℕ)
+    → power ≡ (5 * weight m) % 65521
+    → x % 65521 ≡ (5 * weighted (drop at b) m) % 65521 → y % 65521 ≡ (power * weighted (drop (at + m) b) 16) % 65521
+    → (x + y) % 65521 ≡ (5 * weighted (drop at b) (m + 16)) % 65521
+row-more x y b at m power p q r =
+    let c : List ℕ = drop at b in
+    let w : ℕ = weight m * weighted (drop m c) 16 in
+    let here : (power * weighted (drop (at + m) b) 16) % 65521 ≡ (5 * w) % 65521 =
+    rw (p, sym (drop-drop m at b), mul-comm ((5 * weight m) % 65521), mul-mod _ (5 * weight m), mul-left-comm _ 5, mul-comm (weighted (drop m c) 16)) in
+    let whole : (5 * weighted c m + 5 * w) % 65521 ≡ (5 * weighted c (m + 16)) % 65521 =
+    rw (sym (mul-add 5 (weighted c m) w), sym (mul-mod 5 (weighted c m + w)), weighted-from c m 16, mul-mod 5 (weighted c (m + 16))) in
+    sum-mod _ _ _ _ q (r ∙ here) ∙ whole
+
+-- the four parts of a row
+pub row-parts : (s t u v : ℕ) (b : List ℕ) (at : ℕ)
+    → s % 65521 ≡ (5 * weighted (drop at b) 16) % 65521 → t % 65521 ≡ (62641 * weighted (drop (at + 16) b) 16) % 65521
+    → u % 65521 ≡ (20855 * weighted (drop (at + 32) b) 16) % 65521 → v % 65521 ≡ (43384 * weighted (drop (at + 48) b) 16) % 65521
+    → (s + t + u + v) % 65521 ≡ (5 * weighted (drop at b) 64) % 65521
+unfolding weight
+row-parts s t u v b at p q r w =
+    row-more (s + t + u) v b at 48 43384 refl (row-more (s + t) u b at 32 20855 refl (row-more s t b at 16 62641 refl p q) r) w
+
+-- one row more in the list
+pub rows-more : (b s : List ℕ) (r v : ℕ) → r < length s
+    → ((k : ℕ) → k < r → getD s k 0 % 65521 ≡ (5 * weighted (drop (64 * k) b) 64) % 65521)
+    → v % 65521 ≡ (5 * weighted (drop (64 * r) b) 64) % 65521
+    → (k : ℕ) → k < r + 1 → getD (set s r v) k 0 % 65521 ≡ (5 * weighted (drop (64 * k) b) 64) % 65521
+rows-more b s r v l each p k h = on (ℕ-discrete k r)
   where
-    to : (n : ℕ) → n ≤ 34 → weighted s n ≡ across b 15 n
-    to zero l = refl
-    to (suc n) l = rw (to n (omega arith), h .each n (omega arith))
+    on : Dec (k ≡ r) → getD (set s r v) k 0 % 65521 ≡ (5 * weighted (drop (64 * k) b) 64) % 65521
+    on (yes q) = rw (q, getD-set-same s r v 0 l) p
+    on (no q) = rw (getD-set-other s r k v 0 q) (each k (omega arith))
 
--- a column with one row more, and the power of the next row
-pub column-none : (b : List ℕ) (c : ℕ) → 0 ≡ column b c 0
-unfolding column
-column-none b c = refl
+-- The sum of the rows
 
-pub column-more : {sum power : ℕ} (b : List ℕ) (c r : ℕ)
-    → sum ≡ column b c r → power ≡ weight (34 * r) → sum + getD b (c + 34 * r) 0 * power ≡ column b c (r + 1)
-unfolding column
-column-more b c r p q = rw (add-one, p, q)
-
-pub weight-first : 1 ≡ weight 0
+pub fifth-first : 52417 ≡ (52417 * weight 0) % 65521
 unfolding weight
-weight-first = refl
+fifth-first = refl
 
-pub row-next : {power : ℕ} (r : ℕ) → power ≡ weight (34 * r) → (power * 37539) % 65521 ≡ weight (34 * (r + 1))
+pub fifth-next : {power : ℕ} (r : ℕ) → power ≡ (52417 * weight (64 * r)) % 65521 → (power * 34176) % 65521 ≡ (52417 * weight (64 * (r + 1))) % 65521
 unfolding weight
-row-next r p =
-    let e : 34 * (r + 1) ≡ 34 * r + 34 = omega arith in
-    rw (e, p) (sym (weight-add (34 * r) 34))
+fifth-next r p =
+    let e : 64 * (r + 1) ≡ 64 * r + 64 = omega arith in
+    rw (e, p, mul-comm _ 34176, mul-mod 34176 (52417 * weight (64 * r)), weight-add (64 * r) 64, mul-mod 52417, mul-left-comm 34176 52417, mul-comm 34176)
 
--- one column more
-pub columns-more : (b s : List ℕ) (c v : ℕ) → c < length s → ((k : ℕ) → k < c → getD s k 0 ≡ column b k 15) → v ≡ column b c 15
-    → (k : ℕ) → k < c + 1 → getD (set s c v) k 0 ≡ column b k 15
-columns-more b s c v l each p k h = on (ℕ-discrete k c)
-  where
-    on : Dec (k ≡ c) → getD (set s c v) k 0 ≡ column b k 15
-    on (yes q) = rw (q, getD-set-same s c v 0 l) p
-    on (no q) = rw (getD-set-other s c k v 0 q) (each k (omega arith))
+pub sum-none : (s : List ℕ) → 0 ≡ rowsSum s 0
+unfolding rowsSum
+sum-none s = refl
 
--- Runs
+pub sum-more : {sum power : ℕ} (s : List ℕ) (r : ℕ)
+    → sum ≡ rowsSum s r → power ≡ (52417 * weight (64 * r)) % 65521 → sum + getD s r 0 * power ≡ rowsSum s (r + 1)
+unfolding rowsSum
+sum-more s r p q = rw (add-one, p, q)
 
--- the runs up to a position, and one more
-pub run-more : (s : List ℕ) (i n : ℕ) → (weighted s i + weight i * run s i n) % 65521 ≡ weighted s (i + n) % 65521
-unfolding run weighted weight
-run-more s i zero = rw (add-zero, mul-zero, add-zero)
-run-more s i (suc n) =
-    let w : ℕ = weight i in
-    let x : ℕ = getD s i 0 in
-    let rest : ℕ = run s (suc i) n in
-    let apart : weighted s i + w * (x + 3 * rest) ≡ weighted s i + x * w + w * (3 * rest) = rw (mul-add, mul-comm x w) (omega arith) in
-    let here : (w * (3 * rest)) % 65521 ≡ ((3 * w) % 65521 * rest) % 65521 =
-    rw (mul-comm ((3 * w) % 65521) rest, mul-mod rest (3 * w), mul-left-comm w 3 rest, mul-left-comm rest 3 w, mul-comm rest w) in
-    let next : i + suc n ≡ suc i + n = rw (add-suc, suc-add) in
-    rw (apart, next) (sum-mod _ _ _ _ refl here ∙ run-more s (suc i) n)
+-- what a row adds to the sum
+pub row-small : (x power : ℕ) → x < 4294967296 → power < 65521 → x * power ≤ 281406257168400
+row-small x power h l = mul-le-mul {n₂ = 4294967295} {m₂ = 65520} (omega arith) (omega arith)
 
-pub run-none : (s : List ℕ) (i : ℕ) → 0 ≡ run s i 0
-unfolding run
-run-none s i = refl
+-- a row by a fifth of its weight is what it adds to the block's sum
+fifth : (x w whole : ℕ) → x % 65521 ≡ (5 * whole) % 65521 → (x * ((52417 * w) % 65521)) % 65521 ≡ (w * whole) % 65521
+fifth x w whole p =
+    let one : 52417 * w * (5 * whole) ≡ 65521 * (4 * (w * whole)) + w * whole = rw (mul-assoc 52417 w, mul-left-comm w 5 whole) (omega arith) in
+    rw (mul-mod x (52417 * w), mul-comm x, sym (mul-mod (52417 * w) x), p, mul-mod (52417 * w) (5 * whole), one)
+    (mul-add-mod-self-left 65521 (4 * (w * whole)) (w * whole))
 
--- a run that starts a position earlier
-pub run-before : {sum : ℕ} (s : List ℕ) (from j : ℕ)
-    → 0 < j → j ≤ 17 → sum ≡ run s (from + j) (17 - j) → getD s (from + (j - 1)) 0 + 3 * sum ≡ run s (from + (j - 1)) (17 - (j - 1))
-unfolding run
-run-before s from j h l p =
-    let e : 17 - (j - 1) ≡ suc (17 - j) = omega arith in
-    let f : suc (from + (j - 1)) ≡ from + j = omega arith in
-    rw (e, f, p)
+rows-sum : {b s : List ℕ} → Rows b s → (r : ℕ) → r ≤ 8 → rowsSum s r % 65521 ≡ weighted b (64 * r) % 65521
+unfolding rowsSum weighted
+rows-sum h zero l = refl
+rows-sum {b} {s} h (suc r) l =
+    rw mul-suc
+    (sum-mod _ _ _ _ (rows-sum h r (omega arith)) (fifth _ (weight (64 * r)) _ (h .each r (omega arith))) ∙ weighted-from b (64 * r) 64)
 
--- the largest that a run of n 32-bit numbers can be
-top : ℕ → ℕ
-top zero = 0
-top (suc n) = 3 * top n + 4294967295
+-- two bytes more
+two-more : (b : List ℕ) (n : ℕ) → weighted b (n + 2) ≡ weighted b n + getD b n 0 * weight n + getD b (n + 1) 0 * weight (n + 1)
+unfolding weighted
+two-more b n =
+    let e : n + 2 ≡ suc (suc n) = omega arith in
+    rw (e, add-one)
 
-top-more : (k n : ℕ) → top n ≤ top (k + n)
-unfolding top
-top-more zero n = rw zero-add (le-refl (top n))
-top-more (suc k) n = rw suc-add (omega (arith, top-more k n))
-
-module _ (s : List ℕ) (small : (i : ℕ) → getD s i 0 < 4294967296) where
-  run-top : (n i : ℕ) → run s i n ≤ top n
-  unfolding run top
-  run-top zero i = omega arith
-  run-top (suc n) i = omega (arith, run-top n (suc i), small i)
-
-  -- .. and so a run of 17 numbers, or of fewer, is below 2 ^ 64
-  pub run-small : (i n : ℕ) → n ≤ 17 → run s i n ≤ 277326386130500895
-  unfolding top
-  run-small i n h =
-      let e : (17 - n) + n ≡ 17 = omega arith in
-      omega (arith, run-top n i, rw e at (top-more (17 - n) n))
-
-pub sum-next : {r power : ℕ} (sum : ℕ) (s : List ℕ) (k : ℕ)
-    → sum % 65521 ≡ weighted s (17 * k) % 65521 → r ≡ run s (17 * k) 17 → power ≡ weight (17 * k)
-    → (sum + r % 65521 * power) % 65521 ≡ weighted s (17 * (k + 1)) % 65521
-sum-next {r} {power} sum s k p q w =
-    let here : (r % 65521 * power) % 65521 ≡ (weight (17 * k) * run s (17 * k) 17) % 65521 =
-    rw (mul-comm (r % 65521) power, mul-mod power r, q, w) in
-    let e : 17 * (k + 1) ≡ 17 * k + 17 = omega arith in
-    rw e (sum-mod _ _ _ _ p here ∙ run-more s (17 * k) 17)
-
--- what a run adds to the sum
-pub part-small : (r k : ℕ) → r % 65521 * weight k ≤ 65520 * 65520
-part-small r k = mul-le-mul {n₂ = 65520} {m₂ = 65520} (omega (arith, mod-lt r {m = 65521} (lit< tt))) (omega (arith, weight-small k))
-
-pub run-next : {power : ℕ} (k : ℕ) → power ≡ weight (17 * k) → (power * 63793) % 65521 ≡ weight (17 * (k + 1))
+last-weights : (weight 510 ≡ 35764) × (weight 511 ≡ 41771)
 unfolding weight
-run-next k p =
-    let e : 17 * (k + 1) ≡ 17 * k + 17 = omega arith in
-    rw (e, p) (sym (weight-add (17 * k) 17))
+last-weights = (refl, refl)
+
+-- without the check's own bytes it is the block's check
+lacking : (x y z : ℕ) → (x + y * 35764 + z * 41771 + (29757 * y + 23750 * z)) % 65521 ≡ x % 65521
+lacking x y z =
+    let e : x + y * 35764 + z * 41771 + (29757 * y + 23750 * z) ≡ 65521 * (y + z) + x = omega arith in
+    ap (_% 65521) e ∙ mul-add-mod-self-left 65521 (y + z) x
+
+pub rows-check : {b s : List ℕ} {sum : ℕ} → Rows b s → sum ≡ rowsSum s 8
+    → (sum + (29757 * getD b 510 0 + 23750 * getD b 511 0)) % 65521 ≡ checkOf b
+unfolding checkOf
+rows-check {b} {s} {sum} h p =
+    let whole : sum % 65521 ≡ (weighted b 510 + getD b 510 0 * 35764 + getD b 511 0 * 41771) % 65521 =
+    ap (_% 65521) p ∙ rows-sum h 8 (omega arith) ∙ ap (_% 65521) (two-more b 510 ∙ rw (last-weights .0, last-weights .1)) in
+    sum-mod _ _ _ _ whole refl ∙ lacking (weighted b 510) (getD b 510 0) (getD b 511 0)

@@ -1,77 +1,89 @@
-// The check of a block. No weight is stored: the power of 3 is carried through the sum. A block's bytes are 15 rows of 34. The sums of the
-// columns need one power a row, and the compiler makes them into vector code, four columns at a time; the sum over the columns needs one
-// power for each run of 17.
+// The check of a block. No weight is stored: the power of 3 is carried through the sum. A block's 512 bytes are eight rows of 64, each in
+// four parts, and what the check itself adds is taken off again. The compiler makes a row into vector code whose factors are 16-bit
+// numbers with a sign: so of a power from 32,768 on, what it lacks to 65,521 is taken away instead. Rows are summed five times over, so
+// that no power in a row is one of 2, which would be a shift and no product.
 ghost use mathlib.Core.Path.{_≡_};
-ghost use Prim.Native.Nat.{_+_, _%_, _<_, _≤_};
-ghost use lib.ListN.{length};
+ghost use Prim.Native.Nat.{_+_, _*_, _%_, _<_, _≤_};
+ghost use lib.ListN.{length, drop};
 ghost use Rattle.scope.specs.Block.{weighted, checkOf};
-ghost use Rattle.checksum.specs.Sums.{column, Columns, run};
+ghost use Rattle.checksum.specs.Sums.{Rows, rowsSum};
 
-// Column c of a block: a row starts with the power of the row before × 3 ^ 34, which is 37,539 modulo 65,521.
-fn column_of(b: &[u8], c: usize) -> u32
-    requires { ⌜ (512 ≤ length (now b)) × (c < 36) ⌝ }
-    ensures { λ r. ⌜ r ≡ column (now (b .entry)) c 15 ⌝ }
+// A byte by its power is added, modulo 65,521.
+fn added(sum: u32, x: u32, power: u32) -> u32
+    requires { ⌜ (x < 256) × (power < 65521) × (8355585 ≤ sum) × (sum ≤ 1000000000) ⌝ }
+    ensures { λ r. ⌜ (r % 65521 ≡ (sum + x * power) % 65521) × (r ≤ sum + 8355585) × (sum ≤ r + 8355585) ⌝ }
 {
-    let mut sum: u32 = 0;
-    let mut power: u32 = 1;
-    let mut row = 0;
-    while row < 15 {
-        sum += (b[c + 34 * row] as u32) * power;
-        power = power * 37539 % 65521;
-        row += 1;
+    if power < 32768 {
+        return sum + x * power;
+    }
+    sum - x * (65521 - power)
+}
+
+// Sixteen bytes from a position on, the first by a power: what it starts with is 0 modulo 65,521, and no less than what is taken away.
+fn part_of(b: &[u8], at: usize, first: u32) -> u32
+    requires { ⌜ (at + 16 ≤ length (now b)) × (first < 65521) ⌝ }
+    ensures { λ r. ⌜ (r % 65521 ≡ (first * weighted (drop at (now (b .entry))) 16) % 65521) × (r ≤ 267417721) ⌝ }
+{
+    let mut sum: u32 = 133728361;
+    let mut power = first;
+    let mut j = 0;
+    while j < 16 {
+        sum = added(sum, b[at + j] as u32, power);
+        power = power * 3 % 65521;
+        j += 1;
     }
     sum
 }
 
-// All its columns, and two more, which nothing counts: so they go by fours.
-fn columns(b: &[u8]) -> [u32; 36]
-    requires { ⌜ 512 ≤ length (now b) ⌝ }
-    ensures { λ r. ⌜ Columns (now (b .entry)) r ⌝ }
+// A row from a position on, five times over: its parts start with 5 × 3 ^ 0, 3 ^ 16, 3 ^ 32 and 3 ^ 48.
+fn row_of(b: &[u8], at: usize) -> u32
+    requires { ⌜ at + 64 ≤ length (now b) ⌝ }
+    ensures { λ r. ⌜ r % 65521 ≡ (5 * weighted (drop at (now (b .entry))) 64) % 65521 ⌝ }
 {
-    let mut sums = [0u32; 36];
-    let mut c = 0;
-    while c < 36 {
-        sums[c] = column_of(b, c);
-        c += 1;
+    let s = part_of(b, at, 5);
+    let t = part_of(b, at + 16, 62641);
+    let u = part_of(b, at + 32, 20855);
+    let v = part_of(b, at + 48, 43384);
+    s + t + u + v
+}
+
+// All rows.
+fn rows(b: &[u8]) -> [u32; 8]
+    requires { ⌜ 512 ≤ length (now b) ⌝ }
+    ensures { λ r. ⌜ Rows (now (b .entry)) r ⌝ }
+{
+    let mut sums = [0u32; 8];
+    let mut r = 0;
+    while r < 8 {
+        sums[r] = row_of(b, 64 * r);
+        r += 1;
     }
     sums
 }
 
-// A run of 17 numbers, last to first, so that no power is needed: below 2 ^ 58.
-fn run_of(s: &[u32], from: usize) -> u64
-    requires { ⌜ from + 17 ≤ length (now s) ⌝ }
-    ensures { λ r. ⌜ r ≡ run (now (s .entry)) from 17 ⌝ }
+// The sum of the rows, each by a fifth of the power that it starts with: 5 × 52,417 is 1, and 3 ^ 64 is 34,176, modulo 65,521.
+fn weighed(s: &[u32]) -> u64
+    requires { ⌜ length (now s) ≡ 8 ⌝ }
+    ensures { λ r. ⌜ (r ≡ rowsSum (now (s .entry)) 8) × (r ≤ 2251250057347200) ⌝ }
 {
     let mut sum: u64 = 0;
-    let mut j = 17;
-    while 0 < j {
-        j -= 1;
-        sum = (s[from + j] as u64) + 3 * sum;
+    let mut power: u32 = 52417;
+    let mut r = 0;
+    while r < 8 {
+        sum += (s[r] as u64) * (power as u64);
+        power = power * 34176 % 65521;
+        r += 1;
     }
     sum
 }
 
-// The weighted sum of the first 34 of 36 numbers, modulo 65,521: a run starts with the power of the run before × 3 ^ 17, which is 63,793.
-fn weighed(s: &[u32]) -> u16
-    requires { ⌜ length (now s) ≡ 36 ⌝ }
-    ensures { λ r. ⌜ r ≡ weighted (now (s .entry)) 34 % 65521 ⌝ }
-{
-    let mut sum: u64 = 0;
-    let mut power: u32 = 1;
-    let mut k = 0;
-    while k < 2 {
-        sum += run_of(s, 17 * k) % 65521 * (power as u64);
-        power = power * 63793 % 65521;
-        k += 1;
-    }
-    (sum % 65521) as u16
-}
-
-// The check of a block, which b starts with.
+// The check of a block, which b starts with: 29,757 and 23,750 are what 3 ^ 510 and 3 ^ 511 lack to 65,521.
 pub fn check_of(b: &[u8]) -> u16
     requires { ⌜ 512 ≤ length (now b) ⌝ }
     ensures { λ r. ⌜ r ≡ checkOf (now (b .entry)) ⌝ }
 {
-    let sums = columns(b);
-    weighed(&sums)
+    let sums = rows(b);
+    let sum = weighed(&sums);
+    let lacks = 29757 * (b[510] as u64) + 23750 * (b[511] as u64);
+    ((sum + lacks) % 65521) as u16
 }

@@ -1,48 +1,57 @@
--- `checksum::weighed` meets its contract. The power is the weight that the run starts with, and each run adds at most 65,520 × 65,520.
--- Assumes nothing.
-use mathlib.Core.Path.{_≡_, refl}
-use Prim.Native.Nat.{_≤_, _-_, _*_, _%_}
+-- `checksum::weighed` meets its contract. The power is a fifth of the weight that the row starts with. Assumes nothing.
+use mathlib.Core.Path.{_≡_}
+use Prim.Native.Nat.{_≤_, _-_, _*_, _%_, _<_}
+use lib.ListN.{getD}
+use lib.Dec.{lit<}
+use native.Mathlib.Nat.{mod-lt}
 use native.Mathlib.Omega.{arith}
 use borrow.Author.Needs.{needs}
-use Rattle.scope.specs.Block.{weight, weighted}
-use Rattle.checksum.proofs.Sums.{weight-small, weight-first, part-small, sum-next, run-next}
+use Rattle.scope.specs.Block.{weight}
+use Rattle.checksum.specs.Sums.{rowsSum}
+use Rattle.checksum.proofs.Sums.{fifth-first, fifth-next, sum-none, sum-more, row-small}
 use Rattle.checksum.proofs.weighed.Statement.{statement}
 use Rattle.checksum.proofs.weighed.Tie as tie
 
 abbrev Inv-loop : tie.InvT-loop
-Inv-loop s sum₀ power₀ k₀ sum power k = (k ≤ 2) × (sum % 65521 ≡ weighted s (17 * k) % 65521) × (sum ≤ k * 4292870400) × (power ≡ weight (17 * k))
+Inv-loop s sum₀ power₀ r₀ sum power r =
+    (r ≤ 8) × (sum ≡ rowsSum s r) × (sum ≤ r * 281406257168400) × (power ≡ (52417 * weight (64 * r)) % 65521)
 
 abbrev μ-loop : tie.MeasureT-loop
-μ-loop s sum₀ power₀ k₀ sum power k = 2 - k
+μ-loop s sum₀ power₀ r₀ sum power r = 8 - r
 
--- in a turn: what the run adds
-part : (c : tie.After-run-of Inv-loop μ-loop) → c .run-of .result % 65521 * c .before .before .loop .power ≤ 4292870400
-part c = rw (c .before .before .loop .inv .3) (part-small _ _)
+-- in a turn: the power is small, and so is what the row adds
+small : (c : tie.After-shared-slice-known Inv-loop μ-loop) → c .before .before .loop .power < 65521
+small c = rw (c .before .before .loop .inv .3) (mod-lt _ (lit< tt))
+
+product : (c : tie.After-shared-slice-known Inv-loop μ-loop) → getD (c .before .before .before .args .s .now) (c .before .before .loop .r) 0 * c .before .before .loop .power ≤ 281406257168400
+product c = row-small _ _ (c .shared-slice-known .given (c .before .before .loop .r) .fits) (small c)
 
 loop-holds : tie.Need-loop-holds Inv-loop μ-loop
-unfolding weighted
-loop-holds c = (omega arith, refl, omega arith, weight-first)
-
-mul-run-of : tie.Need-mul-run-of Inv-loop μ-loop
-mul-run-of c = search needs
-
-run-of-requires : tie.Need-run-of-requires Inv-loop μ-loop
-run-of-requires c κs = search needs
-
-cast-sum : tie.Need-cast-sum Inv-loop μ-loop
-cast-sum c = omega (arith, weight-small (17 * c .before .before .loop .k))
+loop-holds c = (omega arith, sum-none _, omega arith, fifth-first)
 
 mul-sum : tie.Need-mul-sum Inv-loop μ-loop
-mul-sum c = omega (arith, part c)
+mul-sum c = search needs
+
+shared-slice-read-sum : tie.Need-shared-slice-read-sum Inv-loop μ-loop
+shared-slice-read-sum c = search needs
+
+cast-sum : tie.Need-cast-sum Inv-loop μ-loop
+cast-sum c = omega (arith, c .shared-slice-known .given (c .before .before .loop .r))
+
+cast-sum-2 : tie.Need-cast-sum-2 Inv-loop μ-loop
+cast-sum-2 c = omega (arith, small c)
+
+mul-sum-2 : tie.Need-mul-sum-2 Inv-loop μ-loop
+mul-sum-2 c = omega (arith, product c)
 
 add-sum : tie.Need-add-sum Inv-loop μ-loop
-add-sum c = omega (arith, part c)
+add-sum c = omega (arith, product c)
 
 mul-power : tie.Need-mul-power Inv-loop μ-loop
-mul-power c = omega (arith, weight-small (17 * c .before .before .loop .k))
+mul-power c = omega (arith, small c)
 
-add-k : tie.Need-add-k Inv-loop μ-loop
-add-k c = search needs
+add-r : tie.Need-add-r Inv-loop μ-loop
+add-r c = search needs
 
 loop-less : tie.Need-loop-less Inv-loop μ-loop
 loop-less c = search needs
@@ -50,18 +59,15 @@ loop-less c = search needs
 loop-again : tie.Need-loop-again Inv-loop μ-loop
 loop-again c = (
   omega arith,
-  sum-next _ _ (c .before .before .loop .k) (c .before .before .loop .inv .1) (c .run-of .ensures) (c .before .before .loop .inv .3),
-  omega (arith, part c),
-  run-next _ (c .before .before .loop .inv .3),
+  sum-more _ (c .before .before .loop .r) (c .before .before .loop .inv .1) (c .before .before .loop .inv .3),
+  omega (arith, product c),
+  fifth-next (c .before .before .loop .r) (c .before .before .loop .inv .3),
 )
-
-cast-result : tie.Need-cast-result Inv-loop μ-loop
-cast-result c = search needs
 
 returns : tie.Need-returns Inv-loop μ-loop
 returns c =
-    let whole : c .before .loop .k ≡ 2 = omega arith in
-    rw whole at (c .before .loop .inv .1)
+    let whole : c .before .loop .r ≡ 8 = omega arith in
+    (rw whole at (c .before .loop .inv .1), omega arith)
 
 pub weighed-spec : {M : Type 1} → statement M
 weighed-spec =
@@ -70,14 +76,14 @@ weighed-spec =
     Inv-loop
     μ-loop
     loop-holds
-    mul-run-of
-    run-of-requires
-    cast-sum
     mul-sum
+    shared-slice-read-sum
+    cast-sum
+    cast-sum-2
+    mul-sum-2
     add-sum
     mul-power
-    add-k
+    add-r
     loop-less
     loop-again
-    cast-result
     returns)
