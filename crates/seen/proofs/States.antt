@@ -1,58 +1,46 @@
 -- A clause's state as the loop makes it, from its last slot down. Assumes nothing.
 use mathlib.Core.Path.{_≡_, refl, sym, ap, _∙_, subst}
 use mathlib.Core.List.{List, [], _∷_}
-use Prim.Native.Nat.{ℕ, _+_, _-_, _<_, _≤_}
+use mathlib.Core.Bool.{cond}
+use Prim.Native.Nat.{ℕ, _+_, _-_, _*_, _<_, _≤_}
+use lib.Dec.{eqb}
+use borrow.Author.Tests.{ne-eqb, le-leb, lt-leb}
 use native.Mathlib.Omega.{arith}
 use Rattle.scope.proofs.Lists.{listFrom-turn, listFrom-done}
-use Rattle.calculus.specs.Order.{Value, holds, fails, undecided, State, met, empty, one, many, valueOf, opened, joined, stateOf}
+use Rattle.calculus.specs.Order.{Value, holds, fails, undecided, State, met, empty, one, many, valueOf, joined, stateOf}
 use Rattle.calculus.specs.Model.{All}
 use Rattle.area.specs.Area.{slotAt, gOf, valueCode}
-use Rattle.seen.specs.Seen.{literalsFrom}
+use Rattle.seen.specs.Seen.{weightBy, stateBy, literalsFrom}
 
--- ---- one more literal, of a value as a number
+-- ---- the sum of a clause's literals
 
-module _ (v : Value) {code : ℕ} (e : code ≡ valueCode v) where
-  pub value-undecided : code ≡ 0 → v ≡ undecided
-  value-undecided z = go v (sym e ∙ z)
-    where
-      go : (v : Value) → valueCode v ≡ 0 → v ≡ undecided
-      go holds q = absurd (omega arith)
-      go fails q = absurd (omega arith)
-      go undecided q = refl
+-- how the sum of at most m literals, and the first undecided one, say what a clause is
+abbrev pub Sums : ℕ → ℕ → ℕ → State → Type 0
+Sums m sum first met = 65536 ≤ sum
+Sums m sum first empty = sum ≡ 0
+Sums m sum first (one l) = (sum ≡ 1) × (first ≡ l) × (1 ≤ m)
+Sums m sum first (many l) = (2 ≤ sum) × (sum ≤ m) × (first ≡ l)
 
-  pub value-holds : code ≡ 1 → v ≡ holds
-  value-holds z = go v (sym e ∙ z)
-    where
-      go : (v : Value) → valueCode v ≡ 1 → v ≡ holds
-      go holds q = refl
-      go fails q = absurd (omega arith)
-      go undecided q = absurd (omega arith)
+-- one more literal in front of the others
+pub sums-more : (v : Value) (m sum first l : ℕ) (x : State)
+    → Sums m sum first x → Sums (m + 1) (sum + weightBy (valueCode v)) (cond (eqb (weightBy (valueCode v)) 1) l first) (joined v l x)
+sums-more holds m sum first l x h = omega arith
+sums-more fails m sum first l met h = omega arith
+sums-more fails m sum first l empty h = omega arith
+sums-more fails m sum first l (one k) h = (omega arith, h .1, omega arith)
+sums-more fails m sum first l (many k) h = (omega arith, omega arith, h .2)
+sums-more undecided m sum first l met h = omega arith
+sums-more undecided m sum first l empty h = (omega arith, refl, omega arith)
+sums-more undecided m sum first l (one k) h = (omega arith, omega arith, refl)
+sums-more undecided m sum first l (many k) h = (omega arith, omega arith, refl)
 
-  pub value-fails : (code ≡ 0 → ⊥) → (code ≡ 1 → ⊥) → v ≡ fails
-  value-fails z o = go v e
-    where
-      go : (v : Value) → code ≡ valueCode v → v ≡ fails
-      go holds q = absurd (o q)
-      go fails q = refl
-      go undecided q = absurd (z q)
-
--- ---- the literal in slot s in front of others
-
-module _ (w : List ℕ) (s : ℕ) {l code : ℕ} (g : l ≡ slotAt w s) (e : code ≡ valueCode (valueOf (gOf w) l)) (x : State) where
-  abbrev before : State
-  before = joined (valueOf (gOf w) (slotAt w s)) (slotAt w s) x
-
-  value-is : code ≡ valueCode (valueOf (gOf w) (slotAt w s))
-  value-is = e ∙ ap (λ (m : ℕ). valueCode (valueOf (gOf w) m)) g
-
-  pub joined-undecided : code ≡ 0 → opened l x ≡ before
-  joined-undecided z = ap (λ (m : ℕ). opened m x) g ∙ sym (ap (λ (v : Value). joined v (slotAt w s) x) (value-undecided (valueOf (gOf w) (slotAt w s)) value-is z))
-
-  pub joined-holds : code ≡ 1 → met ≡ before
-  joined-holds z = sym (ap (λ (v : Value). joined v (slotAt w s) x) (value-holds (valueOf (gOf w) (slotAt w s)) value-is z))
-
-  pub joined-fails : (code ≡ 0 → ⊥) → (code ≡ 1 → ⊥) → x ≡ before
-  joined-fails z o = sym (ap (λ (v : Value). joined v (slotAt w s) x) (value-fails (valueOf (gOf w) (slotAt w s)) value-is z o))
+-- what the clause is
+pub sums-state : (m sum first : ℕ) (x : State) → m < 65536 → Sums m sum first x → stateBy sum first ≡ x
+sums-state m sum first met l h = simp (le-leb 65536 sum h)
+sums-state m sum first empty l h = rw h
+sums-state m sum first (one k) l h = rw (h .0, h .1)
+sums-state m sum first (many k) l h =
+    simp (lt-leb 65536 sum (omega arith), ne-eqb sum 0 (λ z. omega arith), ne-eqb sum 1 (λ z. omega arith), h .2)
 
 -- ---- the slots from s on
 
@@ -61,14 +49,34 @@ module _ (w : List ℕ) where
   unfolding stateOf
   state-none s e h = rw (listFrom-done (slotAt w) s e h)
 
-  pub state-more : (s e : ℕ) {x r : State} → 0 < s → s ≤ e → x ≡ stateOf (gOf w) (literalsFrom w s (e - s))
-      → r ≡ joined (valueOf (gOf w) (slotAt w (s - 1))) (slotAt w (s - 1)) x → r ≡ stateOf (gOf w) (literalsFrom w (s - 1) (e - (s - 1)))
+  pub state-more : (s e : ℕ) → 0 < s → s ≤ e
+      → joined (valueOf (gOf w) (slotAt w (s - 1))) (slotAt w (s - 1)) (stateOf (gOf w) (literalsFrom w s (e - s)))
+      ≡ stateOf (gOf w) (literalsFrom w (s - 1) (e - (s - 1)))
   unfolding stateOf
-  state-more s e h b q p =
+  state-more s e h b =
       let z : s - 1 + 1 ≡ s = omega arith in
-      p ∙ ap (joined (valueOf (gOf w) (slotAt w (s - 1))) (slotAt w (s - 1))) q
-      ∙ sym (ap (stateOf (gOf w)) (listFrom-turn (slotAt w) (s - 1) e (omega arith))
+      sym (ap (stateOf (gOf w)) (listFrom-turn (slotAt w) (s - 1) e (omega arith))
       ∙ ap (λ (y : ℕ). joined (valueOf (gOf w) (slotAt w (s - 1))) (slotAt w (s - 1)) (stateOf (gOf w) (literalsFrom w y (e - y)))) z)
+
+  -- what has been summed from slot s on
+  abbrev pub Summed : ℕ → ℕ → ℕ → ℕ → Type 0
+  Summed s e sum first = (sum ≤ 65536 * (e - s)) × Sums (e - s) sum first (stateOf (gOf w) (literalsFrom w s (e - s)))
+
+  pub summed-none : (s e first : ℕ) → e ≤ s → Summed s e 0 first
+  summed-none s e first h =
+      let none : Sums (e - s) 0 first empty = refl in
+      (omega arith, subst (Sums (e - s) 0 first) (sym (state-none s e h)) none)
+
+  pub summed-more : (s e sum first : ℕ) {l v u : ℕ} → 0 < s → s ≤ e → l ≡ slotAt w (s - 1) → v ≡ valueCode (valueOf (gOf w) l) → u ≡ weightBy v
+      → u ≤ 65536 → Summed s e sum first → Summed (s - 1) e (sum + u) (cond (eqb u 1) l first)
+  summed-more s e sum first h b g p q small (low, is) =
+      let z : e - (s - 1) ≡ e - s + 1 = omega arith in (
+        omega (arith, z, low, small),
+        rw (sym (state-more s e h b), z, q, p, g) (sums-more (valueOf (gOf w) (slotAt w (s - 1))) (e - s) sum first (slotAt w (s - 1)) _ is),
+      )
+
+  pub summed-all : (s e sum first : ℕ) → e ≤ 8144 → Summed s e sum first → stateBy sum first ≡ stateOf (gOf w) (literalsFrom w s (e - s))
+  summed-all s e sum first h is = sums-state (e - s) sum first _ (omega arith) (is .1)
 
 -- ---- the one literal of a clause that is not false: one of its own, and undecided
 

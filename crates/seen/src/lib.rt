@@ -1,11 +1,11 @@
 // What a clause of the checker's work area is under the literals held, by its true and its undecided literals: all that version two of the
-// steps asks. No strike is looked at.
+// steps asks. No strike is looked at. The literals are summed by weight, with no branch on their values, which cannot be guessed.
 ghost use mathlib.Core.Path.{_≡_};
+ghost use mathlib.Core.Bool.{cond};
 ghost use Prim.Native.Nat.{ℕ, _+_, _*_, _<_, _≤_};
-ghost use lib.ListN.{length};
-ghost use Rattle.calculus.specs.Order.{opened, joined, valueOf};
-ghost use Rattle.area.specs.Area.{areaSize, mostNodes, mostSlots, clauseCount, baseAt, slotAt, trailAt, gOf, Vals, Ranged};
-ghost use Rattle.seen.specs.Seen.{seenOf, stateIn};
+ghost use lib.Dec.{eqb};
+ghost use Rattle.area.specs.Area.{mostNodes, clauseCount, baseAt, slotAt, trailAt, Vals, Ranged};
+ghost use Rattle.seen.specs.Seen.{seenOf, weightBy, stateBy, stateIn};
 
 // A literal is true; all are false; none is true, and one is undecided; or several are, and this is the first.
 pub enum Seen {
@@ -15,33 +15,43 @@ pub enum Seen {
     Many(u16),
 }
 
-// One more undecided literal in front of the others.
-fn opened(l: u16, s: Seen) -> Seen
-    ensures { λ r. ⌜ seenOf r ≡ opened l (seenOf s) ⌝ }
+// What a literal of a value adds to the sum.
+fn weight(v: u16) -> u32
+    ensures { λ r. ⌜ (r ≡ weightBy v) × (r ≤ 65536) ⌝ }
 {
-    match s {
-        Seen::Met => Seen::Met,
-        Seen::Empty => Seen::One(l),
-        Seen::One(_) => Seen::Many(l),
-        Seen::Many(_) => Seen::Many(l),
-    }
-}
-
-// One more literal, in slot s, in front of the others.
-fn joined(work: &[u16], n: usize, s: usize, seen: Seen) -> Seen
-    requires { ⌜ (areaSize ≤ length (now work)) × (n ≤ mostNodes) × (s < mostSlots) × (slotAt (now work) s < 2 * n) ⌝ }
-    requires { ⌜ Vals n (trailAt (now work)) ⌝ }
-    ensures { λ r. ⌜ seenOf r ≡ joined (valueOf (gOf (now (work .entry))) (slotAt (now (work .entry)) s)) (slotAt (now (work .entry)) s) (seenOf seen) ⌝ }
-{
-    let l = area::literal_in(work, s);
-    let v = area::value(work, n, l);
     if v == 0 {
-        return opened(l, seen);
+        return 1;
     }
     if v == 1 {
+        return 65536;
+    }
+    0
+}
+
+// The first undecided literal, with l in front of the others.
+fn nearer(weight: u32, l: u16, first: u16) -> u16
+    ensures { λ r. ⌜ r ≡ cond (eqb weight 1) l first ⌝ }
+{
+    if weight == 1 {
+        return l;
+    }
+    first
+}
+
+// What a clause is, by the sum of its literals and the first undecided one.
+fn state_of(sum: u32, first: u16) -> Seen
+    ensures { λ r. ⌜ seenOf r ≡ stateBy sum first ⌝ }
+{
+    if 65536 <= sum {
         return Seen::Met;
     }
-    seen
+    if sum == 0 {
+        return Seen::Empty;
+    }
+    if sum == 1 {
+        return Seen::One(first);
+    }
+    Seen::Many(first)
 }
 
 // What clause k is.
@@ -52,10 +62,14 @@ pub fn clause_state(work: &[u16], n: usize, k: usize) -> Seen
 {
     let start = area::base(work, k);
     let mut s = area::base(work, k + 1);
-    let mut seen = Seen::Empty;
+    let mut sum: u32 = 0;
+    let mut first: u16 = 0;
     while start < s {
         s -= 1;
-        seen = joined(work, n, s, seen);
+        let l = area::literal_in(work, s);
+        let w = weight(area::value(work, n, l));
+        sum += w;
+        first = nearer(w, l, first);
     }
-    seen
+    state_of(sum, first)
 }
