@@ -3,11 +3,11 @@ use mathlib.Core.Path.{_≡_, refl, sym, ap, _∙_}
 use mathlib.Core.List.{List}
 use mathlib.Core.Logic.{_⊎_, inl, inr}
 use mathlib.Core.Bool.{Bool, true, false, cond, not, _&&_, _||_, false≢true}
-use Prim.Native.Nat.{ℕ, _+_, _-_, _*_, _<_, min}
-use lib.Dec.{eqb, leb}
+use Prim.Native.Nat.{ℕ, _+_, _-_, _*_, _<_, _≤_, min}
+use lib.Dec.{eqb, lit<, lit≤}
 use native.Mathlib.Omega.{arith}
 use native.Mathlib.Decide.{decLt}
-use borrow.Author.Tests.{eqb-true}
+use borrow.Author.Tests.{eqb-true, eq-eqb, le-leb}
 use Rattle.scope.specs.Outcome.{fine, first}
 use Rattle.scope.proofs.First.{all-fine}
 use Rattle.scope.proofs.Tests.{and-left, and-right}
@@ -22,14 +22,39 @@ or-split : (a b : Bool) → (a || b) ≡ true → (a ≡ true) ⊎ (b ≡ true)
 or-split true b e = inl refl
 or-split false b e = inr e
 
--- the rules that both versions have
-abbrev Both : ℕ → Bool
-Both r = eqb r 85 || eqb r 67 || eqb r 83 || eqb r 71
+-- rule and position as one number
+abbrev pub head : Step → ℕ
+head s = s .rule + 256 * s .position
 
-module _ (v : Version) (s : Step) where
-  -- a rule that both versions have, with position 0
-  both-zero : (k : ℕ) → s .rule ≡ k → ruleIn v k ≡ true → eqb (s .position) 0 ≡ stepOk s → eqb (s .position) 0 ≡ true → formNumber v s ≡ 0
-  both-zero k e i o z = sym (number-0 v s (sym o ∙ z) (ap (ruleIn v) e ∙ i))
+-- a number that is one of four
+abbrev oneOf : ℕ → ℕ → ℕ → ℕ → ℕ → Bool
+oneOf h a b c d = eqb h a || eqb h b || eqb h c || eqb h d
+
+four : {P : Type 0} (h a b c d : ℕ) → (h ≡ a → P) → (h ≡ b → P) → (h ≡ c → P) → (h ≡ d → P) → oneOf h a b c d ≡ true → P
+four {P} h a b c d p q r s e = go (or-split (eqb h a || eqb h b || eqb h c) (eqb h d) e)
+  where
+    two : (eqb h a ≡ true) ⊎ (eqb h b ≡ true) → P
+    two (inl x) = p (eqb-true h a x)
+    two (inr x) = q (eqb-true h b x)
+
+    three : ((eqb h a || eqb h b) ≡ true) ⊎ (eqb h c ≡ true) → P
+    three (inl x) = two (or-split (eqb h a) (eqb h b) x)
+    three (inr x) = r (eqb-true h c x)
+
+    go : ((eqb h a || eqb h b || eqb h c) ≡ true) ⊎ (eqb h d ≡ true) → P
+    go (inl x) = three (or-split (eqb h a || eqb h b) (eqb h c) x)
+    go (inr x) = s (eqb-true h d x)
+
+module _ (s : Step) (low : s .rule < 256) where
+  -- the rules that both versions have, with position 0
+  bare : (k : ℕ) → k < 256 → head s ≡ k → (s .rule ≡ k) × (eqb (s .position) 0 ≡ true)
+  bare k h e = (omega (arith, low, h, e), eq-eqb (s .position) 0 (omega (arith, low, h, e)))
+
+  both-zero : (v : Version) (k : ℕ) → k < 256 → ((u : Version) → ruleIn u k ≡ true) → (s .rule ≡ k → eqb (s .position) 0 ≡ stepOk s)
+      → head s ≡ k → formNumber v s ≡ 0
+  both-zero v k h i o e =
+      let (r, z) = bare k h e in
+      sym (number-0 v s (sym (o r) ∙ z) (ap (ruleIn v) r ∙ i v))
 
   in-85 : (u : Version) → ruleIn u 85 ≡ true
   unfolding ruleIn
@@ -51,67 +76,43 @@ module _ (v : Version) (s : Step) where
   in-71 One = refl
   in-71 Two = refl
 
-  both-pass : Both (s .rule) ≡ true → eqb (s .position) 0 ≡ true → formNumber v s ≡ 0
-  both-pass e z = go (or-split (eqb (s .rule) 85 || eqb (s .rule) 67 || eqb (s .rule) 83) (eqb (s .rule) 71) e)
+  both-pass : (v : Version) → oneOf (head s) 85 67 83 71 ≡ true → formNumber v s ≡ 0
+  both-pass v =
+      four (head s) 85 67 83 71
+      (both-zero v 85 (lit< tt) in-85 (λ q. ok-plain s (inr (inr (inr (inr q))))))
+      (both-zero v 67 (lit< tt) in-67 (λ q. ok-plain s (inl q)))
+      (both-zero v 83 (lit< tt) in-83 (λ q. ok-plain s (inr (inr (inr (inl q))))))
+      (both-zero v 71 (lit< tt) in-71 (λ q. ok-plain s (inr (inr (inl q)))))
+
+  -- those that only version one has
+  one-zero : stepOk s ≡ true → formNumber One s ≡ 0
+  unfolding ruleIn
+  one-zero o = sym (number-0 One s o refl)
+
+  removal : (p : ℕ) → p ≤ 2 → head s ≡ 82 + 256 * p → formNumber One s ≡ 0
+  removal p h e = one-zero (sym (ok-removal s (omega (arith, low, h, e))) ∙ le-leb (s .position) 2 (omega (arith, low, h, e)))
+
+  older-pass : oneOf (head s) 69 82 338 594 ≡ true → formNumber One s ≡ 0
+  older-pass =
+      four (head s) 69 82 338 594
+      (λ e. let (r, z) = bare 69 (lit< tt) e in one-zero (sym (ok-plain s (inr (inl r))) ∙ z))
+      (removal 0 (lit≤ tt))
+      (removal 1 (lit≤ tt))
+      (removal 2 (lit≤ tt))
+
+  -- the quick test
+  pub quick-passes : (two : Bool) → (oneOf (head s) 85 67 83 71 || (oneOf (head s) 69 82 338 594 && not two)) ≡ true → formNumber (cond two Two One) s ≡ 0
+  quick-passes two e = go (or-split (oneOf (head s) 85 67 83 71) (oneOf (head s) 69 82 338 594 && not two) e)
     where
-      two : (eqb (s .rule) 85 ≡ true) ⊎ (eqb (s .rule) 67 ≡ true) → formNumber v s ≡ 0
-      two (inl p) =
-          let q = eqb-true (s .rule) 85 p in
-          both-zero 85 q (in-85 v) (ok-plain s (inr (inr (inr (inr q))))) z
-      two (inr p) =
-          let q = eqb-true (s .rule) 67 p in
-          both-zero 67 q (in-67 v) (ok-plain s (inl q)) z
+      one : (b : Bool) → not b ≡ true → formNumber One s ≡ 0 → formNumber (cond b Two One) s ≡ 0
+      one true n p = absurd (false≢true n)
+      one false n p = p
 
-      three : ((eqb (s .rule) 85 || eqb (s .rule) 67) ≡ true) ⊎ (eqb (s .rule) 83 ≡ true) → formNumber v s ≡ 0
-      three (inl p) = two (or-split (eqb (s .rule) 85) (eqb (s .rule) 67) p)
-      three (inr p) =
-          let q = eqb-true (s .rule) 83 p in
-          both-zero 83 q (in-83 v) (ok-plain s (inr (inr (inr (inl q))))) z
-
-      go : ((eqb (s .rule) 85 || eqb (s .rule) 67 || eqb (s .rule) 83) ≡ true) ⊎ (eqb (s .rule) 71 ≡ true) → formNumber v s ≡ 0
-      go (inl p) = three (or-split (eqb (s .rule) 85 || eqb (s .rule) 67) (eqb (s .rule) 83) p)
+      go : (oneOf (head s) 85 67 83 71 ≡ true) ⊎ ((oneOf (head s) 69 82 338 594 && not two) ≡ true) → formNumber (cond two Two One) s ≡ 0
+      go (inl p) = both-pass (cond two Two One) p
       go (inr p) =
-          let q = eqb-true (s .rule) 71 p in
-          both-zero 71 q (in-71 v) (ok-plain s (inr (inr (inl q)))) z
-
--- those that only version one has
-one-zero : (s : Step) → stepOk s ≡ true → formNumber One s ≡ 0
-unfolding ruleIn
-one-zero s o = sym (number-0 One s o refl)
-
-older-pass : (s : Step) → ((eqb (s .rule) 69 && eqb (s .position) 0) || (eqb (s .rule) 82 && leb (s .position) 2)) ≡ true → formNumber One s ≡ 0
-older-pass s e = go (or-split (eqb (s .rule) 69 && eqb (s .position) 0) (eqb (s .rule) 82 && leb (s .position) 2) e)
-  where
-    go : ((eqb (s .rule) 69 && eqb (s .position) 0) ≡ true) ⊎ ((eqb (s .rule) 82 && leb (s .position) 2) ≡ true) → formNumber One s ≡ 0
-    go (inl p) =
-        one-zero s
-        (sym (ok-plain s (inr (inl (eqb-true (s .rule) 69 (and-left (eqb (s .rule) 69) (eqb (s .position) 0) p)))))
-        ∙ and-right (eqb (s .rule) 69) (eqb (s .position) 0) p)
-    go (inr p) =
-        one-zero s
-        (sym (ok-removal s (eqb-true (s .rule) 82 (and-left (eqb (s .rule) 82) (leb (s .position) 2) p)))
-        ∙ and-right (eqb (s .rule) 82) (leb (s .position) 2) p)
-
--- the quick test
-abbrev pub quick : Bool → Step → Bool
-quick two s =
-    (Both (s .rule) && eqb (s .position) 0)
-    || (((eqb (s .rule) 69 && eqb (s .position) 0) || (eqb (s .rule) 82 && leb (s .position) 2)) && not two)
-
-pub quick-passes : (two : Bool) (s : Step) → quick two s ≡ true → formNumber (cond two Two One) s ≡ 0
-quick-passes two s e =
-    go (or-split (Both (s .rule) && eqb (s .position) 0) (((eqb (s .rule) 69 && eqb (s .position) 0) || (eqb (s .rule) 82 && leb (s .position) 2)) && not two) e)
-  where
-    one : (b : Bool) → not b ≡ true → formNumber One s ≡ 0 → formNumber (cond b Two One) s ≡ 0
-    one true n p = absurd (false≢true n)
-    one false n p = p
-
-    go : ((Both (s .rule) && eqb (s .position) 0) ≡ true) ⊎ ((((eqb (s .rule) 69 && eqb (s .position) 0) || (eqb (s .rule) 82 && leb (s .position) 2)) && not two) ≡ true)
-        → formNumber (cond two Two One) s ≡ 0
-    go (inl p) = both-pass (cond two Two One) s (and-left (Both (s .rule)) (eqb (s .position) 0) p) (and-right (Both (s .rule)) (eqb (s .position) 0) p)
-    go (inr p) =
-        let o : Bool = (eqb (s .rule) 69 && eqb (s .position) 0) || (eqb (s .rule) 82 && leb (s .position) 2) in
-        one two (and-right o (not two) p) (older-pass s (and-left o (not two) p))
+          let o : Bool = oneOf (head s) 69 82 338 594 in
+          one two (and-right o (not two) p) (older-pass (and-left o (not two) p))
 
 -- ---- steps one after another
 

@@ -213,14 +213,15 @@ fn is_two(version: Version) -> bool
     }
 }
 
-// Whether a step passes rows 44 and 65. All tests are made, so that the compiler can make a loop over steps into vector code.
+// Whether a step passes rows 44 and 65: rule and position are one number, R has 82 + 256 × 0, 1 or 2. All tests are made, so that the
+// compiler can make a loop over steps into vector code.
 fn passes(two: bool, s: Step) -> bool
     ensures { λ r. ⌜ (r ≡ true → formNumber (cond two Two One) s ≡ 0) ⌝ }
 {
-    let bare = s.position == 0;
-    let both = (s.rule == 85) | (s.rule == 67) | (s.rule == 83) | (s.rule == 71);
-    let older = ((s.rule == 69) & bare) | ((s.rule == 82) & (s.position <= 2));
-    (both & bare) | (older & !two)
+    let head = (s.rule as u32) + 256 * (s.position as u32);
+    let both = (head == 85) | (head == 67) | (head == 83) | (head == 71);
+    let older = (head == 69) | (head == 82) | (head == 338) | (head == 594);
+    both | (older & !two)
 }
 
 // Whether the first steps of block j do.
