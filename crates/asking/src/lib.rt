@@ -104,7 +104,7 @@ fn rows(
 
 // The node count of a table to which the literals may be put, or the first row's refusal. `listed` is what the call's own row on the list
 // says.
-fn admit(
+pub fn admit(
     listed: Verdict,
     t: &[u8],
     goals: &[u16],

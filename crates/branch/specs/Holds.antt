@@ -7,13 +7,25 @@ use lib.ListN.{getD, length}
 use Rattle.scope.specs.declared.Node.{Node}
 use Rattle.calculus.specs.Expansion.{neg, expand}
 use Rattle.calculus.specs.Order.{clauses}
-use Rattle.calculus.specs.Model.{All, Fresh}
+use Rattle.calculus.specs.Model.{All, Table, Fresh}
 pub use Rattle.calculus.specs.Model.{Goals}
-pub use Rattle.index.specs.Indexed.{Indexed}
+use Rattle.index.specs.Index.{mostNodes, indexNode}
 use Rattle.rules.specs.Rules.{Place, Branch, join}
 use Rattle.area.specs.Area.{areaSize, mostClauses, mostSlots, strikesFrom, trailFrom, depth, newest, isWhole, splitCount, splitSize, splitHead, trailAt, trail, gOf, Trail, Same}
 use Rattle.area.specs.Strikes.{headOf, Strikes}
 use Rattle.branch.specs.Clauses.{flat, offset, Listed}
+
+-- ---- nodes
+
+-- how many numbers the nodes take
+abbrev pub nodeCells : ℕ
+nodeCells = 8064
+
+-- what the checker is given: the nodes of a table, each where an index has it. It needs no links and no codes
+pub record Indexed (x : List ℕ) (n : ℕ) : Type 0 where
+  pub size : length x ≡ nodeCells
+  pub few : n ≤ mostNodes
+  pub table : Table n (indexNode x)
 
 -- ---- strikes
 

@@ -11,7 +11,7 @@ use Rattle.scope.specs.Table.{listFrom}
 use Rattle.scope.proofs.Tests.{refused-no, then-first, then-next, bound, passed-on}
 use Rattle.codec.specs.Valid.{Bytes}
 use Rattle.calculus.specs.Expansion.{expand}
-use Rattle.calculus.specs.Decide.{nodesOf, listRow, asked}
+use Rattle.calculus.specs.Decide.{nodesOf, asked}
 use Rattle.index.specs.Index.{indexNode}
 use Rattle.rules.specs.declared.Step.{Step}
 use Rattle.rules.specs.declared.Version.{Version}
@@ -24,12 +24,12 @@ use Rattle.steps.specs.Opened.{placeOf, stepCount}
 use Rattle.steps.proofs.Form.{read-fine, read-steps, read-length, step-within}
 use Rattle.naming.specs.Named.{headOf}
 use Rattle.naming.proofs.Heads.{names-most, body-from}
-use Rattle.asking.specs.Asks.{Prepared}
 use Rattle.meaning.proofs.Derivations.{check-never, own-accepted}
 use Rattle.checking.specs.Checks.{checkedOf, Replayed, Checks}
 use Rattle.checking.specs.declared.Checked.{Checked}
 use Rattle.checking.specs.declared.Checked.the-variants.{Accepted, Refused}
 use Rattle.checking.proofs.Same.{accepts-same}
+use Rattle.checking.proofs.Nodes.{Ready}
 
 -- ---- rows 40 to 47
 
@@ -127,7 +127,7 @@ module _ (t goals w d : List ℕ) (all : Bytes t) where
   pub refuses : (f : Refusal) → asked t goals 0 0 (length w) ≡ refused (f .number) (f .place) → Checks t goals w d w (Refused f)
   refuses f q = checks (Refused f) (sym (refused-by q)) (λ number place z. refl)
 
-  module _ {x : List ℕ} {n : ℕ} (p : Prepared (listRow goals) t goals 0 0 (length w) x n) where
+  module _ {x : List ℕ} {n : ℕ} (p : Ready t goals (length w) x n) where
     -- the run over the index is that over the nodes
     check-in : check t goals w d ≡ (decodeSteps d >>= accepts (versionOf d) (expand (indexNode x)) goals n)
     unfolding check checked

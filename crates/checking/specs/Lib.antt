@@ -1,2 +1,3 @@
 -- Check's own contract. Assumes nothing.
+pub mod Nodes
 pub mod Checks

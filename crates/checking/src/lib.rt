@@ -8,15 +8,16 @@ use table::Counted;
 ghost use mathlib.Core.Path.{_≡_};
 ghost use Prim.Native.Nat.{ℕ, _+_, _<_, _≤_};
 ghost use lib.ListN.{length};
-ghost use Rattle.index.specs.Index.{indexNode};
+ghost use Rattle.index.specs.Index.{mostNodes, indexNode};
 ghost use Rattle.area.specs.Area.{areaSize};
-ghost use Rattle.branch.specs.Holds.{Indexed, Goals};
+ghost use Rattle.branch.specs.Holds.{nodeCells, Indexed, Goals};
 ghost use Rattle.steps.specs.Opened.{placeOf};
 ghost use Rattle.rules.specs.Steps.{versionOf, stepAt};
 ghost use Rattle.rules.specs.Rules.{accepts};
 ghost use Rattle.scope.specs.Table.{listFrom};
 ghost use Rattle.calculus.specs.Expansion.{expand};
 ghost use Rattle.checking.specs.Checks.{checkedOf, Replayed, Checks};
+ghost use Rattle.checking.specs.Nodes.{Placed, Inside, Loaded};
 
 // What check answers.
 pub enum Checked {
@@ -60,14 +61,58 @@ fn replayed(x: &[u16], n: usize, goals: &[u16], work: &mut [u16], d: &[u8]) -> C
     }
 }
 
+// Node m is read from its record, which is at a place of the table.
+fn load_node(t: &[u8], x: &mut [u16], m: usize, at: usize)
+    requires { ⌜ (m < mostNodes) × Placed m at × (at + 8 ≤ length (now t)) ⌝ }
+    requires { ⌜ Loaded (now t) m (now x) ⌝ }
+    ensures { λ _. ⌜ Loaded (now (t .entry)) (m + 1) (now (x .exit)) ⌝ }
+{
+    let end = at + 8;
+    let node = record::fields(&t[at..end]);
+    let s = 4 * m;
+    x[s] = node.kind as u16;
+    x[s + 1] = node.a;
+    x[s + 2] = node.b;
+    x[s + 3] = node.c;
+}
+
+// Where the record after node m's starts: behind the last one of a block come four bytes, and four of the next block.
+fn place_after(m: usize, at: usize) -> usize
+    requires { ⌜ (m < mostNodes) × Placed m at ⌝ }
+    ensures { λ r. ⌜ Placed (m + 1) r ⌝ }
+{
+    let next = at + 8;
+    if next % 512 == 508 {
+        return next + 8;
+    }
+    next
+}
+
+// The nodes are read from the table: the rules need no links between them.
+fn load(t: &[u8], nodes: usize, x: &mut [u16])
+    requires { ⌜ (nodes ≤ mostNodes) × Inside (now t) nodes × (length (now x) ≡ nodeCells) ⌝ }
+    ensures { λ _. ⌜ Loaded (now (t .entry)) nodes (now (x .exit)) ⌝ }
+{
+    let mut m = 0;
+    let mut at = 4;
+    while m < nodes {
+        load_node(t, x, m, at);
+        at = place_after(m, at);
+        m += 1;
+    }
+}
+
 // Whether the derivation is accepted: then no setting makes all goals true.
 pub fn check(t: &[u8], goals: &[u16], work: &mut [u16], d: &[u8]) -> Checked
     ensures { λ r. ⌜ Checks (now (t .entry)) (now (goals .entry)) (now (work .entry)) (now (d .entry)) (now (work .exit)) r ⌝ }
 {
-    let mut x = [0u16; 18378];
-    let a = asking::ask(t, goals, 0, 0, work.len(), &mut x);
+    let mut x = [0u16; 8064];
+    let a = asking::admit(asking::list_row(goals), t, goals, 0, 0, work.len());
     match a {
         Counted::Refused(f) => Checked::Refused(f),
-        Counted::Nodes(n) => replayed(&x, n, goals, work, d),
+        Counted::Nodes(n) => {
+            load(t, n, &mut x);
+            replayed(&x, n, goals, work, d)
+        }
     }
 }

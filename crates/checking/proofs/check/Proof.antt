@@ -1,21 +1,16 @@
 -- `checking::check` meets its contract: a refusal is the first row's that refuses, and else the derivation decides. Assumes nothing.
 use borrow.Author.Needs.{needs}
-use Rattle.codec.specs.Valid.{Bytes}
-use Rattle.asking.proofs.Answers.{ask-refused}
-use Rattle.asking.proofs.Nodes.{goals-in}
+use Rattle.asking.proofs.Nodes.{buildable}
+use Rattle.checking.proofs.Nodes.{goals-in, ready}
 use Rattle.checking.proofs.Answers.{refuses, ends}
 use Rattle.checking.proofs.check.Statement.{statement}
 use Rattle.checking.proofs.check.Tie as tie
 
--- the table is bytes
-bytes : (c : tie.After-shared-slice-known) → Bytes (c .before .args .t .now)
-bytes c i = c .shared-slice-known .given i .fits
+list-row-requires : tie.Need-list-row-requires
+list-row-requires c κs = search needs
 
-slice-aggregate-ask : tie.Need-slice-aggregate-ask
-slice-aggregate-ask c = search needs
-
-ask-requires : tie.Need-ask-requires
-ask-requires c κs = search needs
+admit-requires : tie.Need-admit-requires
+admit-requires c κs = search needs
 
 enum-known-a : tie.Need-enum-known-a
 enum-known-a c = search needs
@@ -23,35 +18,52 @@ enum-known-a c = search needs
 enum-known-a-2 : tie.Need-enum-known-a-2
 enum-known-a-2 c = search needs
 
+slice-aggregate-load : tie.Need-slice-aggregate-load
+slice-aggregate-load c = search needs
+
+load-requires : tie.Need-load-requires
+load-requires c κs =
+    let k = c .before .before .before .before in
+    let b = buildable (k .before .before .before .before .before .before .args .t .now) (k .admit .ensures .counted _ (c .before .before .a2 .given .1)) (λ i. k .before .before .before .before .before .shared-slice-known .given i .fits) in
+    (b .0, b .1, search needs)
+
 slice-aggregate-replayed : tie.Need-slice-aggregate-replayed
 slice-aggregate-replayed c = search needs
 
 replayed-requires : tie.Need-replayed-requires
 replayed-requires c κs =
-    let p = c .before .before .before .before .before .before .ask .ensures .prepared _ (c .before .before .before .a2 .given .1) in
-    (p .indexed, (goals-in p, p .admitted .work))
+    let k = c .before .before .before .before .before .before .before .before in
+    let q = c .before .before .before .before .before .before .a2 .given .1 in
+    let a = rw (k .before .list-row .ensures) at (k .admit .ensures .admitted _ q) in
+    let p = ready (k .before .before .before .before .before .before .args .t .now) (k .admit .ensures .counted _ q) (λ i. k .before .before .before .before .before .shared-slice-known .given i .fits) _ (c .before .before .before .load .ensures) _ _ a in
+    (p .indexed, (goals-in p, a .work))
 
 returns : tie.Need-returns
 returns c =
-    let k = c .before .before .before .before in
-    refuses _ _ _ _ (bytes (k .before .before .before .before .before)) _ (ask-refused _ _ _ _ _ _ _ (k .ask .ensures) (c .before .a .given .1))
+    let k = c .before .before .before in
+    refuses _ _ _ _ (λ i. k .before .before .before .before .before .shared-slice-known .given i .fits) _ (rw (k .before .list-row .ensures) at (k .admit .ensures .refuses _ (c .before .a .given .1)))
 
 same-length : tie.Need-same-length
 same-length c = search needs
 
 returns-2 : tie.Need-returns-2
 returns-2 c =
-    let k = c .before .before .before .before .before .before .before .before .before in
-    ends _ _ _ _ (bytes (k .before .before .before .before .before)) (k .ask .ensures .prepared _ (c .before .before .before .before .before .before .a2 .given .1)) _ (c .before .before .replayed .ensures)
+    let k = c .before .before .before .before .before .before .before .before .before .before .before in
+    let q = c .before .before .before .before .before .before .before .before .before .a2 .given .1 in
+    let a = rw (k .before .list-row .ensures) at (k .admit .ensures .admitted _ q) in
+    let p = ready (k .before .before .before .before .before .before .args .t .now) (k .admit .ensures .counted _ q) (λ i. k .before .before .before .before .before .shared-slice-known .given i .fits) _ (c .before .before .before .before .before .before .load .ensures) _ _ a in
+    ends _ _ _ _ (λ i. k .before .before .before .before .before .shared-slice-known .given i .fits) p _ (c .before .before .replayed .ensures)
 
 pub check-spec : {M : Type 1} → statement M
 check-spec =
     tie.close
     (tie.spec
-    slice-aggregate-ask
-    ask-requires
+    list-row-requires
+    admit-requires
     enum-known-a
     enum-known-a-2
+    slice-aggregate-load
+    load-requires
     slice-aggregate-replayed
     replayed-requires
     returns
