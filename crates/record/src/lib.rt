@@ -140,22 +140,23 @@ fn three_ok(low: u32, high: u32, n: usize) -> bool
     (c as usize) < n
 }
 
-// Whether a record, as two numbers, passes as node n: yes is certain, and where it says no, the tests in order say which row.
+// Whether a record, as two numbers, passes as node n: yes is certain, and where it says no, the tests in order say which row. The kinds with
+// operands are told first.
 pub fn passes(low: u32, high: u32, n: usize) -> bool
     requires { ⌜ n < 32768 ⌝ }
     ensures { λ r. ⌜ (r ≡ true → Passes low high n) ⌝ }
 {
     let kind = low % 65536;
-    if kind < 3 {
-        return leaf_ok(low, high, n);
-    }
-    if kind < 7 {
-        return pair_ok(low, high, n);
-    }
-    if 8 < kind {
+    if 2 < kind {
+        if kind < 7 {
+            return pair_ok(low, high, n);
+        }
+        if kind < 9 {
+            return three_ok(low, high, n);
+        }
         return false;
     }
-    three_ok(low, high, n)
+    leaf_ok(low, high, n)
 }
 
 // Where the record of node n starts.

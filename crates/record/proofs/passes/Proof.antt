@@ -4,14 +4,14 @@ use borrow.Author.Needs.{needs}
 use Rattle.record.proofs.passes.Statement.{statement}
 use Rattle.record.proofs.passes.Tie as tie
 
-leaf-ok-requires : tie.Need-leaf-ok-requires
-leaf-ok-requires c κs = search needs
+pair-ok-requires : tie.Need-pair-ok-requires
+pair-ok-requires c κs = search needs
 
 returns : tie.Need-returns
 returns c = search needs
 
-pair-ok-requires : tie.Need-pair-ok-requires
-pair-ok-requires c κs = search needs
+three-ok-requires : tie.Need-three-ok-requires
+three-ok-requires c κs = search needs
 
 returns-2 : tie.Need-returns-2
 returns-2 c = search needs
@@ -19,8 +19,8 @@ returns-2 c = search needs
 returns-3 : tie.Need-returns-3
 returns-3 c = λ e. absurd (false≢true e)
 
-three-ok-requires : tie.Need-three-ok-requires
-three-ok-requires c κs = search needs
+leaf-ok-requires : tie.Need-leaf-ok-requires
+leaf-ok-requires c κs = search needs
 
 returns-4 : tie.Need-returns-4
 returns-4 c = search needs
@@ -29,10 +29,10 @@ pub passes-spec : {M : Type 1} → statement M
 passes-spec =
     tie.close
     (tie.spec
-    leaf-ok-requires
-    returns
     pair-ok-requires
+    returns
+    three-ok-requires
     returns-2
     returns-3
-    three-ok-requires
+    leaf-ok-requires
     returns-4)
