@@ -2,8 +2,9 @@
 // level for each literal: so a negation is what is left of 2, and is not worked out again.
 ghost use mathlib.Core.Path.{_≡_};
 ghost use mathlib.Core.List.{[], _∷_};
-ghost use Prim.Native.Nat.{_+_, _*_, _/_, _<_, _≤_};
-ghost use lib.ListN.{length};
+ghost use mathlib.Core.Bool.{true};
+ghost use Prim.Native.Nat.{ℕ, _+_, _*_, _/_, _<_, _≤_};
+ghost use lib.ListN.{length, getD};
 ghost use Rattle.scope.specs.Outcome.{verdictOf};
 ghost use Rattle.scope.specs.Truth.{joined};
 ghost use Rattle.scope.specs.Kleene.{pointTruth, kleene};
@@ -97,6 +98,20 @@ fn told(x: u8) -> Truth
     }
 }
 
+// Whether the points' bytes are all below 3. All are looked at, so that the compiler can make vector code of it.
+fn all_low(s: &[u8]) -> bool
+    requires { ⌜ 1024 ≤ length (now s) ⌝ }
+    ensures { λ r. ⌜ (r ≡ true → (p : ℕ) → p < 1024 → getD (now (s .entry)) p 0 < 3) ⌝ }
+{
+    let mut low = true;
+    let mut p = 0;
+    while p < 1024 {
+        low = low & (s[p] < 3);
+        p += 1;
+    }
+    low
+}
+
 // Rows 21 and 22.
 fn settings_verdict(s: &[u8]) -> Verdict
     ensures { λ r. ⌜ verdictOf r ≡ settingsTest (now (s .entry)) ⌝ }
@@ -106,6 +121,9 @@ fn settings_verdict(s: &[u8]) -> Verdict
             number: 21,
             place: 0,
         });
+    }
+    if all_low(s) {
+        return Verdict::Fine;
     }
     let mut p = 0;
     while p < 1024 {
