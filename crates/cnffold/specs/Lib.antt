@@ -1,2 +1,2 @@
--- What the functions that add a file's records answer and leave. Assumes nothing.
+-- What the functions that add a file's nodes are given. Assumes nothing.
 pub mod Built

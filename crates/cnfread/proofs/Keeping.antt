@@ -6,13 +6,14 @@ use Prim.Native.Nat.{ℕ, zero, suc, _+_, _<_, _≤_}
 use native.Mathlib.Numerals.{add-one}
 use native.Mathlib.Omega.{arith}
 use lib.Dec.{eqb}
-use lib.ListN.{length, getD, take, set, replicate, length-set, length-replicate, getD-replicate}
-use lib.Seq.{take-suc-set, getD-set-same, getD-set-other}
+use lib.ListN.{length, getD, take, drop, set, replicate, drop-of-length-le, length-set, length-replicate, getD-replicate}
+use lib.Seq.{length-take-le, drop-cons, getD-take, take-suc-set, getD-set-same, getD-set-other}
 use borrow.Author.Tests.{eqb-true, eqb-false}
 use Rattle.codec.proofs.Rows.{by-test}
 use Rattle.codec.proofs.Files.{by-last}
 use Rattle.cnf.specs.Fold.{holds}
 use Rattle.cnf.proofs.Clauses.{holds-more}
+use Rattle.cnffold.specs.Built.{Small}
 use Rattle.cnfread.specs.Clauses.{total, mark, Kept, Keeps}
 
 -- sums of marks
@@ -106,3 +107,53 @@ module _ {marks held : List ℕ} {n : ℕ} (k : Kept marks held n) (l : ℕ) (h 
       };
       list = grown ∙ rw new;
     }
+
+-- no mark is left
+total-none : (ms : List ℕ) → ((i : ℕ) → i < length ms → getD ms i 0 ≡ 0) → total ms ≡ 0
+unfolding total
+total-none [] f = refl
+total-none (x ∷ ms) f = omega (arith, f 0 (omega arith), total-none ms (λ i h. f (suc i) (omega arith)))
+
+-- the marks of the first i of n literals were taken away
+pub record Clearing (marks held : List ℕ) (n i : ℕ) : Type 0 where
+  pub size : length marks ≡ 2048
+  pub room : length held ≡ 2048
+  pub small : Small held n
+  pub left : (l : ℕ) → l < 2048 → holds l (drop i (take n held)) ≡ false → getD marks l 0 ≡ 0
+
+pub clear-start : {marks held : List ℕ} {n : ℕ} → Kept marks held n → Clearing marks held n 0
+clear-start k = record { size = k .size; room = k .room; small = k .small; left = λ l h e. k .marked l h ∙ ap mark e }
+
+module _ {marks held : List ℕ} {n i : ℕ} (k : Clearing marks held n i) where
+  pub clear-low : i < n → getD held i 0 < 2048
+  clear-low h = k .small .each i h
+
+  pub clear-more : i < n → Clearing (set marks (getD held i 0) 0) held n (i + 1)
+  unfolding holds
+  clear-more h =
+      let inside : i < length (take n held) = omega (arith, length-take-le n held (k .small .within)) in
+      let first : drop i (take n held) ≡ getD held i 0 ∷ drop (i + 1) (take n held) = drop-cons (take n held) i 0 inside ∙ rw (getD-take n held i 0 h, add-one) in
+      record {
+        size = length-set marks (getD held i 0) 0 ∙ k .size;
+        room = k .room;
+        small = k .small;
+        left = λ l low e.
+            by-test (eqb (getD held i 0) l)
+            (λ q. rw (← eqb-true (getD held i 0) l q) (getD-set-same marks (getD held i 0) 0 0 (omega (arith, k .size, clear-low h))))
+            (λ q.
+            getD-set-other marks (getD held i 0) l 0 0 (λ z. eqb-false (getD held i 0) l q (sym z))
+            ∙ k .left l low (rw (first, q) e));
+      }
+
+  pub clear-all : n ≤ i → Kept marks held 0
+  unfolding holds
+  clear-all h =
+      let none : drop i (take n held) ≡ [] = drop-of-length-le (take n held) {i = i} (omega (arith, length-take-le n held (k .small .within))) in
+      let gone : (l : ℕ) → l < 2048 → getD marks l 0 ≡ 0 = λ l low. k .left l low (rw none) in
+      record {
+        size = k .size;
+        room = k .room;
+        small = record { within = omega arith; each = λ j q. absurd (omega arith) };
+        marked = gone;
+        tallied = total-none marks (λ j q. gone j (omega (arith, k .size)));
+      }

@@ -1,5 +1,5 @@
 -- Laws of the reader. Assumes nothing.
 pub mod Keeping
-pub mod Gathering
+pub mod Words
 pub mod Joining
 pub mod Reading

@@ -48,6 +48,12 @@ pub record Heads (text : List ℕ) (at : ℕ) (r : Found) : Type 0 where
   pub within : (h : Heading) → r ≡ At h → h .body ≤ length text
   pub few : (h : Heading) → r ≡ At h → h .variables ≤ 1024
 
+-- .. behind the comments
+pub record Headed (text : List ℕ) (r : Found) : Type 0 where
+  pub answered : headOf text r ≡ heading (behindComments false text)
+  pub within : (h : Heading) → r ≡ At h → h .body ≤ length text
+  pub few : (h : Heading) → r ≡ At h → h .variables ≤ 1024
+
 -- .. of a `Tally`
 abbrev pub tallyOf : Tally → Outcome ℕ
 tallyOf (Clauses n) = answer n

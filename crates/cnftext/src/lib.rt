@@ -3,7 +3,7 @@ ghost use mathlib.Core.Path.{_≡_};
 ghost use Prim.Native.Nat.{_≤_};
 ghost use lib.ListN.{length, drop};
 ghost use Rattle.cnf.specs.Text.{startsWith};
-ghost use Rattle.cnftext.specs.Scanned.{Passed, Digits, Counts, Heads, Tallies, turnedAway, Scans};
+ghost use Rattle.cnftext.specs.Scanned.{Passed, Digits, Counts, Heads, Headed, Tallies, turnedAway, Scans};
 use cnfwords::Number;
 use cnfwords::Token;
 use scope::Refusal;
@@ -136,6 +136,14 @@ fn read_heading(text: &[u8], at: usize) -> Head
         clauses,
         body,
     })
+}
+
+// The heading, behind the comments.
+pub fn find_heading(text: &[u8]) -> Head
+    ensures { λ r. ⌜ Headed (now (text .entry)) r ⌝ }
+{
+    let at = comments_end(text);
+    read_heading(text, at)
 }
 
 // How many clauses the body at a place has.

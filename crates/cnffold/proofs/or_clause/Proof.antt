@@ -1,11 +1,10 @@
 -- `cnffold::or_clause` meets its contract: the literals from i on are left to join. Assumes nothing.
-use mathlib.Core.Path.{_≡_, _∙_, sym, refl}
-use Prim.Native.Nat.{_≤_, _<_, _-_}
+use mathlib.Core.Path.{_≡_, _∙_, ap, sym, refl}
+use Prim.Native.Nat.{_≤_, _<_, _-_, _+_}
 use lib.ListN.{length, take, drop}
-use Rattle.adding.specs.Added.{Readable}
+use Rattle.growing.specs.Growing.{state, Under}
 use Rattle.cnf.specs.Fold.{orAll, orClause}
-use Rattle.cnffold.specs.Built.{state}
-use Rattle.cnffold.proofs.Built.{built-as, built-answer, built-next, built-stops}
+use Rattle.cnffold.proofs.Built.{Over, grows-as, grows-answer, grows-next, grows-stops}
 use Rattle.cnffold.proofs.Folds.{or-none, or-first, or-next, ors-done}
 use native.Mathlib.Omega.{arith}
 use borrow.Author.Needs.{needs}
@@ -13,50 +12,50 @@ use Rattle.cnffold.proofs.or_clause.Statement.{statement}
 use Rattle.cnffold.proofs.or_clause.Tie as tie
 
 abbrev Inv-loop : tie.InvT-loop
-Inv-loop buf₀ used held count literal₀ end₀ i₀ buf literal end i = (i ≤ count) × (literal < 4032) × (length buf ≡ length buf₀) × Readable buf end × (orAll (state literal end buf) (drop i (take count held)) ≡ orClause (state 0 used buf₀) (take count held))
+Inv-loop keys₀ head₀ next₀ room nodes held count literal₀ end₀ i₀ keys head next literal end i = (i ≤ count) × (literal < 4032) × (length keys ≡ length keys₀) × (length head ≡ length head₀) × (length next ≡ length next₀) × Under keys head next room end × Over room (λ buf. orAll (state literal keys end buf) (drop i (take count held)) ≡ orClause (state 0 keys₀ nodes buf) (take count held))
 
 abbrev μ-loop : tie.MeasureT-loop
-μ-loop buf₀ used held count literal₀ end₀ i₀ buf literal end i = count - i
+μ-loop keys₀ head₀ next₀ room nodes held count literal₀ end₀ i₀ keys head next literal end i = count - i
 
 add-false-requires : tie.Need-add-false-requires Inv-loop μ-loop
-add-false-requires c κs = search needs
+add-false-requires c κs = c .before .before .before .before .before .before .before .before .pre .0
 
 same-length : tie.Need-same-length Inv-loop μ-loop
 same-length c = search needs
 
+same-length-2 : tie.Need-same-length-2 Inv-loop μ-loop
+same-length-2 c = search needs
+
+same-length-3 : tie.Need-same-length-3 Inv-loop μ-loop
+same-length-3 c = search needs
+
 returns : tie.Need-returns Inv-loop μ-loop
-returns c =
-    let a = c .before .before .before .before .before .before .before .args in
-    built-as (or-none (a .held .now) (a .count) (a .used) (a .buf .now) (c .before .before .before .before .if1 .taken)) (c .before .before .add-false .ensures)
+returns c = let a = c .before .before .before .before .before .before .before .before .before .before .before .before .before .before .before .args in grows-as (λ buf q. sym (or-none (a .held .now) (a .count) (a .keys .now) (a .nodes) buf (c .before .before .before .before .before .before .before .before .before .before .if1 .taken))) (c .before .before .before .before .before .before .add-false .ensures)
 
 shared-slice-read-literal : tie.Need-shared-slice-read-literal Inv-loop μ-loop
-shared-slice-read-literal c = omega (arith, c .before .before .before .before .pre .1 .within, c .before .if1 .left)
+shared-slice-read-literal c = omega (arith, c .before .before .before .before .before .before .pre .1 .within, c .before .if1 .left)
 
 cast-literal : tie.Need-cast-literal Inv-loop μ-loop
-cast-literal c = omega (arith, c .before .before .before .before .pre .1 .each 0 (omega (arith, c .before .if1 .left)))
+cast-literal c = omega (arith, c .before .before .before .before .before .before .pre .1 .each 0 (omega (arith, c .before .if1 .left)))
 
 loop-holds : tie.Need-loop-holds Inv-loop μ-loop
 loop-holds c =
-    let a = c .before .before .before .before .args in
+    let s = c .before .before .before .before .before .before in
+    let a = s .args in
     let some : 0 < a .count = omega (arith, c .before .if1 .left) in
-    let pre = c .before .before .before .before .pre in
-    (search needs, omega (arith, pre .1 .each 0 some), refl, pre .0, sym (or-first (a .held .now) (a .count) (a .used) (a .buf .now) (pre .1 .within) some))
+    (omega arith, omega (arith, s .pre .1 .each 0 some), refl, refl, refl, s .pre .0, λ buf q. sym (or-first (a .held .now) (a .count) (a .keys .now) (a .nodes) buf (s .pre .1 .within) some))
 
-mul-put : tie.Need-mul-put Inv-loop μ-loop
-mul-put c = search needs
+mul-add-pair : tie.Need-mul-add-pair Inv-loop μ-loop
+mul-add-pair c = search needs
 
-shared-slice-read-put : tie.Need-shared-slice-read-put Inv-loop μ-loop
-shared-slice-read-put c = omega (arith, c .before .before .before .before .before .before .before .before .pre .1 .within, c .before .before .loop-test .taken)
+shared-slice-read-add-pair : tie.Need-shared-slice-read-add-pair Inv-loop μ-loop
+shared-slice-read-add-pair c = omega (arith, c .before .before .before .before .before .before .before .before .before .before .before .before .pre .1 .within, c .before .before .before .before .loop-test .taken)
 
-cast-put : tie.Need-cast-put Inv-loop μ-loop
-cast-put c = omega (arith, c .before .before .before .before .before .before .before .before .pre .1 .each _ (c .before .before .loop-test .taken))
+cast-add-pair : tie.Need-cast-add-pair Inv-loop μ-loop
+cast-add-pair c = omega (arith, c .before .before .before .before .before .before .before .before .before .before .before .before .pre .1 .each _ (c .before .before .before .before .loop-test .taken))
 
-put-requires : tie.Need-put-requires Inv-loop μ-loop
-put-requires c κs =
-    let at-loop-test = c .before .before in
-    let at-loop = at-loop-test .before in
-    let start = at-loop .before .before .before .before .before in
-    (at-loop .loop .inv .3, (omega arith, at-loop .loop .inv .1, omega (arith, start .pre .1 .each _ (at-loop-test .loop-test .taken))))
+add-pair-requires : tie.Need-add-pair-requires Inv-loop μ-loop
+add-pair-requires c κs = (c .before .before .before .before .before .loop .inv .5, (omega arith, omega arith, c .before .before .before .before .before .loop .inv .1, omega (arith, c .before .before .before .before .before .before .before .before .before .before .before .before .pre .1 .each _ (c .before .before .before .before .loop-test .taken))))
 
 enum-known-a : tie.Need-enum-known-a Inv-loop μ-loop
 enum-known-a c = search needs
@@ -64,18 +63,22 @@ enum-known-a c = search needs
 enum-told : tie.Need-enum-told Inv-loop μ-loop
 enum-told c = search needs
 
-same-length-2 : tie.Need-same-length-2 Inv-loop μ-loop
-same-length-2 c = search needs
+same-length-4 : tie.Need-same-length-4 Inv-loop μ-loop
+same-length-4 c = search needs
+
+same-length-5 : tie.Need-same-length-5 Inv-loop μ-loop
+same-length-5 c = search needs
+
+same-length-6 : tie.Need-same-length-6 Inv-loop μ-loop
+same-length-6 c = search needs
 
 returns-2 : tie.Need-returns-2 Inv-loop μ-loop
 returns-2 c =
-    let at-put = c .before .before .before .before in
-    let at-loop-test = at-put .before .before .before in
-    let at-loop = at-loop-test .before in
-    let start = at-loop .before .before .before .before .before in
-    let inv = at-loop .loop .inv in
-    let a = start .args in
-    built-as (sym (or-next (a .held .now) (a .count) _ (start .pre .1 .within) _ (at-loop-test .loop-test .taken)) ∙ inv .4) (built-stops (at-put .put .ensures) _ _ (c .enum-told .given .1))
+    let s = c .before .before .before .before .before .before .before .before .before .before .before .before .before .before .before .before .before .before .before .before .before in
+    let a = s .args in
+    let inv = c .before .before .before .before .before .before .before .before .before .before .before .before .before .before .loop .inv in
+    grows-as (λ buf q. sym (inv .6 buf q) ∙ or-next (a .held .now) (a .count) _ (s .pre .1 .within) _ (c .before .before .before .before .before .before .before .before .before .before .before .before .before .loop-test .taken))
+    (grows-stops (c .before .before .before .before .before .before .before .before .add-pair .ensures) (λ buf u. orAll u _) (c .enum-told .given .1))
 
 add-i : tie.Need-add-i Inv-loop μ-loop
 add-i c = search needs
@@ -85,28 +88,35 @@ loop-less c = search needs
 
 loop-again : tie.Need-loop-again Inv-loop μ-loop
 loop-again c =
-    let at-put = c .before .before .before .before .before in
-    let at-loop-test = at-put .before .before .before in
-    let at-loop = at-loop-test .before in
-    let start = at-loop .before .before .before .before .before in
+    let at-loop = c .before .before .before .before .before .before .before .before .before .before .before .before .before .before .before in
+    let s = at-loop .before .before .before .before .before .before .before in
+    let a = s .args in
     let inv = at-loop .loop .inv in
-    let a = start .args in
+    let g = c .before .before .before .before .before .before .before .before .before .add-pair .ensures in
     let told = c .before .a .given .1 in (
+      omega (arith, c .before .before .before .before .before .before .before .before .before .before .before .before .before .before .loop-test .taken),
+      g .low _ told,
       search needs,
-      at-put .put .ensures .small _ told,
       search needs,
-      at-put .put .ensures .reads _ told,
-      sym (built-next (at-put .put .ensures) _ told) ∙ sym (or-next (a .held .now) (a .count) _ (start .pre .1 .within) _ (at-loop-test .loop-test .taken)) ∙ inv .4,
+      search needs,
+      g .under _ told,
+      λ buf q. sym (grows-next g (λ u. orAll u _) told buf q) ∙ sym (or-next (a .held .now) (a .count) _ (s .pre .1 .within) _ (c .before .before .before .before .before .before .before .before .before .before .before .before .before .before .loop-test .taken)) ∙ inv .6 buf q,
     )
 
-same-length-3 : tie.Need-same-length-3 Inv-loop μ-loop
-same-length-3 c = search needs
+same-length-7 : tie.Need-same-length-7 Inv-loop μ-loop
+same-length-7 c = search needs
+
+same-length-8 : tie.Need-same-length-8 Inv-loop μ-loop
+same-length-8 c = search needs
+
+same-length-9 : tie.Need-same-length-9 Inv-loop μ-loop
+same-length-9 c = search needs
 
 returns-3 : tie.Need-returns-3 Inv-loop μ-loop
 returns-3 c =
+    let s = c .before .before .before .before .before .before .before .before in
     let inv = c .before .loop .inv in
-    let a = c .before .before .before .before .before .before .args in
-    built-answer (inv .1) (inv .3) (sym (inv .4) ∙ ors-done (a .held .now) (a .count) _ (c .before .before .before .before .before .before .pre .1 .within) _ (c .loop-test .left))
+    grows-answer (inv .1) (inv .5) (λ buf q. sym (inv .6 buf q) ∙ ors-done (s .args .held .now) (s .args .count) _ (s .pre .1 .within) _ (c .loop-test .left))
 
 pub or-clause-spec : {M : Type 1} → statement M
 or-clause-spec =
@@ -116,20 +126,26 @@ or-clause-spec =
     μ-loop
     add-false-requires
     same-length
+    same-length-2
+    same-length-3
     returns
     shared-slice-read-literal
     cast-literal
     loop-holds
-    mul-put
-    shared-slice-read-put
-    cast-put
-    put-requires
+    mul-add-pair
+    shared-slice-read-add-pair
+    cast-add-pair
+    add-pair-requires
     enum-known-a
     enum-told
-    same-length-2
+    same-length-4
+    same-length-5
+    same-length-6
     returns-2
     add-i
     loop-less
     loop-again
-    same-length-3
+    same-length-7
+    same-length-8
+    same-length-9
     returns-3)

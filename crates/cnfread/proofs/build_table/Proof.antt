@@ -1,56 +1,61 @@
--- `cnfread::build_table` meets its contract: the points, then the goal. Assumes nothing.
-use mathlib.Core.Path.{_∙_, sym}
-use Rattle.cnffold.proofs.Built.{built-as, built-next, built-stops}
-use Rattle.cnfread.specs.Clauses.{fileIn}
-use Rattle.cnfread.proofs.Joining.{build-is}
+-- `cnfread::build_table` meets its contract: no node yet, then the points and the body. Assumes nothing.
+use lib.ListN.{length}
+use Rattle.cnfread.proofs.Joining.{none-under}
+use Rattle.cnfread.proofs.Reading.{body-unread, body-told, turned-away}
+use native.Mathlib.Omega.{arith}
 use borrow.Author.Needs.{needs}
 use Rattle.cnfread.proofs.build_table.Statement.{statement}
 use Rattle.cnfread.proofs.build_table.Tie as tie
 
-add-points-requires : tie.Need-add-points-requires
-add-points-requires c κs = c .before .before .before .pre .few
+room-of-requires : tie.Need-room-of-requires
+room-of-requires c κs = search needs
 
-enum-known-p : tie.Need-enum-known-p
-enum-known-p c = search needs
+slice-aggregate-grow-table : tie.Need-slice-aggregate-grow-table
+slice-aggregate-grow-table c = search needs
+
+slice-aggregate-grow-table-2 : tie.Need-slice-aggregate-grow-table-2
+slice-aggregate-grow-table-2 c = search needs
+
+slice-aggregate-grow-table-3 : tie.Need-slice-aggregate-grow-table-3
+slice-aggregate-grow-table-3 c = search needs
+
+grow-table-requires : tie.Need-grow-table-requires
+grow-table-requires c κs = let s = c .before .before .before .before .before .before in (s .pre, none-under (length (s .args .buf .now)) (c .before .before .before .room-of .ensures))
 
 enum-told : tie.Need-enum-told
 enum-told c = search needs
 
+enum-known-f : tie.Need-enum-known-f
+enum-known-f c = search needs
+
+slice-aggregate-settle : tie.Need-slice-aggregate-settle
+slice-aggregate-settle c = search needs
+
+settle-requires : tie.Need-settle-requires
+settle-requires c κs = let s = c .before .before .before .before .before .before .before .before .before .before .before .before .before .before .before in body-told (s .pre) (s .args .buf .now) (c .before .before .before .before .before .before .before .before .before .before .before .before .room-of .ensures) (c .before .before .before .before .before .before .before .before .grow-table .ensures) (c .before .before .before .f .given .1)
+
+returns : tie.Need-returns
+returns c = let s = c .before .before .before .before .before .before .before .before .before .before .before .before in turned-away (s .args .text .now) (s .args .buf .now) (λ i. c .before .before .before .before .before .before .before .before .before .before .slice-known .given i .fits) _ (body-unread (s .pre) (c .before .before .before .before .before .grow-table .ensures .unread (c .enum-told .given .1)))
+
 same-length : tie.Need-same-length
 same-length c = search needs
 
-returns : tie.Need-returns
-returns c =
-    let a = c .before .before .before .before .before .before .before .before .args in
-    built-as (build-is (a .buf .now) (fileIn (a .h) (a .text .now))) (built-stops (c .before .before .before .before .add-points .ensures) _ _ (c .enum-told .given .1))
-
-add-goal-requires : tie.Need-add-goal-requires
-add-goal-requires c κs =
-    let at-p = c .before .before in
-    let at-add-points = at-p .before .before .before .before in
-    (at-add-points .before .before .before .before .pre, at-add-points .add-points .ensures .reads _ (at-p .p .given .1))
-
-same-length-2 : tie.Need-same-length-2
-same-length-2 c = search needs
-
 returns-2 : tie.Need-returns-2
-returns-2 c =
-    let at-add-goal = c .before .before in
-    let at-p = at-add-goal .before .before .before in
-    let at-add-points = at-p .before .before .before .before in
-    let start = at-add-points .before .before .before .before in
-    let a = start .args in
-    built-as (sym (built-next (at-add-points .add-points .ensures) _ (at-p .p .given .1)) ∙ build-is (a .buf .now) (fileIn (a .h) (a .text .now))) (at-add-goal .add-goal .ensures _)
+returns-2 c = c .before .before .settle .ensures
 
 pub build-table-spec : {M : Type 1} → statement M
 build-table-spec =
     tie.close
     (tie.spec
-    add-points-requires
-    enum-known-p
+    room-of-requires
+    slice-aggregate-grow-table
+    slice-aggregate-grow-table-2
+    slice-aggregate-grow-table-3
+    grow-table-requires
     enum-told
-    same-length
+    enum-known-f
+    slice-aggregate-settle
+    settle-requires
     returns
-    add-goal-requires
-    same-length-2
+    same-length
     returns-2)
