@@ -155,7 +155,7 @@ fn count_clauses(text: &[u8], at: usize, vars: usize) -> Tally
     let mut under = false;
     let mut clauses: usize = 0;
     loop {
-        let t = cnfwords::next_token(text, i, vars);
+        let t = cnfwords::any_token(text, i, vars);
         match t {
             Token::Done => {
                 if under {

@@ -10,6 +10,7 @@ use Rattle.cnf.specs.declared.Word.the-variants.{Malformed, End, Literal}
 use Rattle.cnf.specs.Text.{few, valueFrom, separator, wordsFrom, words, allDigits, wordOf}
 use Rattle.cnfwords.specs.declared.Number.{Number}
 use Rattle.cnfwords.specs.declared.Number.the-variants.{Value, Malformed as None}
+use Rattle.cnfwords.specs.declared.Run.{Run}
 use Rattle.cnfwords.specs.declared.Token.{Token}
 use Rattle.cnfwords.specs.declared.Token.the-variants.{Done, Malformed as Bad, End as Ended, Literal as Joins}
 
@@ -44,6 +45,25 @@ pub record Parted (text : List ℕ) (at r : ℕ) : Type 0 where
   pub word : words (drop at text) ≡ wordsFrom (part text at r) (drop r text)
   pub next : r < length text → separator (getD text r 0) ≡ true
 
+-- a minus is passed, if one stands there
+pub record Signed (text : List ℕ) (at r : ℕ) : Type 0 where
+  pub minus : getD text at 0 ≡ 45 → r ≡ at + 1
+  pub none : (getD text at 0 ≡ 45 → ⊥) → r ≡ at
+
+-- a run of at most nine digits: they join any word that started before them
+pub record Runs (text : List ℕ) (at : ℕ) (r : Run) : Type 0 where
+  pub later : at ≤ r .end
+  pub within : r .end ≤ length text
+  pub short : r .end ≤ at + 9
+  pub digits : allDigits (part text at (r .end)) ≡ true
+  pub value-is : valueFrom 0 (part text at (r .end)) ≡ r .value
+  pub joins : (from : ℕ) → from ≤ at → wordsFrom (part text from (r .end)) (drop (r .end) text) ≡ wordsFrom (part text from at) (drop at text)
+
+-- some bytes were passed, and what follows is a separator, or nothing
+pub record Ends (text : List ℕ) (from end : ℕ) (r : Bool) : Type 0 where
+  pub some : r ≡ true → from < end
+  pub next : r ≡ true → end < length text → separator (getD text end 0) ≡ true
+
 -- the next word says x, and the text goes on at a later place
 pub record Next (vars : ℕ) (text : List ℕ) (at : ℕ) (x : Word) (next : ℕ) : Type 0 where
   pub word : List ℕ
@@ -51,6 +71,12 @@ pub record Next (vars : ℕ) (text : List ℕ) (at : ℕ) (x : Word) (next : ℕ
   pub says : wordOf vars word ≡ x
   pub later : at < next
   pub within : next ≤ length text
+
+-- the token of what a word says, with the place behind it
+abbrev pub tokenOf : Word → ℕ → Token
+tokenOf Malformed end = Bad
+tokenOf End end = Ended end
+tokenOf (Literal l) end = Joins l end
 
 -- what stands next in a body
 abbrev pub TokenAt : ℕ → List ℕ → ℕ → Token → Type 0

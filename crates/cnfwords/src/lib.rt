@@ -1,9 +1,9 @@
 // The words of a DIMACS text's body, one after another: each is 0, a literal, or malformed.
 ghost use mathlib.Core.Path.{_≡_};
-ghost use Prim.Native.Nat.{_≤_, _<_};
+ghost use Prim.Native.Nat.{_+_, _≤_, _<_};
 ghost use lib.ListN.{length};
 ghost use Rattle.cnf.specs.Text.{digit, separator, wordOf};
-ghost use Rattle.cnfwords.specs.Words.{numberOf, said, Skipped, Parted, TokenAt};
+ghost use Rattle.cnfwords.specs.Words.{numberOf, said, Skipped, Parted, Signed, Runs, Ends, tokenOf, TokenAt};
 use cnf::Word;
 
 // A number of 1 to 9 digits, or none.
@@ -18,6 +18,12 @@ pub enum Token {
     Malformed,
     End(usize),
     Literal(usize, usize),
+}
+
+// The value of a run of digits, and where it ends.
+pub struct Run {
+    pub value: usize,
+    pub end: usize,
 }
 
 pub fn is_digit(b: u8) -> bool
@@ -119,8 +125,8 @@ fn word_end(text: &[u8], at: usize) -> usize
     i
 }
 
-// What stands at a place of a body, where there are so many variables.
-pub fn next_token(text: &[u8], at: usize, vars: usize) -> Token
+// What stands at a place of a body, where there are so many variables: any word.
+pub fn any_token(text: &[u8], at: usize, vars: usize) -> Token
     requires { ⌜ (at ≤ length (now text)) × (vars ≤ 1024) ⌝ }
     ensures { λ r. ⌜ TokenAt vars (now (text .entry)) at r ⌝ }
 {
@@ -135,4 +141,88 @@ pub fn next_token(text: &[u8], at: usize, vars: usize) -> Token
         Word::End => Token::End(end),
         Word::Literal(l) => Token::Literal(l, end),
     }
+}
+
+// The place behind a minus, if one stands there.
+fn behind_minus(text: &[u8], at: usize) -> usize
+    requires { ⌜ at < length (now text) ⌝ }
+    ensures { λ r. ⌜ Signed (now (text .entry)) at r ⌝ }
+{
+    if text[at] == 45 {
+        return at + 1;
+    }
+    at
+}
+
+// Nine places further on, but within so many.
+fn nine_on(at: usize, len: usize) -> usize
+    requires { ⌜ at ≤ len ⌝ }
+    ensures { λ r. ⌜ (at ≤ r) × (r ≤ len) × (r ≤ at + 9) ⌝ }
+{
+    if len - at < 9 {
+        return len;
+    }
+    at + 9
+}
+
+// The digits from a place on, at most nine.
+fn digit_run(text: &[u8], at: usize) -> Run
+    requires { ⌜ at ≤ length (now text) ⌝ }
+    ensures { λ r. ⌜ Runs (now (text .entry)) at r ⌝ }
+{
+    let limit = nine_on(at, text.len());
+    let mut value: usize = 0;
+    let mut i = at;
+    while i < limit {
+        let b = text[i];
+        if !is_digit(b) {
+            return Run { value, end: i };
+        }
+        value = 10 * value + (b - 48) as usize;
+        i += 1;
+    }
+    Run { value, end: i }
+}
+
+// Some bytes were passed, and the word ends.
+fn ends(text: &[u8], from: usize, end: usize) -> bool
+    requires { ⌜ end ≤ length (now text) ⌝ }
+    ensures { λ r. ⌜ Ends (now (text .entry)) from end r ⌝ }
+{
+    if end <= from {
+        return false;
+    }
+    if text.len() <= end {
+        return true;
+    }
+    is_separator(text[end])
+}
+
+// A word's token, with the place behind it.
+fn token_of(w: Word, end: usize) -> Token
+    ensures { λ r. ⌜ r ≡ tokenOf w end ⌝ }
+{
+    match w {
+        Word::Malformed => Token::Malformed,
+        Word::End => Token::End(end),
+        Word::Literal(l) => Token::Literal(l, end),
+    }
+}
+
+// What stands at a place of a body, where there are so many variables. A sign and a few digits are read at once.
+pub fn next_token(text: &[u8], at: usize, vars: usize) -> Token
+    requires { ⌜ (at ≤ length (now text)) × (vars ≤ 1024) ⌝ }
+    ensures { λ r. ⌜ TokenAt vars (now (text .entry)) at r ⌝ }
+{
+    let from = skip(text, at);
+    if text.len() <= from {
+        return Token::Done;
+    }
+    let start = behind_minus(text, from);
+    let r = digit_run(text, start);
+    if !ends(text, start, r.end) {
+        return any_token(text, at, vars);
+    }
+    let w = literal(Number::Value(r.value), from < start, vars);
+    token_of(w, r.end)
 }

@@ -22,7 +22,9 @@ same-length-3 : tie.Need-same-length-3
 same-length-3 c = search needs
 
 returns : tie.Need-returns
-returns c = let a = c .before .before .before .before .before .before .before .before .before .before .before .before .before .before .before .args in grows-as (λ buf q. folded-true (state 0 (a .keys .now) (a .nodes) buf) (take (a .count) (a .held .now)) (c .before .before .before .before .before .before .before .before .before .before .if1 .taken)) (c .before .before .before .before .before .before .add-true .ensures)
+returns c =
+    let a = c .before .before .before .before .before .before .before .before .before .before .before .before .before .before .before .args in
+    grows-as (λ buf q. folded-true (state 0 (a .keys .now) (a .nodes) buf) (take (a .count) (a .held .now)) (c .before .before .before .before .before .before .before .before .before .before .if1 .taken)) (c .before .before .before .before .before .before .add-true .ensures)
 
 or-clause-requires : tie.Need-or-clause-requires
 or-clause-requires c κs = c .before .before .before .before .before .before .before .before .pre
@@ -37,7 +39,9 @@ same-length-6 : tie.Need-same-length-6
 same-length-6 c = search needs
 
 returns-2 : tie.Need-returns-2
-returns-2 c = let a = c .before .before .before .before .before .before .before .before .before .before .before .before .before .before .before .args in grows-as (λ buf q. folded-or (state 0 (a .keys .now) (a .nodes) buf) (take (a .count) (a .held .now)) (c .before .before .before .before .before .before .before .before .before .before .if1 .left)) (c .before .before .before .before .before .before .or-clause .ensures)
+returns-2 c =
+    let a = c .before .before .before .before .before .before .before .before .before .before .before .before .before .before .before .args in
+    grows-as (λ buf q. folded-or (state 0 (a .keys .now) (a .nodes) buf) (take (a .count) (a .held .now)) (c .before .before .before .before .before .before .before .before .before .before .if1 .left)) (c .before .before .before .before .before .before .or-clause .ensures)
 
 pub add-clause-spec : {M : Type 1} → statement M
 add-clause-spec =

@@ -32,10 +32,14 @@ slice-aggregate-settle : tie.Need-slice-aggregate-settle
 slice-aggregate-settle c = search needs
 
 settle-requires : tie.Need-settle-requires
-settle-requires c κs = let s = c .before .before .before .before .before .before .before .before .before .before .before .before .before .before .before in body-told (s .pre) (s .args .buf .now) (c .before .before .before .before .before .before .before .before .before .before .before .before .room-of .ensures) (c .before .before .before .before .before .before .before .before .grow-table .ensures) (c .before .before .before .f .given .1)
+settle-requires c κs =
+    let s = c .before .before .before .before .before .before .before .before .before .before .before .before .before .before .before in
+    body-told (s .pre) (s .args .buf .now) (c .before .before .before .before .before .before .before .before .before .before .before .before .room-of .ensures) (c .before .before .before .before .before .before .before .before .grow-table .ensures) (c .before .before .before .f .given .1)
 
 returns : tie.Need-returns
-returns c = let s = c .before .before .before .before .before .before .before .before .before .before .before .before in turned-away (s .args .text .now) (s .args .buf .now) (λ i. c .before .before .before .before .before .before .before .before .before .before .slice-known .given i .fits) _ (body-unread (s .pre) (c .before .before .before .before .before .grow-table .ensures .unread (c .enum-told .given .1)))
+returns c =
+    let s = c .before .before .before .before .before .before .before .before .before .before .before .before in
+    turned-away (s .args .text .now) (s .args .buf .now) (λ i. c .before .before .before .before .before .before .before .before .before .before .slice-known .given i .fits) _ (body-unread (s .pre) (c .before .before .before .before .before .grow-table .ensures .unread (c .enum-told .given .1)))
 
 same-length : tie.Need-same-length
 same-length c = search needs

@@ -12,7 +12,8 @@ use Rattle.cnfread.proofs.fold_body.Statement.{statement}
 use Rattle.cnfread.proofs.fold_body.Tie as tie
 
 abbrev Inv-loop : tie.InvT-loop
-Inv-loop text at vars clauses keys₀ head₀ next₀ room nodes literal marks₀ held₀ place₀ end₀ goal₀ k₀ keys head next marks held place end goal k = Folding vars text at (λ buf. state literal keys₀ nodes buf) room place k goal end keys head next × Kept marks held 0 × (length keys ≡ length keys₀) × (length head ≡ length head₀) × (length next ≡ length next₀) × (length marks ≡ length marks₀) × (length held ≡ length held₀)
+Inv-loop text at vars clauses keys₀ head₀ next₀ room nodes literal marks₀ held₀ place₀ end₀ goal₀ k₀ keys head next marks held place end goal k =
+    Folding vars text at (λ buf. state literal keys₀ nodes buf) room place k goal end keys head next × Kept marks held 0 × (length keys ≡ length keys₀) × (length head ≡ length head₀) × (length next ≡ length next₀) × (length marks ≡ length marks₀) × (length held ≡ length held₀)
 
 abbrev μ-loop : tie.MeasureT-loop
 μ-loop text at vars clauses keys₀ head₀ next₀ room nodes literal marks₀ held₀ place₀ end₀ goal₀ k₀ keys head next marks held place end goal k = length text - place
@@ -93,7 +94,10 @@ clear-requires : tie.Need-clear-requires Inv-loop μ-loop
 clear-requires c κs = c .before .before .before .before .before .before .before .before .before .gather .ensures .clause _ (c .before .before .before .g .given .1) .keeps
 
 join-clause-requires : tie.Need-join-clause-requires Inv-loop μ-loop
-join-clause-requires c κs = let f = c .before .before .before .before .before .before .before .before .before .before .before .before .before .before .before .before .before .before .before .loop .inv .0 in let r = c .before .before .before .before .before .before .before .before .before .before .before .before .before .before .before .before .gather .ensures .clause _ (c .before .before .before .before .before .before .before .before .before .before .g .given .1) in (f .under, r .keeps .small, f .low)
+join-clause-requires c κs =
+    let f = c .before .before .before .before .before .before .before .before .before .before .before .before .before .before .before .before .before .before .before .loop .inv .0 in
+    let r = c .before .before .before .before .before .before .before .before .before .before .before .before .before .before .before .before .gather .ensures .clause _ (c .before .before .before .before .before .before .before .before .before .before .g .given .1) in
+    (f .under, r .keeps .small, f .low)
 
 enum-known-a : tie.Need-enum-known-a Inv-loop μ-loop
 enum-known-a c = search needs
@@ -117,13 +121,20 @@ same-length-20 : tie.Need-same-length-20 Inv-loop μ-loop
 same-length-20 c = search needs
 
 returns-4 : tie.Need-returns-4 Inv-loop μ-loop
-returns-4 c = let r = c .before .before .before .before .before .before .before .before .before .before .before .before .before .before .before .before .before .before .before .before .before .before .before .before .before .gather .ensures .clause _ (c .before .before .before .before .before .before .before .before .before .before .before .before .before .before .before .before .before .before .before .g .given .1) in folding-refused (c .before .before .before .before .before .before .before .before .before .before .before .before .before .before .before .before .before .before .before .before .before .before .before .before .before .before .before .before .loop .inv .0) r (c .before .before .before .before .before .before .before .before .join-clause .ensures) (c .before .before .before .before .before .before .before .before .before .before .before .before .before .before .before .before .before .before .before .before .before .before .before .before .before .before .before .before .before .before .before .before .before .before .before .args .clauses) (c .enum-told3 .given .1)
+returns-4 c =
+    let r = c .before .before .before .before .before .before .before .before .before .before .before .before .before .before .before .before .before .before .before .before .before .before .before .before .before .gather .ensures .clause _ (c .before .before .before .before .before .before .before .before .before .before .before .before .before .before .before .before .before .before .before .g .given .1) in
+    folding-refused (c .before .before .before .before .before .before .before .before .before .before .before .before .before .before .before .before .before .before .before .before .before .before .before .before .before .before .before .before .loop .inv .0) r (c .before .before .before .before .before .before .before .before .join-clause .ensures) (c .before .before .before .before .before .before .before .before .before .before .before .before .before .before .before .before .before .before .before .before .before .before .before .before .before .before .before .before .before .before .before .before .before .before .before .args .clauses) (c .enum-told3 .given .1)
 
 add-k : tie.Need-add-k Inv-loop μ-loop
-add-k c = let f = c .before .before .before .before .before .before .before .before .before .before .before .before .before .before .before .before .before .before .before .before .before .before .before .before .before .before .before .before .before .loop .inv .0 in let r = c .before .before .before .before .before .before .before .before .before .before .before .before .before .before .before .before .before .before .before .before .before .before .before .before .before .before .gather .ensures .clause _ (c .before .before .before .before .before .before .before .before .before .before .before .before .before .before .before .before .before .before .before .before .g .given .1) in omega (arith, c .before .before .before .before .before .before .before .before .before .before .before .before .before .before .before .before .before .before .before .before .before .before .before .before .before .before .before .before .before .before .before .before .before .before .before .before .good, f .slow, r .later, r .within)
+add-k c =
+    let f = c .before .before .before .before .before .before .before .before .before .before .before .before .before .before .before .before .before .before .before .before .before .before .before .before .before .before .before .before .before .loop .inv .0 in
+    let r = c .before .before .before .before .before .before .before .before .before .before .before .before .before .before .before .before .before .before .before .before .before .before .before .before .before .before .gather .ensures .clause _ (c .before .before .before .before .before .before .before .before .before .before .before .before .before .before .before .before .before .before .before .before .g .given .1) in
+    omega (arith, c .before .before .before .before .before .before .before .before .before .before .before .before .before .before .before .before .before .before .before .before .before .before .before .before .before .before .before .before .before .before .before .before .before .before .before .before .good, f .slow, r .later, r .within)
 
 loop-less : tie.Need-loop-less Inv-loop μ-loop
-loop-less c = let r = c .before .before .before .before .before .before .before .before .before .before .before .before .before .before .before .before .before .before .before .before .before .before .before .before .before .before .gather .ensures .clause _ (c .before .before .before .before .before .before .before .before .before .before .before .before .before .before .before .before .before .before .before .before .g .given .1) in omega (arith, r .later, r .within)
+loop-less c =
+    let r = c .before .before .before .before .before .before .before .before .before .before .before .before .before .before .before .before .before .before .before .before .before .before .before .before .before .before .gather .ensures .clause _ (c .before .before .before .before .before .before .before .before .before .before .before .before .before .before .before .before .before .before .before .before .g .given .1) in
+    omega (arith, r .later, r .within)
 
 loop-again : tie.Need-loop-again Inv-loop μ-loop
 loop-again c =

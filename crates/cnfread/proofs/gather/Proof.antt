@@ -71,16 +71,32 @@ enum-known-t-2 : tie.Need-enum-known-t-2 Inv-loop μ-loop
 enum-known-t-2 c = search needs
 
 opposite-requires : tie.Need-opposite-requires Inv-loop μ-loop
-opposite-requires c κs = let a = c .before .before .before .before .before .before .before .before .args in let u = c .before .before .before .before .loop .inv .0 in let t = token-told (a .vars) (a .text .now) (c .before .before .before .before .loop .i) (c .before .t2 .given .1) (c .before .before .before .next-token .ensures) in omega (arith, literal-low (c .before .before .before .before .before .before .before .before .pre .1) t)
+opposite-requires c κs =
+    let a = c .before .before .before .before .before .before .before .before .args in
+    let u = c .before .before .before .before .loop .inv .0 in
+    let t = token-told (a .vars) (a .text .now) (c .before .before .before .before .loop .i) (c .before .t2 .given .1) (c .before .before .before .next-token .ensures) in
+    omega (arith, literal-low (c .before .before .before .before .before .before .before .before .pre .1) t)
 
 slice-read-if2 : tie.Need-slice-read-if2 Inv-loop μ-loop
-slice-read-if2 c = let a = c .before .before .before .before .before .before .before .before .before .before .args in let u = c .before .before .before .before .before .before .loop .inv .0 in let t = token-told (a .vars) (a .text .now) (c .before .before .before .before .before .before .loop .i) (c .before .before .before .t2 .given .1) (c .before .before .before .before .before .next-token .ensures) in omega (arith, literal-low (c .before .before .before .before .before .before .before .before .before .before .pre .1) t, c .before .opposite .ensures, u .keeps .size)
+slice-read-if2 c =
+    let a = c .before .before .before .before .before .before .before .before .before .before .args in
+    let u = c .before .before .before .before .before .before .loop .inv .0 in
+    let t = token-told (a .vars) (a .text .now) (c .before .before .before .before .before .before .loop .i) (c .before .before .before .t2 .given .1) (c .before .before .before .before .before .next-token .ensures) in
+    omega (arith, literal-low (c .before .before .before .before .before .before .before .before .before .before .pre .1) t, c .before .opposite .ensures, u .keeps .size)
 
 keep-requires : tie.Need-keep-requires Inv-loop μ-loop
-keep-requires c κs = let a = c .before .before .before .before .before .before .before .before .before .before .before .before .before .args in let u = c .before .before .before .before .before .before .before .before .before .loop .inv .0 in let t = token-told (a .vars) (a .text .now) (c .before .before .before .before .before .before .before .before .before .loop .i) (c .before .before .before .before .before .before .t2 .given .1) (c .before .before .before .before .before .before .before .before .next-token .ensures) in (u .keeps, literal-low (c .before .before .before .before .before .before .before .before .before .before .before .before .before .pre .1) t)
+keep-requires c κs =
+    let a = c .before .before .before .before .before .before .before .before .before .before .before .before .before .args in
+    let u = c .before .before .before .before .before .before .before .before .before .loop .inv .0 in
+    let t = token-told (a .vars) (a .text .now) (c .before .before .before .before .before .before .before .before .before .loop .i) (c .before .before .before .before .before .before .t2 .given .1) (c .before .before .before .before .before .before .before .before .next-token .ensures) in
+    (u .keeps, literal-low (c .before .before .before .before .before .before .before .before .before .before .before .before .before .pre .1) t)
 
 loop-less : tie.Need-loop-less Inv-loop μ-loop
-loop-less c = let a = c .before .before .before .before .before .before .before .before .before .before .before .before .before .before .before .before .before .before .args in let u = c .before .before .before .before .before .before .before .before .before .before .before .before .before .before .loop .inv .0 in let t = token-told (a .vars) (a .text .now) (c .before .before .before .before .before .before .before .before .before .before .before .before .before .before .loop .i) (c .before .before .before .before .before .before .before .before .before .before .before .t2 .given .1) (c .before .before .before .before .before .before .before .before .before .before .before .before .before .next-token .ensures) in omega (arith, t .later, t .within)
+loop-less c =
+    let a = c .before .before .before .before .before .before .before .before .before .before .before .before .before .before .before .before .before .before .args in
+    let u = c .before .before .before .before .before .before .before .before .before .before .before .before .before .before .loop .inv .0 in
+    let t = token-told (a .vars) (a .text .now) (c .before .before .before .before .before .before .before .before .before .before .before .before .before .before .loop .i) (c .before .before .before .before .before .before .before .before .before .before .before .t2 .given .1) (c .before .before .before .before .before .before .before .before .before .before .before .before .before .next-token .ensures) in
+    omega (arith, t .later, t .within)
 
 loop-again : tie.Need-loop-again Inv-loop μ-loop
 loop-again c =

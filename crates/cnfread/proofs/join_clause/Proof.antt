@@ -44,7 +44,10 @@ returns-2 : tie.Need-returns-2
 returns-2 c = let a = c .before .before .before .before .before .before .before .before .before .before .before .before .before .before .before .before .before .args in grows-stops (c .before .before .before .before .before .before .before .before .before .add-clause .ensures) (λ buf. joined (a .first) (a .goal)) (c .enum-told .given .1)
 
 and-join-requires : tie.Need-and-join-requires
-and-join-requires c κs = let g = c .before .before .before .before .before .before .before .before .before .before .before .before .before .add-clause .ensures in let told = c .before .before .before .before .a .given .1 in (g .under _ told, (c .before .before .before .before .before .before .before .before .before .before .before .before .before .before .before .before .before .before .before .before .before .pre .2, g .low _ told))
+and-join-requires c κs =
+    let g = c .before .before .before .before .before .before .before .before .before .before .before .before .before .add-clause .ensures in
+    let told = c .before .before .before .before .a .given .1 in
+    (g .under _ told, (c .before .before .before .before .before .before .before .before .before .before .before .before .before .before .before .before .before .before .before .before .before .pre .2, g .low _ told))
 
 same-length-7 : tie.Need-same-length-7
 same-length-7 c = search needs

@@ -1,6 +1,10 @@
--- `cnfwords::next_token` meets its contract: separators are passed, then a word is read to its end. Assumes nothing.
-use mathlib.Core.Path.{_∙_, sym}
-use Rattle.cnfwords.proofs.Words.{no-words, word-some, part-length, next-word}
+-- `cnfwords::next_token` meets its contract: separators are passed, then a sign and a run of digits, or any word. Assumes nothing.
+use mathlib.Core.Path.{_≡_, _∙_, ap, sym}
+use mathlib.Core.Bool.{true, false}
+use Prim.Native.Nat.{ℕ}
+use borrow.Author.Tests.{not-false}
+use Rattle.cnfwords.proofs.Words.{no-words}
+use Rattle.cnfwords.proofs.Runs.{signed-within, run-token}
 use native.Mathlib.Omega.{arith}
 use borrow.Author.Needs.{needs}
 use Rattle.cnfwords.proofs.next_token.Statement.{statement}
@@ -12,57 +16,32 @@ skip-requires c κs = search needs
 returns : tie.Need-returns
 returns c = sym (c .before .skip .ensures .same) ∙ no-words _ _ (c .if1 .taken)
 
-word-end-requires : tie.Need-word-end-requires
-word-end-requires c κs = search needs
+behind-minus-requires : tie.Need-behind-minus-requires
+behind-minus-requires c κs = search needs
 
-sub-word : tie.Need-sub-word
-sub-word c = search needs
+digit-run-requires : tie.Need-digit-run-requires
+digit-run-requires c κs = signed-within (c .behind-minus .ensures) (c .before .if1 .left)
 
-part-word-start : tie.Need-part-word-start
-part-word-start c = search needs
+ends-requires : tie.Need-ends-requires
+ends-requires c κs = c .digit-run .ensures .within
 
-part-word-end : tie.Need-part-word-end
-part-word-end c = search needs
-
-word-requires : tie.Need-word-requires
-word-requires c κs =
-    let s = c .before .before .before .skip .ensures in
-    let p = c .before .word-end .ensures in
-    let some = c .before .before .if1 .left in
-    (omega (arith, part-length s p some, word-some s p some), c .before .before .before .before .before .pre .1)
-
-enum-told : tie.Need-enum-told
-enum-told c = search needs
-
-enum-told-2 : tie.Need-enum-told-2
-enum-told-2 c = search needs
-
-enum-known-w : tie.Need-enum-known-w
-enum-known-w c = search needs
+any-token-requires : tie.Need-any-token-requires
+any-token-requires c κs = c .before .before .before .before .before .before .before .pre
 
 returns-2 : tie.Need-returns-2
-returns-2 c =
-    let at-word = c .before .before in
-    let at-word-end = at-word .before .before in
-    let at-if1 = at-word-end .before in
-    let at-skip = at-if1 .before in
-    (_, next-word (at-skip .skip .ensures) (at-word-end .word-end .ensures) (at-if1 .if1 .left) _ _ (sym (at-word .word .ensures) ∙ c .enum-told .given .1))
+returns-2 c = c .any-token .ensures
+
+literal-requires : tie.Need-literal-requires
+literal-requires c κs = c .before .before .before .before .before .before .before .pre .1
+
+token-of-requires : tie.Need-token-of-requires
+token-of-requires c κs = search needs
 
 returns-3 : tie.Need-returns-3
 returns-3 c =
-    let at-word = c .before .before in
-    let at-word-end = at-word .before .before in
-    let at-if1 = at-word-end .before in
-    let at-skip = at-if1 .before in
-    next-word (at-skip .skip .ensures) (at-word-end .word-end .ensures) (at-if1 .if1 .left) _ _ (sym (at-word .word .ensures) ∙ c .enum-told2 .given .1)
-
-returns-4 : tie.Need-returns-4
-returns-4 c =
-    let at-word = c .before .before .before in
-    let at-word-end = at-word .before .before in
-    let at-if1 = at-word-end .before in
-    let at-skip = at-if1 .before in
-    next-word (at-skip .skip .ensures) (at-word-end .word-end .ensures) (at-if1 .if1 .left) _ _ (sym (at-word .word .ensures) ∙ c .before .w .given .1)
+    let e = not-false _ (c .before .before .if2 .left) in
+    run-token (c .before .before .before .before .before .before .before .skip .ensures) (c .before .before .before .before .before .before .if1 .left) (c .before .before .before .before .before .behind-minus .ensures) (c .before .before .before .before .digit-run .ensures) (c .before .before .before .ends .ensures .some e) (c .before .before .before .ends .ensures .next e) (c .before .before .before .before .before .before .before .before .before .args .vars)
+    (c .before .literal .ensures) (c .token-of .ensures)
 
 pub next-token-spec : {M : Type 1} → statement M
 next-token-spec =
@@ -70,14 +49,11 @@ next-token-spec =
     (tie.spec
     skip-requires
     returns
-    word-end-requires
-    sub-word
-    part-word-start
-    part-word-end
-    word-requires
-    enum-told
-    enum-told-2
-    enum-known-w
+    behind-minus-requires
+    digit-run-requires
+    ends-requires
+    any-token-requires
     returns-2
-    returns-3
-    returns-4)
+    literal-requires
+    token-of-requires
+    returns-3)
