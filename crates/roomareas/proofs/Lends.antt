@@ -26,7 +26,12 @@ lent-length size i xs h = ap length (lent size i xs) ∙ part-length size i xs h
 -- with room for q questions, those of each can be lent, as long as nothing gets shorter
 pub lendable : {q : ℕ} {w₀ m₀ o₀ v : List ℕ} (i : ℕ) (w m o : List ℕ) → Roomy q w₀ m₀ o₀ v → i < q → length w ≡ length w₀ → length m ≡ length m₀
     → length o ≡ length o₀ → Lendable i w m o
-lendable i w m o r h a b c = record { few = omega (arith, r .few); work = omega (arith, r .work); masks = b ∙ r .masks; stacks = c ∙ r .stacks }
+lendable i w m o r h a b c = record {
+  few = omega (arith, r .few);
+  work = omega (arith, r .work);
+  masks = omega (arith, r .masks);
+  stacks = omega (arith, r .stacks);
+}
 
 module _ {i : ℕ} {w m o : List ℕ} (h : Lendable i w m o) where
   pub lent-work : length (lentOf areaSize i w) ≡ areaSize

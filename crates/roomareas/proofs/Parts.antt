@@ -30,6 +30,18 @@ part-length size i xs h = length-take-le size (drop (size * i) xs) (simp length-
 pub part-at : (size i : ℕ) (xs : List ℕ) (k : ℕ) → k < size → getD (partOf size i xs) k 0 ≡ getD xs (size * i + k) 0
 part-at size i xs k h = getD-take size (drop (size * i) xs) k 0 h ∙ getD-drop (size * i) xs k 0
 
+-- one part alone is the whole
+pub part-whole : (size : ℕ) (xs : List ℕ) → length xs ≡ size → partOf size 0 xs ≡ xs
+part-whole size xs e =
+    ext-getD 0 (partOf size 0 xs) xs (full ∙ sym e)
+    (λ k h. part-at size 0 xs k (omega (arith, full)) ∙ ap (λ (j : ℕ). getD xs j 0) (none k))
+  where
+    none : (k : ℕ) → size * 0 + k ≡ k
+    none k = omega arith
+
+    full : length (partOf size 0 xs) ≡ size
+    full = part-length size 0 xs (omega arith)
+
 part-same : (size j : ℕ) (xs ys : List ℕ) → length ys ≡ length xs
     → ((k : ℕ) → size * j ≤ k → k < size * j + size → getD ys k 0 ≡ getD xs k 0) → partOf size j ys ≡ partOf size j xs
 part-same size j xs ys e same =

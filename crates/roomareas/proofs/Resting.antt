@@ -1,19 +1,20 @@
 -- The searches are put down, or set up: what their areas hold then. Assumes nothing.
-use mathlib.Core.Path.{_≡_, refl, ap, _∙_}
+use mathlib.Core.Path.{_≡_, refl, sym, ap, _∙_}
 use mathlib.Core.List.{List, []}
 use Prim.Native.Nat.{ℕ, _+_, _*_, _<_, _≤_}
 use native.Mathlib.Omega.{arith}
 use native.Mathlib.Decide.{ℕ-discrete}
 use lib.ListN.{length, getD, set, length-set}
 use lib.Seq.{getD-set-same, getD-set-other}
+use borrow.Author.Tests.{ne-eqb}
 use Rattle.trail.specs.Trail.{trail}
 use Rattle.trail.proofs.Trails.{trail-same}
 use Rattle.state.specs.Work.{tail, gOf}
-use Rattle.turns.specs.Turn.{running}
+use Rattle.turns.specs.Turn.{running, numberOf}
 use Rattle.replaying.specs.Standing.{searchBy}
 use Rattle.roomareas.specs.Areas.{areaSize, partOf, verdictAt, stored, nextAt}
-use Rattle.roomareas.specs.Changes.{searchAt, PutDown, Opened}
-use Rattle.roomareas.proofs.Parts.{part-length, part-set, part-set-other}
+use Rattle.roomareas.specs.Changes.{searchAt, PutDown, Opened, Looked, NextPut}
+use Rattle.roomareas.proofs.Parts.{part-length, part-at, part-set, part-set-other}
 
 -- a number before the trail is no literal
 pub held-before : (a : List ℕ) (c v : ℕ) → c < 4 → gOf (set a c v) ≡ gOf a
@@ -28,7 +29,7 @@ stored-next : (a : List ℕ) (v : ℕ) → stored (set a nextAt v) ≡ stored a
 stored-next a v = rw (held-before a 1 v (omega arith), getD-set-other a 1 0 v 0 (λ e. omega arith))
 
 -- a verdict, and nothing held
-stored-verdict : (a : List ℕ) (v : ℕ) → 0 < length a → stored (set a verdictAt v) ≡ searchBy v (gOf a)
+pub stored-verdict : (a : List ℕ) (v : ℕ) → 0 < length a → stored (set a verdictAt v) ≡ searchBy v (gOf a)
 stored-verdict a v h = rw (held-before a 0 v (omega arith), getD-set-same a 0 v 0 h)
 
 held-none : (a : List ℕ) → 4 < length a → gOf (set a 4 0) ≡ []
@@ -42,6 +43,9 @@ next-stays w v j = on (ℕ-discrete j 0)
     on : Dec (j ≡ 0) → stored (partOf areaSize j (set w nextAt v)) ≡ stored (partOf areaSize j w)
     on (yes e) = rw e (ap stored (part-set areaSize 0 1 v w (omega arith)) ∙ stored-next (partOf areaSize 0 w) v)
     on (no e) = ap stored (part-set-other areaSize 0 1 v w (omega arith) j e)
+
+pub next-put : (w : List ℕ) (up : ℕ) → areaSize ≤ length w → NextPut up w (set w nextAt up)
+next-put w up h = record { searches = next-stays w up; next = getD-set-same w 1 up 0 (omega arith) }
 
 part-some : (w : List ℕ) (i q : ℕ) → i < q → areaSize * q ≤ length w → length (partOf areaSize i w) ≡ areaSize
 part-some w i q h f = part-length areaSize i w (omega arith)
@@ -133,3 +137,45 @@ module _ {w₀ v₀ w v : List ℕ} {i : ℕ} (k : Opening w₀ v₀ w v i) (q :
     verdicts = λ j b. k .verdicts j (omega arith);
     beyond = λ j b. k .beyond j (omega arith);
   }
+
+-- ---- looked at
+
+module _ (v : ℕ) (G : List ℕ) where
+  pub number-closed : v ≡ 0 → 0 ≡ numberOf (searchBy v G)
+  unfolding searchBy
+  number-closed e = rw e
+
+  pub number-found : v ≡ 1 → 1 ≡ numberOf (searchBy v G)
+  unfolding searchBy
+  number-found e = rw e
+
+  pub number-running : (v ≡ 0 → ⊥) → (v ≡ 1 → ⊥) → 2 ≡ numberOf (searchBy v G)
+  unfolding searchBy
+  number-running a b = rw (ne-eqb v 0 a, ne-eqb v 1 b)
+
+-- the first i have been looked at
+pub record Looking (w v₀ v : List ℕ) (i : ℕ) : Type 0 where
+  pub done : (j : ℕ) → j < i → getD v j 0 ≡ numberOf (stored (partOf areaSize j w))
+  pub rest : (j : ℕ) → i ≤ j → getD v j 0 ≡ getD v₀ j 0
+  pub size : length v ≡ length v₀
+
+pub looking-none : (w v : List ℕ) → Looking w v v 0
+looking-none w v = record { done = λ j h. absurd (omega arith); rest = λ j h. refl; size = refl }
+
+module _ {w v₀ v : List ℕ} {i : ℕ} (k : Looking w v₀ v i) where
+  pub looking-more : {r : ℕ} → i < length v₀ → ((G : List ℕ) → r ≡ numberOf (searchBy (getD w (areaSize * i + verdictAt) 0) G)) → Looking w v₀ (set v i r) (i + 1)
+  looking-more {r} l e = record {
+    done = λ j b. on j b (ℕ-discrete j i);
+    rest = λ j b. getD-set-other v i j r 0 (λ z. omega arith) ∙ k .rest j (omega arith);
+    size = length-set v i r ∙ k .size;
+  }
+    where
+      here : r ≡ numberOf (stored (partOf areaSize i w))
+      here = e (gOf (partOf areaSize i w)) ∙ ap (λ (x : ℕ). numberOf (searchBy x (gOf (partOf areaSize i w)))) (sym (part-at areaSize i w 0 (omega arith)))
+
+      on : (j : ℕ) → j < i + 1 → Dec (j ≡ i) → getD (set v i r) j 0 ≡ numberOf (stored (partOf areaSize j w))
+      on j b (yes z) = rw z (getD-set-same v i r 0 (omega (arith, k .size)) ∙ here)
+      on j b (no z) = getD-set-other v i j r 0 z ∙ k .done j (omega arith)
+
+  pub looking-all : {q : ℕ} → i ≡ q → Looked q w v₀ v
+  looking-all e = record { numbers = λ j b. k .done j (omega arith); beyond = λ j b. k .rest j (omega arith) }

@@ -7,7 +7,7 @@ use Rattle.scope.specs.declared.Node.{Node}
 use Rattle.calculus.specs.Expansion.{expand}
 use Rattle.units.specs.Units.{words}
 use Rattle.state.specs.Work.{gOf}
-use Rattle.turns.specs.Turn.{Search, running}
+use Rattle.turns.specs.Turn.{Search, running, numberOf}
 use Rattle.replaying.specs.Standing.{stackSize, searchBy, Made}
 use Rattle.roomareas.specs.Areas.{areaSize, partOf, stored, nextAt, goalsOf, searchIn}
 
@@ -19,16 +19,16 @@ mostQuestions = 8
 pub record Roomy (q : ℕ) (w m o v : List ℕ) : Type 0 where
   pub few : q ≤ mostQuestions
   pub work : areaSize * q ≤ length w
-  pub masks : length m ≡ words * mostQuestions
-  pub stacks : length o ≡ stackSize * mostQuestions
+  pub masks : words * q ≤ length m
+  pub stacks : stackSize * q ≤ length o
   pub verdicts : length v ≡ mostQuestions
 
 -- question i's parts can be lent: an area, a set of units, a stack
 pub record Lendable (i : ℕ) (w m o : List ℕ) : Type 0 where
   pub few : i < mostQuestions
   pub work : areaSize * (i + 1) ≤ length w
-  pub masks : length m ≡ words * mostQuestions
-  pub stacks : length o ≡ stackSize * mostQuestions
+  pub masks : words * (i + 1) ≤ length m
+  pub stacks : stackSize * (i + 1) ≤ length o
 
 -- question i's part may have changed, and no other
 pub record Beside (size i : ℕ) (xs ys : List ℕ) : Type 0 where
@@ -63,6 +63,16 @@ pub record TakenUp (t : ℕ → Node) (n : ℕ) (questions w v w′ m′ o′ v�
 -- the areas hold what the searches have come to, and whose turn is next
 pub record PutDown (q up : ℕ) (w v w′ : List ℕ) : Type 0 where
   pub searches : (i : ℕ) → i < q → stored (partOf areaSize i w′) ≡ searchAt w v i
+  pub next : getD w′ nextAt 0 ≡ up
+
+-- what the searches have come to was read off their areas
+pub record Looked (q : ℕ) (w v v′ : List ℕ) : Type 0 where
+  pub numbers : (i : ℕ) → i < q → getD v′ i 0 ≡ numberOf (stored (partOf areaSize i w))
+  pub beyond : (i : ℕ) → q ≤ i → getD v′ i 0 ≡ getD v i 0
+
+-- the areas hold whose turn is next, and the searches as before
+pub record NextPut (up : ℕ) (w w′ : List ℕ) : Type 0 where
+  pub searches : (i : ℕ) → stored (partOf areaSize i w′) ≡ stored (partOf areaSize i w)
   pub next : getD w′ nextAt 0 ≡ up
 
 -- each search is at its start, and the first question is next

@@ -1,18 +1,18 @@
 // The questions' work areas, one after another: searches are taken up from them and put down there. What an area holds between calls is in
 // specs/Areas.antt.
 ghost use mathlib.Core.Path.{_≡_};
-ghost use mathlib.Core.List.{_∷_, []};
-ghost use Prim.Native.Nat.{_*_, _≤_, _<_};
+ghost use mathlib.Core.List.{List, _∷_, []};
+ghost use Prim.Native.Nat.{ℕ, _+_, _*_, _≤_, _<_};
 ghost use lib.ListN.{length, getD};
 ghost use Rattle.calculus.specs.Expansion.{expand};
 ghost use Rattle.calculus.specs.Model.{Goals};
 ghost use Rattle.index.specs.Index.{indexNode};
 ghost use Rattle.index.specs.Indexed.{Indexed};
 ghost use Rattle.units.specs.Units.{words};
-ghost use Rattle.turns.specs.Turn.{resumed};
-ghost use Rattle.replaying.specs.Standing.{stackSize, Made};
+ghost use Rattle.turns.specs.Turn.{numberOf, resumed};
+ghost use Rattle.replaying.specs.Standing.{stackSize, searchBy, Made};
 ghost use Rattle.roomareas.specs.Areas.{areaSize, partOf, stored, nextAt};
-ghost use Rattle.roomareas.specs.Changes.{mostQuestions, Roomy, Lendable, MadeAt, TakenUp, PutDown, Opened};
+ghost use Rattle.roomareas.specs.Changes.{mostQuestions, Roomy, Lendable, MadeAt, TakenUp, PutDown, Opened, Looked, NextPut};
 
 // The numbers of an area, of a set of units and of a stack.
 const AREA: usize = 32768;
@@ -122,12 +122,67 @@ pub fn take_up_all(
     }
 }
 
+// What a number of an area says that its search has come to.
+fn verdict(v: u16) -> u8
+    ensures { λ r. ⌜ ((G : List ℕ) → r ≡ numberOf (searchBy v G)) ⌝ }
+{
+    if v == 0 {
+        return 0;
+    }
+    if v == 1 {
+        return 1;
+    }
+    UNFINISHED
+}
+
+// What the searches have come to is read off their areas; none is taken up.
+pub fn look(q: usize, work: &[u16], verdicts: &mut [u8])
+    requires { ⌜ (q ≤ mostQuestions) × (areaSize * q ≤ length (now work)) × (length (now verdicts) ≡ mostQuestions) ⌝ }
+    ensures { λ _. ⌜ Looked q (now (work .entry)) (now (verdicts .entry)) (now (verdicts .exit)) ⌝ }
+{
+    let mut i = 0;
+    while i < q {
+        verdicts[i] = verdict(work[AREA * i + VERDICT]);
+        i += 1;
+    }
+}
+
+// One more, if an area's number says that its search is not over.
+fn counted(c: usize, v: u16) -> usize
+    requires { ⌜ c < mostQuestions ⌝ }
+    ensures { λ r. ⌜ r ≤ c + 1 ⌝ }
+{
+    if 1 < v { c + 1 } else { c }
+}
+
+// How many searches are not over.
+pub fn unfinished(q: usize, work: &[u16]) -> usize
+    requires { ⌜ (q ≤ mostQuestions) × (areaSize * q ≤ length (now work)) ⌝ }
+    ensures { λ r. ⌜ r ≤ q ⌝ }
+{
+    let mut c = 0;
+    let mut i = 0;
+    while i < q {
+        c = counted(c, work[AREA * i + VERDICT]);
+        i += 1;
+    }
+    c
+}
+
 // Whose turn is next.
 pub fn next(work: &[u16]) -> u16
     requires { ⌜ areaSize ≤ length (now work) ⌝ }
     ensures { λ r. ⌜ r ≡ getD (now (work .entry)) nextAt 0 ⌝ }
 {
     work[NEXT]
+}
+
+// Whose turn is next is put into the first area.
+pub fn put_next(work: &mut [u16], up: u16)
+    requires { ⌜ areaSize ≤ length (now work) ⌝ }
+    ensures { λ _. ⌜ NextPut up (now (work .entry)) (now (work .exit)) ⌝ }
+{
+    work[NEXT] = up;
 }
 
 // What the searches have come to is put into their areas.

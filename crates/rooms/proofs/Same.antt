@@ -13,23 +13,6 @@ use Rattle.calculus.proofs.Same.{clauses-same}
 use Rattle.turns.specs.Turn.{Search, running, found, closed, follows, back, made, turn, replays, resumes, resumed}
 use Rattle.turns.proofs.Replay.{replays-good}
 
--- a search that was taken up can go on, and one that can go on is taken up as it is
-module _ (e : ℕ → List (List ℕ)) (goals : List ℕ) where
-  pub resumed-resumes : (s : Search) → resumes e goals (resumed e goals s) ≡ true
-  unfolding replays
-  resumed-resumes (running G) = on (replays e goals G) refl
-    where
-      on : (b : Bool) → replays e goals G ≡ b → replays e goals (cond b G []) ≡ true
-      on true z = z
-      on false z = refl
-  resumed-resumes (found G) = refl
-  resumed-resumes closed = refl
-
-  pub resumes-resumed : (s : Search) → resumes e goals s ≡ true → resumed e goals s ≡ s
-  resumes-resumed (running G) r = rw r
-  resumes-resumed (found G) r = refl
-  resumes-resumed closed r = refl
-
 module _ (n : ℕ) (t u : ℕ → Node) (same : (i : ℕ) → i < n → t i ≡ u i) (T : Table n t) (goals : List ℕ) (B : Below n goals) where
   move-alike : (G : List ℕ) → Good n G → move (expand t) goals G ≡ move (expand u) goals G
   unfolding move

@@ -21,14 +21,13 @@ use Rattle.meaning.proofs.Decisions.{decide-plain}
 use Rattle.turns.specs.Turn.{Search, running, found, closed, verdictOf, resumes, replays, turnsOf}
 use Rattle.turns.specs.Round.{Round, opening, runs, remaining, turnFor, spend, turnsFor, total, sum, written}
 use Rattle.turns.proofs.Rounds.{spend-add, turns-add, waits-few}
-use Rattle.turns.proofs.Replay.{turn-resumes}
+use Rattle.turns.proofs.Replay.{turn-resumes, resumed-resumes}
 use Rattle.turns.proofs.Rooms.{written-parts, finished-stays, room-verdict, rooms-end}
 use Rattle.roomareas.specs.Areas.{areaSize, pointsSize, partOf, stored, goalOf, goalsOf, roundOf}
 use Rattle.rooms.specs.Session.{Later, none, turned, reported, Session}
 use Rattle.rooms.proofs.Alike.{Alike, spend-alike, turns-alike}
 use Rattle.rooms.proofs.Ends.{turns-told}
 use Rattle.rooms.proofs.Rows.{admitted-read}
-use Rattle.rooms.proofs.Same.{resumed-resumes}
 
 -- questions over the nodes of a table
 module _ (questions : List ℕ) (rs : List Node) where

@@ -3,7 +3,7 @@ use scope::Refusal;
 use table::Counted;
 ghost use mathlib.Core.Path.{_≡_};
 ghost use mathlib.Core.Bool.{_&&_};
-ghost use Prim.Native.Nat.{ℕ};
+ghost use Prim.Native.Nat.{ℕ, _*_, _≤_};
 ghost use lib.Dec.{leb, ltb};
 ghost use lib.ListN.{length, getD};
 ghost use Rattle.scope.specs.Table.{listFrom};
@@ -11,6 +11,8 @@ ghost use Rattle.calculus.specs.Expansion.{expand};
 ghost use Rattle.calculus.specs.Model.{Goals};
 ghost use Rattle.index.specs.Index.{indexSize, indexNode};
 ghost use Rattle.index.specs.Indexed.{Indexed};
+ghost use Rattle.units.specs.Units.{words};
+ghost use Rattle.replaying.specs.Standing.{stackSize};
 ghost use Rattle.roomareas.specs.Changes.{mostQuestions};
 ghost use Rattle.rounds.specs.Spent.{Pointed};
 ghost use Rattle.rooms.specs.Calls.{Fit, AsksRooms, Went, Reported, OpensRooms, TurnsRooms};
@@ -76,7 +78,49 @@ pub fn open(t: &[u8], questions: &[u16], settings: &[u8], work: &mut [u16]) -> T
 }
 
 // The searches are taken up, an allowance of turns is spent on them, and they are put down.
-fn spend(
+fn spend_in(
+    x: &[u16],
+    n: usize,
+    questions: &[u16],
+    settings: &mut [u8],
+    work: &mut [u16],
+    masks: &mut [u64],
+    opens: &mut [u16],
+    allowance: usize,
+    turns: &mut [usize],
+    verdicts: &mut [u8],
+)
+    requires { ⌜ Indexed (now x) n ⌝ }
+    requires { ⌜ Pointed (now x) n ⌝ }
+    requires { ⌜ Goals n (now questions) ⌝ }
+    requires { ⌜ Fit (now questions) (length (now settings)) (length (now work)) ⌝ }
+    requires { ⌜ (words * length (now questions) ≤ length (now masks)) × (stackSize * length (now questions) ≤ length (now opens)) ⌝ }
+    requires { ⌜ (length (now turns) ≡ mostQuestions) × (length (now verdicts) ≡ mostQuestions) ⌝ }
+    requires { ⌜ ((i : ℕ) → getD (now turns) i 0 ≡ 0) ⌝ }
+    requires { ⌜ ((i : ℕ) → getD (now verdicts) i 0 ≡ 0) ⌝ }
+    ensures { λ _. ⌜ Went (expand (indexNode (now (x .entry)))) (listFrom (indexNode (now (x .entry))) 0 n) (now (questions .entry)) (now (settings .entry)) (now (work .entry)) allowance (now (settings .exit)) (now (work .exit)) ⌝ }
+    ensures { λ _. ⌜ Reported (expand (indexNode (now (x .entry)))) (now (questions .entry)) (now (work .entry)) allowance (now (turns .exit)) (now (verdicts .exit)) ⌝ }
+{
+    let first = roomareas::next(work);
+    roomareas::take_up_all(x, n, questions, work, masks, opens, verdicts);
+    let next = rounds::spend(
+        x,
+        n,
+        questions,
+        settings,
+        work,
+        masks,
+        opens,
+        verdicts,
+        turns,
+        first as usize,
+        allowance,
+    );
+    roomareas::put_down(questions.len(), work, verdicts, next as u16);
+}
+
+// So they are, with a set of units and a stack for each of eight.
+fn spend_all(
     x: &[u16],
     n: usize,
     questions: &[u16],
@@ -98,9 +142,7 @@ fn spend(
 {
     let mut masks = [0u64; 264];
     let mut opens = [0u16; 16136];
-    let first = roomareas::next(work);
-    roomareas::take_up_all(x, n, questions, work, &mut masks, &mut opens, verdicts);
-    let next = rounds::spend(
+    spend_in(
         x,
         n,
         questions,
@@ -108,12 +150,117 @@ fn spend(
         work,
         &mut masks,
         &mut opens,
+        allowance,
+        turns,
+        verdicts,
+    );
+}
+
+// So is one search.
+fn spend_one(
+    x: &[u16],
+    n: usize,
+    questions: &[u16],
+    settings: &mut [u8],
+    work: &mut [u16],
+    allowance: usize,
+    turns: &mut [usize],
+    verdicts: &mut [u8],
+)
+    requires { ⌜ Indexed (now x) n ⌝ }
+    requires { ⌜ Pointed (now x) n ⌝ }
+    requires { ⌜ Goals n (now questions) ⌝ }
+    requires { ⌜ Fit (now questions) (length (now settings)) (length (now work)) ⌝ }
+    requires { ⌜ length (now questions) ≡ 1 ⌝ }
+    requires { ⌜ (length (now turns) ≡ mostQuestions) × (length (now verdicts) ≡ mostQuestions) ⌝ }
+    requires { ⌜ ((i : ℕ) → getD (now turns) i 0 ≡ 0) ⌝ }
+    requires { ⌜ ((i : ℕ) → getD (now verdicts) i 0 ≡ 0) ⌝ }
+    ensures { λ _. ⌜ Went (expand (indexNode (now (x .entry)))) (listFrom (indexNode (now (x .entry))) 0 n) (now (questions .entry)) (now (settings .entry)) (now (work .entry)) allowance (now (settings .exit)) (now (work .exit)) ⌝ }
+    ensures { λ _. ⌜ Reported (expand (indexNode (now (x .entry)))) (now (questions .entry)) (now (work .entry)) allowance (now (turns .exit)) (now (verdicts .exit)) ⌝ }
+{
+    let mut masks = [0u64; 33];
+    let mut opens = [0u16; 2017];
+    spend_in(
+        x,
+        n,
+        questions,
+        settings,
+        work,
+        &mut masks,
+        &mut opens,
+        allowance,
+        turns,
+        verdicts,
+    );
+}
+
+// An allowance of turns is spent on the searches, each taken up for its turn and put down after it.
+fn spend_few(
+    x: &[u16],
+    n: usize,
+    questions: &[u16],
+    settings: &mut [u8],
+    work: &mut [u16],
+    allowance: usize,
+    turns: &mut [usize],
+    verdicts: &mut [u8],
+)
+    requires { ⌜ Indexed (now x) n ⌝ }
+    requires { ⌜ Pointed (now x) n ⌝ }
+    requires { ⌜ Goals n (now questions) ⌝ }
+    requires { ⌜ Fit (now questions) (length (now settings)) (length (now work)) ⌝ }
+    requires { ⌜ (length (now turns) ≡ mostQuestions) × (length (now verdicts) ≡ mostQuestions) ⌝ }
+    requires { ⌜ ((i : ℕ) → getD (now turns) i 0 ≡ 0) ⌝ }
+    requires { ⌜ ((i : ℕ) → getD (now verdicts) i 0 ≡ 0) ⌝ }
+    ensures { λ _. ⌜ Went (expand (indexNode (now (x .entry)))) (listFrom (indexNode (now (x .entry))) 0 n) (now (questions .entry)) (now (settings .entry)) (now (work .entry)) allowance (now (settings .exit)) (now (work .exit)) ⌝ }
+    ensures { λ _. ⌜ Reported (expand (indexNode (now (x .entry)))) (now (questions .entry)) (now (work .entry)) allowance (now (turns .exit)) (now (verdicts .exit)) ⌝ }
+{
+    let up = roomareas::next(work);
+    roomareas::look(questions.len(), work, verdicts);
+    let next = rounds::spend_few(
+        x,
+        n,
+        questions,
+        settings,
+        work,
         verdicts,
         turns,
-        first as usize,
+        up as usize,
         allowance,
     );
-    roomareas::put_down(questions.len(), work, verdicts, next as u16);
+    roomareas::put_next(work, next as u16);
+}
+
+// An allowance of turns is spent on the searches; where none would have two turns, only those that have one are taken up.
+fn spend(
+    x: &[u16],
+    n: usize,
+    questions: &[u16],
+    settings: &mut [u8],
+    work: &mut [u16],
+    allowance: usize,
+    turns: &mut [usize],
+    verdicts: &mut [u8],
+)
+    requires { ⌜ Indexed (now x) n ⌝ }
+    requires { ⌜ Pointed (now x) n ⌝ }
+    requires { ⌜ Goals n (now questions) ⌝ }
+    requires { ⌜ Fit (now questions) (length (now settings)) (length (now work)) ⌝ }
+    requires { ⌜ (length (now turns) ≡ mostQuestions) × (length (now verdicts) ≡ mostQuestions) ⌝ }
+    requires { ⌜ ((i : ℕ) → getD (now turns) i 0 ≡ 0) ⌝ }
+    requires { ⌜ ((i : ℕ) → getD (now verdicts) i 0 ≡ 0) ⌝ }
+    ensures { λ _. ⌜ Went (expand (indexNode (now (x .entry)))) (listFrom (indexNode (now (x .entry))) 0 n) (now (questions .entry)) (now (settings .entry)) (now (work .entry)) allowance (now (settings .exit)) (now (work .exit)) ⌝ }
+    ensures { λ _. ⌜ Reported (expand (indexNode (now (x .entry)))) (now (questions .entry)) (now (work .entry)) allowance (now (turns .exit)) (now (verdicts .exit)) ⌝ }
+{
+    if questions.len() == 1 {
+        spend_one(x, n, questions, settings, work, allowance, turns, verdicts);
+        return;
+    }
+    if roomareas::unfinished(questions.len(), work) < allowance {
+        spend_all(x, n, questions, settings, work, allowance, turns, verdicts);
+    } else {
+        spend_few(x, n, questions, settings, work, allowance, turns, verdicts);
+    }
 }
 
 // A later call: an allowance of turns is spent on the searches, which go on where their areas say that they stand.

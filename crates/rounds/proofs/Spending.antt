@@ -1,31 +1,33 @@
 -- Turn by turn: what the call has come to after k turns is the round after k turns. Assumes nothing.
 use mathlib.Core.Path.{_≡_, refl, sym, ap, _∙_}
-use mathlib.Core.Bool.{Bool, true, true≢false}
+use mathlib.Core.Bool.{Bool, true, false, cond, true≢false}
 use mathlib.Core.List.{List}
 use Prim.Native.Nat.{ℕ, suc, _+_, _-_, _<_, _≤_}
 use native.Mathlib.Numerals.{add-one}
 use native.Mathlib.Omega.{arith}
 use native.Mathlib.Decide.{ℕ-discrete}
+use lib.Dec.{eqb}
 use lib.ListN.{length, getD, set, length-set}
 use lib.Seq.{getD-set-same, getD-set-other}
 use borrow.Author.Tests.{eq-eqb, ne-eqb, eqb-true, lt-ltb, le-ltb}
 use Rattle.scope.specs.declared.Node.{Node}
 use Rattle.scope.specs.Table.{listFrom}
 use Rattle.calculus.specs.Count.{one}
+use Rattle.calculus.specs.Decide.{settingsOn}
 use Rattle.calculus.specs.Expansion.{expand}
 use Rattle.units.specs.Units.{words}
 use Rattle.state.specs.Work.{gOf}
-use Rattle.turns.specs.Turn.{Search, running, found, closed, isRunning}
+use Rattle.turns.specs.Turn.{Search, running, found, closed, verdictOf, numberOf, isRunning, takenUp, resumed}
 use Rattle.turns.specs.Round.{Round, runs, seek, upNext, whose, turnFor, serve, spend, turnsFor, written}
+use Rattle.turns.proofs.Replay.{turn-resumes, resumed-resumes, resumes-resumed}
 use Rattle.turns.proofs.Rounds.{up, up-same, serve-one, serve-same, serve-other, spend-add, spend-none, spend-next, turns-add, turns-next, turns-none, turns-fit}
 use Rattle.turns.proofs.Rooms.{written-parts, finished-stays}
 use Rattle.replaying.specs.Standing.{stackSize, searchBy, Stands}
 use Rattle.replaying.proofs.Standings.{made-stands}
-use Rattle.roomareas.specs.Areas.{areaSize, pointsSize, partOf, goalOf, goalsOf}
-use Rattle.roomareas.specs.Changes.{searchAt, SitsAt, Sits}
-use Rattle.roomareas.proofs.Sitting.{search-here, sits-here, verdict-other, search-other, sits-other}
-use Rattle.rounds.specs.Spent.{runsBy, turnAt, Served, roundIn, roundAfter, turnsAfter, Spent}
-use Rattle.rounds.proofs.Serving.{made-runs}
+use Rattle.roomareas.specs.Areas.{areaSize, pointsSize, partOf, stored, goalOf, goalsOf, searchIn}
+use Rattle.roomareas.specs.Changes.{Beside, searchAt, SitsAt, Sits}
+use Rattle.roomareas.proofs.Sitting.{search-here, sits-here, search-other, sits-other}
+use Rattle.rounds.specs.Spent.{runsBy, turnAt, Served, nextIn, SteppedAt, roundIn, roundAfter, turnsAfter, Spent}
 
 -- who is up, by two looks
 module _ (p : ℕ → Bool) (q next : ℕ) {i : ℕ} (e : i ≡ seek p next (q - next)) where
@@ -40,15 +42,16 @@ module _ (p : ℕ → Bool) (q next : ℕ) {i : ℕ} (e : i ≡ seek p next (q -
       rw (← e, le-ltb i q h) (rw z at d)
 
 -- at the start no turn is spent
-pub spent-starts : {t : ℕ → Node} {n : ℕ} {questions : List ℕ} (s : List ℕ) {w m o v : List ℕ} (turns : List ℕ) (first : ℕ) → Sits t n questions w m o v
-    → ((i : ℕ) → getD turns i 0 ≡ 0) → Spent t n questions s w v first 0 s w m o v turns first
+pub spent-starts : {t : ℕ → Node} {n : ℕ} {questions : List ℕ} (s v turns : List ℕ) (before : ℕ → Search) (first : ℕ)
+    → ((i : ℕ) → i < length questions → getD v i 0 ≡ numberOf (before i)) → ((i : ℕ) → getD turns i 0 ≡ 0)
+    → Spent t n questions s v before first 0 s v turns before first
 unfolding spend turnsFor
-spent-starts {t} {n} s {w} {v = v} turns first h z = record {
+spent-starts {t} {n} s v turns before first h z = record {
   next = refl;
   searches = λ i l. refl;
-  sits = h;
+  numbers = h;
   turns = λ i l. z i;
-  settings = λ i l. idle (listFrom t 0 n) (searchAt w v i) (partOf pointsSize i s);
+  settings = λ i l. idle (listFrom t 0 n) (before i) (partOf pointsSize i s);
   beyond = λ i l. (refl, refl, z i);
 }
   where
@@ -57,8 +60,13 @@ spent-starts {t} {n} s {w} {v = v} turns first h z = record {
     idle rs (found G) p = refl
     idle rs closed p = refl
 
-module _ {t : ℕ → Node} {n : ℕ} {questions s₀ w₀ v₀ : List ℕ} {first k : ℕ} {s w m o v turns : List ℕ} {next : ℕ}
-    (a : Spent t n questions s₀ w₀ v₀ first k s w m o v turns next) where
+number-runs : (s : Search) {r : ℕ} → r ≡ numberOf s → eqb r 2 ≡ isRunning s
+number-runs (running G) e = rw e
+number-runs (found G) e = rw e
+number-runs closed e = rw e
+
+module _ {t : ℕ → Node} {n : ℕ} {questions s₀ v₀ : List ℕ} {before : ℕ → Search} {first k : ℕ} {s v turns : List ℕ} {stand : ℕ → Search} {next : ℕ}
+    (a : Spent t n questions s₀ v₀ before first k s v turns stand next) where
   -- how many questions there are, the turn of each, and the round now
   abbrev count : ℕ
   count = length questions
@@ -67,14 +75,14 @@ module _ {t : ℕ → Node} {n : ℕ} {questions s₀ w₀ v₀ : List ℕ} {fir
   turnOf = turnFor (expand t) (goalOf questions)
 
   abbrev now : Round
-  now = roundAfter t questions w₀ v₀ first k
+  now = roundAfter t questions before first k
 
   runs-by : (j : ℕ) → j < count → runsBy v j ≡ runs now j
-  runs-by j h = sym (made-runs (searchAt w v j) (a .sits j h)) ∙ ap isRunning (a .searches j h)
+  runs-by j h = number-runs (stand j) (a .numbers j h) ∙ ap isRunning (a .searches j h)
 
   -- each has had no more turns than were spent
   pub turns-few : (i : ℕ) → i < count → getD turns i 0 ≤ k
-  turns-few i h = omega (arith, a .turns i h, turns-fit turnOf count k (roundIn w₀ v₀ first) i)
+  turns-few i h = omega (arith, a .turns i h, turns-fit turnOf count k (roundIn before first) i)
 
   module _ {i : ℕ} (e : i ≡ upNext (runsBy v) count next) where
     up-is : i ≡ whose count now
@@ -88,23 +96,23 @@ module _ {t : ℕ → Node} {n : ℕ} {questions s₀ w₀ v₀ : List ℕ} {fir
       parts : m′ ≡ k + (m′ - k)
       parts = omega arith
 
-      still : roundAfter t questions w₀ v₀ first m′ ≡ now
+      still : roundAfter t questions before first m′ ≡ now
       still =
-          ap (λ (j : ℕ). roundAfter t questions w₀ v₀ first j) parts ∙ spend-add turnOf count k (m′ - k) (roundIn w₀ v₀ first)
+          ap (λ (j : ℕ). roundAfter t questions before first j) parts ∙ spend-add turnOf count k (m′ - k) (roundIn before first)
           ∙ spend-none turnOf count (m′ - k) now over
 
-      no-turns : (j : ℕ) → j < count → turnsAfter t questions w₀ v₀ first m′ j ≡ turnsAfter t questions w₀ v₀ first k j
+      no-turns : (j : ℕ) → j < count → turnsAfter t questions before first m′ j ≡ turnsAfter t questions before first k j
       no-turns j b =
-          ap (λ (q : ℕ). turnsAfter t questions w₀ v₀ first q j) parts
-          ∙ omega (arith, turns-add turnOf count k (m′ - k) (roundIn w₀ v₀ first) j, turns-none turnOf count (m′ - k) now j over b)
+          ap (λ (q : ℕ). turnsAfter t questions before first q j) parts
+          ∙ omega (arith, turns-add turnOf count k (m′ - k) (roundIn before first) j, turns-none turnOf count (m′ - k) now j over b)
 
-      pub spent-all : Spent t n questions s₀ w₀ v₀ first m′ s w m o v turns next
+      pub spent-all : Spent t n questions s₀ v₀ before first m′ s v turns stand next
       spent-all = record {
         next = a .next ∙ ap (λ (R : Round). R .next) (sym still);
         searches = λ j b. a .searches j b ∙ ap (λ (R : Round). R .searches j) (sym still);
-        sits = a .sits;
+        numbers = a .numbers;
         turns = λ j b. a .turns j b ∙ sym (no-turns j b);
-        settings = λ j b. a .settings j b ∙ ap (λ (R : Round). written (listFrom t 0 n) (searchAt w₀ v₀ j) (R .searches j) (partOf pointsSize j s₀)) (sym still);
+        settings = λ j b. a .settings j b ∙ ap (λ (R : Round). written (listFrom t 0 n) (before j) (R .searches j) (partOf pointsSize j s₀)) (sym still);
         beyond = a .beyond;
       }
 
@@ -113,27 +121,20 @@ module _ {t : ℕ → Node} {n : ℕ} {questions s₀ w₀ v₀ : List ℕ} {fir
       up-runs : runs now i ≡ true
       up-runs = rw up-is (up (runs now) count (now .next) .passes (omega (arith, up-is)))
 
-      up-number : getD v i 0 ≡ 2
+      pub up-number : getD v i 0 ≡ 2
       up-number = eqb-true (getD v i 0) 2 (runs-by i h ∙ up-runs)
-
-      pub up-stands : Stands t n (goalsOf questions i) (partOf areaSize i w) (partOf words i m) (partOf stackSize i o)
-      up-stands = made-stands (searchAt w v i) (a .sits i h) up-number
-
-      up-search : now .searches i ≡ running (gOf (partOf areaSize i w))
-      unfolding searchBy
-      up-search = sym (a .searches i h) ∙ ap (λ (x : ℕ). searchBy x (gOf (partOf areaSize i w))) up-number
 
       -- the round one turn further
       abbrev then : Round
-      then = roundAfter t questions w₀ v₀ first (k + 1)
+      then = roundAfter t questions before first (k + 1)
 
       further : then ≡ serve turnOf count now
-      further = spend-next turnOf count k (roundIn w₀ v₀ first)
+      further = spend-next turnOf count k (roundIn before first)
 
-      then-here : then .searches i ≡ turnAt t questions i w
+      then-here : then .searches i ≡ turnOf i (stand i)
       then-here =
           ap (λ (R : Round). R .searches i) further ∙ serve-same turnOf count now i (omega (arith, up-is)) up-is
-          ∙ ap (turnOf i) up-search
+          ∙ ap (turnOf i) (sym (a .searches i h))
 
       then-other : (j : ℕ) → (j ≡ i → ⊥) → then .searches j ≡ now .searches j
       then-other j d = ap (λ (R : Round). R .searches j) further ∙ serve-other turnOf count now j (λ z. d (z ∙ sym up-is))
@@ -143,53 +144,124 @@ module _ {t : ℕ → Node} {n : ℕ} {questions s₀ w₀ v₀ : List ℕ} {fir
           ap (λ (R : Round). R .next) further ∙ ap (λ (R : Round). R .next) (serve-one turnOf count now (omega (arith, up-is)))
           ∙ ap suc (sym up-is) ∙ sym (add-one i)
 
-      module _ {s′ w′ m′ o′ : List ℕ} {r : ℕ} (x : Served t n questions i s w m o s′ w′ m′ o′ r) (l : i < length v) (z : i < length turns) where
+      -- it has made a turn, and no other has
+      module _ {s′ : List ℕ} {r : ℕ} {stand′ : ℕ → Search} (here : stand′ i ≡ turnOf i (stand i)) (others : (j : ℕ) → (j ≡ i → ⊥) → stand′ j ≡ stand j)
+          (number : r ≡ numberOf (turnOf i (stand i)))
+          (setting : partOf pointsSize i s′ ≡ settingsOn (listFrom t 0 n) (partOf pointsSize i s) (verdictOf (turnOf i (stand i))))
+          (beside : Beside pointsSize i s s′) (l : i < length v) (z : i < length turns) where
         abbrev more : List ℕ
         more = set turns i (getD turns i 0 + 1)
 
-        sit : (j : ℕ) → j < count → Dec (j ≡ i) → SitsAt t n questions w′ m′ o′ (set v i r) j
-        sit j b (yes d) = rw d (sits-here questions v (x .made) l)
-        sit j b (no d) = sits-other questions v (x .made) l d (a .sits j b)
+        numbered : (j : ℕ) → j < count → Dec (j ≡ i) → getD (set v i r) j 0 ≡ numberOf (stand′ j)
+        numbered j b (yes d) = rw d (getD-set-same v i r 0 l ∙ number ∙ ap numberOf (sym here))
+        numbered j b (no d) = getD-set-other v i j r 0 d ∙ a .numbers j b ∙ ap numberOf (sym (others j d))
 
-        moved : (j : ℕ) → j < count → Dec (j ≡ i) → searchAt w′ (set v i r) j ≡ then .searches j
-        moved j b (yes d) = rw d (search-here questions v (x .made) l ∙ sym then-here)
-        moved j b (no d) = search-other questions v (x .made) l d ∙ a .searches j b ∙ sym (then-other j d)
+        moved : (j : ℕ) → j < count → Dec (j ≡ i) → stand′ j ≡ then .searches j
+        moved j b (yes d) = rw d (here ∙ sym then-here)
+        moved j b (no d) = others j d ∙ a .searches j b ∙ sym (then-other j d)
 
-        counted : (j : ℕ) → j < count → Dec (j ≡ i) → getD more j 0 ≡ turnsAfter t questions w₀ v₀ first (k + 1) j
+        counted : (j : ℕ) → j < count → Dec (j ≡ i) → getD more j 0 ≡ turnsAfter t questions before first (k + 1) j
         counted j b (yes d) =
             rw d
             (getD-set-same turns i (getD turns i 0 + 1) 0 z
-            ∙ omega (arith, a .turns i h, turns-next turnOf count k (roundIn w₀ v₀ first) i, ap one (eq-eqb i (whose count now) up-is)))
+            ∙ omega (arith, a .turns i h, turns-next turnOf count k (roundIn before first) i, ap one (eq-eqb i (whose count now) up-is)))
         counted j b (no d) =
             getD-set-other turns i j (getD turns i 0 + 1) 0 d
-            ∙ omega (arith, a .turns j b, turns-next turnOf count k (roundIn w₀ v₀ first) j, ap one (ne-eqb j (whose count now) (λ y. d (y ∙ sym up-is))))
+            ∙ omega (arith, a .turns j b, turns-next turnOf count k (roundIn before first) j, ap one (ne-eqb j (whose count now) (λ y. d (y ∙ sym up-is))))
 
         set-bytes : (j : ℕ) → j < count → Dec (j ≡ i)
-            → partOf pointsSize j s′ ≡ written (listFrom t 0 n) (searchAt w₀ v₀ j) (then .searches j) (partOf pointsSize j s₀)
+            → partOf pointsSize j s′ ≡ written (listFrom t 0 n) (before j) (then .searches j) (partOf pointsSize j s₀)
         set-bytes j b (yes d) =
             rw d
-            (x .setting ∙ sym (rw (up-search, then-here))
+            (setting ∙ sym (rw (up-runs, then-here))
             ∙ ap (written (listFrom t 0 n) (now .searches i) (then .searches i)) (a .settings i h)
-            ∙ written-parts (listFrom t 0 n) (partOf pointsSize i s₀) (searchAt w₀ v₀ i) (now .searches i) (then .searches i)
-            (finished-stays (expand t) (goalOf questions) count k (roundIn w₀ v₀ first) i h) (λ y. absurd (true≢false (sym up-runs ∙ y))))
+            ∙ written-parts (listFrom t 0 n) (partOf pointsSize i s₀) (before i) (now .searches i) (then .searches i)
+            (finished-stays (expand t) (goalOf questions) count k (roundIn before first) i h) (λ y. absurd (true≢false (sym up-runs ∙ y))))
         set-bytes j b (no d) =
-            x .others .other j d ∙ a .settings j b
-            ∙ ap (λ (y : Search). written (listFrom t 0 n) (searchAt w₀ v₀ j) y (partOf pointsSize j s₀)) (sym (then-other j d))
+            beside .other j d ∙ a .settings j b
+            ∙ ap (λ (y : Search). written (listFrom t 0 n) (before j) y (partOf pointsSize j s₀)) (sym (then-other j d))
 
-        pub spent-more : Spent t n questions s₀ w₀ v₀ first (k + 1) s′ w′ m′ o′ (set v i r) more (i + 1)
+        pub spent-more : Spent t n questions s₀ v₀ before first (k + 1) s′ (set v i r) more stand′ (i + 1)
         spent-more = record {
           next = sym then-next;
           searches = λ j b. moved j b (ℕ-discrete j i);
-          sits = λ j b. sit j b (ℕ-discrete j i);
+          numbers = λ j b. numbered j b (ℕ-discrete j i);
           turns = λ j b. counted j b (ℕ-discrete j i);
           settings = λ j b. set-bytes j b (ℕ-discrete j i);
           beyond = λ j b.
               let d : j ≡ i → ⊥ = λ y. omega arith in (
-                x .others .other j d ∙ a .beyond j b .0,
-                verdict-other questions v (x .made) l d ∙ a .beyond j b .1,
+                beside .other j d ∙ a .beyond j b .0,
+                getD-set-other v i j r 0 d ∙ a .beyond j b .1,
                 getD-set-other turns i j (getD turns i 0 + 1) 0 d ∙ a .beyond j b .2,
               );
         }
+
+-- ---- where the searches are all taken up
+
+module _ {t : ℕ → Node} {n : ℕ} {questions s₀ v₀ : List ℕ} {before : ℕ → Search} {first k : ℕ} {s : List ℕ} (w m o : List ℕ) {v turns : List ℕ} {next : ℕ}
+    (a : Spent t n questions s₀ v₀ before first k s v turns (searchAt w v) next) (b : Sits t n questions w m o v) {i : ℕ}
+    (e : i ≡ upNext (runsBy v) (length questions) next) (h : i < length questions) where
+  pub up-stands : Stands t n (goalsOf questions i) (partOf areaSize i w) (partOf words i m) (partOf stackSize i o)
+  up-stands = made-stands (searchAt w v i) (b i h) (up-number a e h)
+
+  up-search : searchAt w v i ≡ running (gOf (partOf areaSize i w))
+  unfolding searchBy
+  up-search = ap (λ (x : ℕ). searchBy x (gOf (partOf areaSize i w))) (up-number a e h)
+
+  module _ {s′ w′ m′ o′ : List ℕ} {r : ℕ} (x : Served t n questions i s w m o s′ w′ m′ o′ r) (l : i < length v) (z : i < length turns) where
+    turned : turnAt t questions i w ≡ turnFor (expand t) (goalOf questions) i (searchAt w v i)
+    turned = ap (turnFor (expand t) (goalOf questions) i) (sym up-search)
+
+    pub served-more : Spent t n questions s₀ v₀ before first (k + 1) s′ (set v i r) (set turns i (getD turns i 0 + 1)) (searchAt w′ (set v i r)) (i + 1)
+    served-more =
+        spent-more a e h (search-here questions v (x .made) l ∙ turned) (λ j d. search-other questions v (x .made) l d)
+        (x .made .made .number ∙ ap numberOf turned) (x .setting ∙ ap (λ (y : Search). settingsOn (listFrom t 0 n) (partOf pointsSize i s) (verdictOf y)) turned)
+        (x .others) l z
+
+    pub sits-more : Sits t n questions w′ m′ o′ (set v i r)
+    sits-more j c = on (ℕ-discrete j i)
+      where
+        on : Dec (j ≡ i) → SitsAt t n questions w′ m′ o′ (set v i r) j
+        on (yes d) = rw d (sits-here questions v (x .made) l)
+        on (no d) = sits-other questions v (x .made) l d (b j c)
+
+-- ---- where each is taken up for its turn
+
+taken-number : (e : ℕ → List (List ℕ)) (goals : List ℕ) (v : ℕ) (G : List ℕ) → 2 ≡ numberOf (resumed e goals (searchBy v G))
+    → resumed e goals (searchBy v G) ≡ running (takenUp e goals G)
+unfolding searchBy
+taken-number e goals v G = on (eqb v 0) (eqb v 1)
+  where
+    on : (b c : Bool) → 2 ≡ numberOf (resumed e goals (cond b closed (cond c (found G) (running G))))
+        → resumed e goals (cond b closed (cond c (found G) (running G))) ≡ running (takenUp e goals G)
+    on true c z = absurd (omega arith)
+    on false true z = absurd (omega arith)
+    on false false z = refl
+
+module _ {t : ℕ → Node} {n : ℕ} {questions s₀ v₀ : List ℕ} {before : ℕ → Search} {first k : ℕ} {s w v turns : List ℕ} {next : ℕ}
+    (a : Spent t n questions s₀ v₀ before first k s v turns (searchIn (expand t) questions w) next) {i : ℕ}
+    (e : i ≡ upNext (runsBy v) (length questions) next) (h : i < length questions) {s′ w′ : List ℕ} {r : ℕ}
+    (x : SteppedAt t n (goalsOf questions i) i s w s′ w′ r) (l : i < length v) (z : i < length turns) where
+  -- what it was taken up as
+  taken : searchIn (expand t) questions w i ≡ running (takenUp (expand t) (goalsOf questions i) (gOf (partOf areaSize i w)))
+  taken =
+      taken-number (expand t) (goalsOf questions i) (getD (partOf areaSize i w) 0 0) (gOf (partOf areaSize i w)) (sym (up-number a e h) ∙ a .numbers i h)
+
+  turned-in : nextIn t (goalsOf questions i) (partOf areaSize i w) ≡ turnFor (expand t) (goalOf questions) i (searchIn (expand t) questions w i)
+  turned-in = ap (turnFor (expand t) (goalOf questions) i) (sym taken)
+
+  -- it can go on, so it is there as it was put down
+  stays : searchIn (expand t) questions w′ i ≡ turnFor (expand t) (goalOf questions) i (searchIn (expand t) questions w i)
+  stays =
+      ap (resumed (expand t) (goalsOf questions i)) (x .here .search ∙ turned-in)
+      ∙ resumes-resumed (expand t) (goalsOf questions i) (turnFor (expand t) (goalOf questions) i (searchIn (expand t) questions w i))
+      (turn-resumes (expand t) (goalsOf questions i) (searchIn (expand t) questions w i) (resumed-resumes (expand t) (goalsOf questions i) (stored (partOf areaSize i w))))
+
+  pub stepped-more : Spent t n questions s₀ v₀ before first (k + 1) s′ (set v i r) (set turns i (getD turns i 0 + 1)) (searchIn (expand t) questions w′) (i + 1)
+  stepped-more =
+      spent-more a e h stays (λ j d. ap (λ (p : List ℕ). resumed (expand t) (goalsOf questions j) (stored p)) (x .areas .other j d))
+      (x .here .number ∙ ap numberOf turned-in) (x .here .setting ∙ ap (λ (y : Search). settingsOn (listFrom t 0 n) (partOf pointsSize i s) (verdictOf y)) turned-in)
+      (x .points) l z
 
 -- ---- the lengths of what is lent stay
 

@@ -12,10 +12,11 @@ use Rattle.calculus.specs.Order.{settingOf}
 use Rattle.calculus.specs.Decide.{settingsOn}
 use Rattle.index.specs.Index.{indexNode}
 use Rattle.state.specs.Work.{gOf}
-use Rattle.turns.specs.Turn.{Search, running, verdictOf, turn}
+use Rattle.turns.specs.Turn.{Search, running, verdictOf, numberOf, turn, takenUp}
 use Rattle.turns.specs.Round.{Round, turnFor, spend, turnsFor, written}
-use Rattle.roomareas.specs.Areas.{areaSize, pointsSize, partOf, goalOf, goalsOf}
-use Rattle.roomareas.specs.Changes.{Beside, MadeAt, searchAt, Sits}
+use Rattle.replaying.specs.Standing.{searchBy}
+use Rattle.roomareas.specs.Areas.{areaSize, pointsSize, partOf, stored, goalOf, goalsOf}
+use Rattle.roomareas.specs.Changes.{Beside, MadeAt}
 
 -- question j is unfinished, by the verdicts
 abbrev pub runsBy : List ℕ → ℕ → Bool
@@ -40,24 +41,45 @@ pub record Served (t : ℕ → Node) (n : ℕ) (questions : List ℕ) (i : ℕ) 
   pub setting : partOf pointsSize i s′ ≡ settingsOn (listFrom t 0 n) (partOf pointsSize i s) (verdictOf (turnAt t questions i w))
   pub others : Beside pointsSize i s s′
 
+-- what a search comes to that is taken up from its area w and makes a turn
+abbrev pub nextIn : (ℕ → Node) → List ℕ → List ℕ → Search
+nextIn t goals w = turn (expand t) goals (running (takenUp (expand t) goals (gOf w)))
+
+-- what a search has come to is put into its area
+pub record VerdictPut (v : ℕ) (w w′ : List ℕ) : Type 0 where
+  pub search : stored w′ ≡ searchBy v (gOf w)
+
+-- so it has, and was put down, and its setting bytes are written
+pub record Stepped (t : ℕ → Node) (n : ℕ) (goals s w s′ w′ : List ℕ) (r : ℕ) : Type 0 where
+  pub number : r ≡ numberOf (nextIn t goals w)
+  pub search : stored w′ ≡ nextIn t goals w
+  pub setting : s′ ≡ settingsOn (listFrom t 0 n) s (verdictOf (nextIn t goals w))
+
+-- so has question i's
+pub record SteppedAt (t : ℕ → Node) (n : ℕ) (goals : List ℕ) (i : ℕ) (s w s′ w′ : List ℕ) (r : ℕ) : Type 0 where
+  pub here : Stepped t n goals (partOf pointsSize i s) (partOf areaSize i w) (partOf pointsSize i s′) (partOf areaSize i w′) r
+  pub areas : Beside areaSize i w w′
+  pub points : Beside pointsSize i s s′
+
 -- the round of a call
-abbrev pub roundIn : List ℕ → List ℕ → ℕ → Round
-roundIn w v next = record { searches = searchAt w v; next = next }
+abbrev pub roundIn : (ℕ → Search) → ℕ → Round
+roundIn searches next = record { searches = searches; next = next }
 
 -- the round after so many turns, and the turns of each question
-abbrev pub roundAfter : (ℕ → Node) → List ℕ → List ℕ → List ℕ → ℕ → ℕ → Round
-roundAfter t questions w v first k = spend (turnFor (expand t) (goalOf questions)) (length questions) k (roundIn w v first)
+abbrev pub roundAfter : (ℕ → Node) → List ℕ → (ℕ → Search) → ℕ → ℕ → Round
+roundAfter t questions before first k = spend (turnFor (expand t) (goalOf questions)) (length questions) k (roundIn before first)
 
-abbrev pub turnsAfter : (ℕ → Node) → List ℕ → List ℕ → List ℕ → ℕ → ℕ → ℕ → ℕ
-turnsAfter t questions w v first k i = turnsFor (turnFor (expand t) (goalOf questions)) (length questions) k (roundIn w v first) i
+abbrev pub turnsAfter : (ℕ → Node) → List ℕ → (ℕ → Search) → ℕ → ℕ → ℕ → ℕ
+turnsAfter t questions before first k i = turnsFor (turnFor (expand t) (goalOf questions)) (length questions) k (roundIn before first) i
 
--- k turns have been spent on the questions, from the settings s, the areas w and the verdicts v on
-pub record Spent (t : ℕ → Node) (n : ℕ) (questions s w v : List ℕ) (first k : ℕ) (s′ w′ m′ o′ v′ turns′ : List ℕ) (up : ℕ) : Type 0 where
-  pub next : up ≡ roundAfter t questions w v first k .next
-  pub searches : (i : ℕ) → i < length questions → searchAt w′ v′ i ≡ roundAfter t questions w v first k .searches i
-  pub sits : Sits t n questions w′ m′ o′ v′
-  pub turns : (i : ℕ) → i < length questions → getD turns′ i 0 ≡ turnsAfter t questions w v first k i
+-- k turns have been spent on the questions, whose searches stood as `before` and stand as `after`, from the settings s and the verdicts v on
+pub record Spent (t : ℕ → Node) (n : ℕ) (questions s v : List ℕ) (before : ℕ → Search) (first k : ℕ) (s′ v′ turns′ : List ℕ) (after : ℕ → Search)
+    (up : ℕ) : Type 0 where
+  pub next : up ≡ roundAfter t questions before first k .next
+  pub searches : (i : ℕ) → i < length questions → after i ≡ roundAfter t questions before first k .searches i
+  pub numbers : (i : ℕ) → i < length questions → getD v′ i 0 ≡ numberOf (after i)
+  pub turns : (i : ℕ) → i < length questions → getD turns′ i 0 ≡ turnsAfter t questions before first k i
   pub settings : (i : ℕ) → i < length questions
-      → partOf pointsSize i s′ ≡ written (listFrom t 0 n) (searchAt w v i) (roundAfter t questions w v first k .searches i) (partOf pointsSize i s)
+      → partOf pointsSize i s′ ≡ written (listFrom t 0 n) (before i) (roundAfter t questions before first k .searches i) (partOf pointsSize i s)
   -- nothing else changes
   pub beyond : (i : ℕ) → length questions ≤ i → (partOf pointsSize i s′ ≡ partOf pointsSize i s) × (getD v′ i 0 ≡ getD v i 0) × (getD turns′ i 0 ≡ 0)

@@ -16,7 +16,7 @@ use Rattle.calculus.specs.declared.Move.the-variants.{Conflict, Unit as Single,
 use Rattle.calculus.proofs.Literals.{neg-fresh}
 use Rattle.calculus.proofs.Count.{at-most}
 use Rattle.calculus.proofs.Fresh.{unit-fresh, split-fresh}
-use Rattle.turns.specs.Turn.{Search, running, found, closed, isOpen, follows, back, made, turn, replays, resumes, times}
+use Rattle.turns.specs.Turn.{Search, running, found, closed, isOpen, follows, back, made, turn, replays, resumes, resumed, times}
 use Rattle.turns.proofs.Splits.{open-split}
 
 module _ (expand : ℕ → List (List ℕ)) (goals : List ℕ) where
@@ -99,6 +99,23 @@ module _ (expand : ℕ → List (List ℕ)) (goals : List ℕ) where
   unfolding times
   times-resumes zero s r = r
   times-resumes (suc k) s r = times-resumes k (turn expand goals s) (turn-resumes s r)
+
+-- a search that was taken up can go on, and one that can go on is taken up as it is
+module _ (e : ℕ → List (List ℕ)) (goals : List ℕ) where
+  pub resumed-resumes : (s : Search) → resumes e goals (resumed e goals s) ≡ true
+  unfolding replays
+  resumed-resumes (running G) = on (replays e goals G) refl
+    where
+      on : (b : Bool) → replays e goals G ≡ b → replays e goals (cond b G []) ≡ true
+      on true z = z
+      on false z = refl
+  resumed-resumes (found G) = refl
+  resumed-resumes closed = refl
+
+  pub resumes-resumed : (s : Search) → resumes e goals s ≡ true → resumed e goals s ≡ s
+  resumes-resumed (running G) r = rw r
+  resumes-resumed (found G) r = refl
+  resumes-resumed closed r = refl
 
 -- ---- a list that replays is good, so a literal that follows may be assumed
 

@@ -1,64 +1,12 @@
--- `rooms::spend` meets its contract: the searches are taken up, turns are spent on them, and they are put down. Assumes nothing.
-use mathlib.Core.Path.{_∙_}
-use native.Mathlib.Omega.{arith}
+-- `rooms::spend` meets its contract, whichever way it goes. Assumes nothing.
 use borrow.Author.Needs.{needs}
-use Rattle.rooms.proofs.Goes.{up-low, went, reported}
 use Rattle.rooms.proofs.spend.Statement.{statement}
 use Rattle.rooms.proofs.spend.Tie as tie
 
-next-requires : tie.Need-next-requires
-next-requires c κs = search needs
-
-slice-aggregate-take-up-all : tie.Need-slice-aggregate-take-up-all
-slice-aggregate-take-up-all c = search needs
-
-slice-aggregate-take-up-all-2 : tie.Need-slice-aggregate-take-up-all-2
-slice-aggregate-take-up-all-2 c = search needs
-
-take-up-all-requires : tie.Need-take-up-all-requires
-take-up-all-requires c κs =
-    let p = c .before .before .before .before .before .before .before .before .before .before .before .before .pre in
-    let f = p .1 .1 .1 .0 in
-    (p .0, (p .1 .1 .0, record { few = f .few; work = f .work; masks = search needs; stacks = search needs; verdicts = p .1 .1 .1 .1 .0 .1 }))
-
-slice-aggregate-spend : tie.Need-slice-aggregate-spend
-slice-aggregate-spend c = search needs
-
-slice-aggregate-spend-2 : tie.Need-slice-aggregate-spend-2
-slice-aggregate-spend-2 c = search needs
-
-cast-spend : tie.Need-cast-spend
-cast-spend c = search needs
-
-spend-requires : tie.Need-spend-requires
-spend-requires c κs =
-    let at-take-up-all = c .before .before .before .before .before .before .before .before .before .before .before .before in
-    let start = at-take-up-all .before .before .before .before .before .before .before .before .before .before .before .before .before in
-    let p = start .pre in
-    let f = p .1 .1 .1 .0 in
-    let z = p .1 .1 .1 .1 in
-    let u = at-take-up-all .take-up-all in
-    (p .0, (p .1 .0, (p .1 .1 .0, (record { few = f .few; work = omega (arith, f .work, u .kept .1 .1 .1 .0); masks = u .kept .1 .1 .1 .1 .0; stacks = u .kept .1 .1 .1 .1 .1 .0; verdicts = u .kept .1 .1 .1 .1 .1 .1 .0 ∙ z .0 .1 }, ((f .settings, z .0 .0), (z .1 .0, u .ensures .sits))))))
-
-cast-put-down : tie.Need-cast-put-down
-cast-put-down c =
-    let at-spend = c .before .before .before .before .before .before .before .before .before .before .before .before in
-    let at-take-up-all = at-spend .before .before .before .before .before .before .before .before .before .before .before .before .before in
-    let at-next = at-take-up-all .before .before .before .before .before in
-    let start = at-next .before .before .before .before .before .before .before .before in
-    let p = start .pre in
-    omega (arith, up-low (at-next .next .ensures) (at-take-up-all .take-up-all .ensures) (at-spend .spend .ensures) (search needs) (p .1 .1 .1 .0 .few))
-
-put-down-requires : tie.Need-put-down-requires
-put-down-requires c κs =
-    let at-spend = c .before .before .before .before .before .before .before .before .before .before .before .before in
-    let at-take-up-all = at-spend .before .before .before .before .before .before .before .before .before .before .before .before .before in
-    let start = at-take-up-all .before .before .before .before .before .before .before .before .before .before .before .before .before in
-    let p = start .pre in
-    let f = p .1 .1 .1 .0 in
-    let u = at-take-up-all .take-up-all in
-    let v = at-spend .spend in
-    (f .some, f .few, omega (arith, f .work, u .kept .1 .1 .1 .0, v .kept .1 .1 .1 .1 .0), v .kept .1 .1 .1 .1 .1 .1 .1 .0 ∙ u .kept .1 .1 .1 .1 .1 .1 .0 ∙ p .1 .1 .1 .1 .0 .1)
+spend-one-requires : tie.Need-spend-one-requires
+spend-one-requires c κs =
+    let p = c .before .before .before .before .before .before .before .before .before .before .before .pre in
+    (p .0, (p .1 .0, (p .1 .1 .0, (p .1 .1 .1 .0, (c .before .before .before .before .if1 .taken, p .1 .1 .1 .1)))))
 
 same-length : tie.Need-same-length
 same-length c = search needs
@@ -73,35 +21,67 @@ same-length-4 : tie.Need-same-length-4
 same-length-4 c = search needs
 
 returns : tie.Need-returns
-returns c =
-    let at-spend = c .before .before .before .before .before .before .before .before .before .before .before .before .before .before .before in
-    let at-take-up-all = at-spend .before .before .before .before .before .before .before .before .before .before .before .before .before in
-    let at-next = at-take-up-all .before .before .before .before .before in
-    let start = at-next .before .before .before .before .before .before .before .before in
-    let p = start .pre in
-    let u = at-take-up-all .take-up-all in
-    let v = at-spend .spend in
-    let z = p .1 .1 .1 .1 in (
-      went (at-next .next .ensures) (u .ensures) (v .ensures) (c .before .before .put-down .ensures) (v .kept .1 .1 .1 .0),
-      reported (at-next .next .ensures) (u .ensures) (v .ensures) (v .kept .1 .1 .1 .1 .1 .1 .1 .1 .0 ∙ z .0 .0) (v .kept .1 .1 .1 .1 .1 .1 .1 .0 ∙ u .kept .1 .1 .1 .1 .1 .1 .0 ∙ z .0 .1) (z .1 .1),
-    )
+returns c = search needs
+
+unfinished-requires : tie.Need-unfinished-requires
+unfinished-requires c κs = search needs
+
+spend-all-requires : tie.Need-spend-all-requires
+spend-all-requires c κs = search needs
+
+spend-few-requires : tie.Need-spend-few-requires
+spend-few-requires c κs = search needs
+
+same-length-5 : tie.Need-same-length-5
+same-length-5 c = search needs
+
+same-length-6 : tie.Need-same-length-6
+same-length-6 c = search needs
+
+same-length-7 : tie.Need-same-length-7
+same-length-7 c = search needs
+
+same-length-8 : tie.Need-same-length-8
+same-length-8 c = search needs
+
+returns-2 : tie.Need-returns-2
+returns-2 c = search needs
+
+same-length-9 : tie.Need-same-length-9
+same-length-9 c = search needs
+
+same-length-10 : tie.Need-same-length-10
+same-length-10 c = search needs
+
+same-length-11 : tie.Need-same-length-11
+same-length-11 c = search needs
+
+same-length-12 : tie.Need-same-length-12
+same-length-12 c = search needs
+
+returns-3 : tie.Need-returns-3
+returns-3 c = search needs
 
 pub spend-spec : {M : Type 1} → statement M
 spend-spec =
     tie.close
     (tie.spec
-    next-requires
-    slice-aggregate-take-up-all
-    slice-aggregate-take-up-all-2
-    take-up-all-requires
-    slice-aggregate-spend
-    slice-aggregate-spend-2
-    cast-spend
-    spend-requires
-    cast-put-down
-    put-down-requires
+    spend-one-requires
     same-length
     same-length-2
     same-length-3
     same-length-4
-    returns)
+    returns
+    unfinished-requires
+    spend-all-requires
+    spend-few-requires
+    same-length-5
+    same-length-6
+    same-length-7
+    same-length-8
+    returns-2
+    same-length-9
+    same-length-10
+    same-length-11
+    same-length-12
+    returns-3)

@@ -4,7 +4,8 @@ use Prim.Native.Nat.{_≤_, _-_}
 use native.Mathlib.Omega.{arith}
 use Rattle.index.specs.Index.{indexNode}
 use Rattle.roomareas.proofs.Lends.{lendable}
-use Rattle.rounds.proofs.Spending.{Long, long-starts, long-more, spent-starts, spent-all, up-stands, turns-few, spent-more}
+use Rattle.rounds.proofs.Spending.{Long, long-starts, long-more, spent-starts, spent-all, up-stands, turns-few, served-more, sits-more}
+use Rattle.roomareas.specs.Changes.{searchAt, Sits}
 use Rattle.rounds.specs.Spent.{Spent}
 use Rattle.rounds.proofs.spend.Statement.{statement}
 use Rattle.rounds.proofs.spend.Tie as tie
@@ -12,7 +13,8 @@ use Rattle.rounds.proofs.spend.Tie as tie
 abbrev Inv-loop : tie.InvT-loop
 Inv-loop x n questions settings₀ work₀ masks₀ opens₀ verdicts₀ turns₀ first allowance next₀ k₀ settings work masks opens verdicts turns next k =
     (k ≤ allowance)
-    × Spent (indexNode x) n questions settings₀ work₀ verdicts₀ first k settings work masks opens verdicts turns next
+    × Spent (indexNode x) n questions settings₀ verdicts₀ (searchAt work₀ verdicts₀) first k settings verdicts turns (searchAt work verdicts) next
+    × Sits (indexNode x) n questions work masks opens verdicts
     × Long settings₀ work₀ masks₀ opens₀ verdicts₀ turns₀ settings work masks opens verdicts turns
 
 abbrev μ-loop : tie.MeasureT-loop
@@ -22,33 +24,35 @@ loop-holds : tie.Need-loop-holds Inv-loop μ-loop
 loop-holds c =
     let p = c .before .before .before .before .before .before .before .before .pre in
     let a = c .before .before .before .before .before .before .before .before .args in
-    (omega arith, spent-starts (a .settings .now) (a .turns .now) (a .first) (p .1 .1 .1 .1 .1 .1) (p .1 .1 .1 .1 .1 .0), long-starts _ _ _ _ _ _)
+    (omega arith, spent-starts (a .settings .now) (a .verdicts .now) (a .turns .now) _ (a .first) (λ i h. p .1 .1 .1 .1 .1 .1 i h .number) (p .1 .1 .1 .1 .1 .0), p .1 .1 .1 .1 .1 .1, long-starts _ _ _ _ _ _)
 
 up-next-requires : tie.Need-up-next-requires Inv-loop μ-loop
 up-next-requires c κs =
     let r = c .before .before .before .before .before .before .before .before .before .before .before .pre .1 .1 .1 .0 in
-    omega (arith, r .few, r .verdicts, c .before .before .loop .inv .2 .verdicts)
+    omega (arith, r .few, r .verdicts, c .before .before .loop .inv .3 .verdicts)
 
 same-length : tie.Need-same-length Inv-loop μ-loop
-same-length c = c .before .before .before .before .loop .inv .2 .settings
+same-length c = c .before .before .before .before .loop .inv .3 .settings
 
 same-length-2 : tie.Need-same-length-2 Inv-loop μ-loop
-same-length-2 c = c .before .before .before .before .loop .inv .2 .work
+same-length-2 c = c .before .before .before .before .loop .inv .3 .work
 
 same-length-3 : tie.Need-same-length-3 Inv-loop μ-loop
-same-length-3 c = c .before .before .before .before .loop .inv .2 .masks
+same-length-3 c = c .before .before .before .before .loop .inv .3 .masks
 
 same-length-4 : tie.Need-same-length-4 Inv-loop μ-loop
-same-length-4 c = c .before .before .before .before .loop .inv .2 .stacks
+same-length-4 c = c .before .before .before .before .loop .inv .3 .stacks
 
 same-length-5 : tie.Need-same-length-5 Inv-loop μ-loop
-same-length-5 c = c .before .before .before .before .loop .inv .2 .verdicts
+same-length-5 c = c .before .before .before .before .loop .inv .3 .verdicts
 
 same-length-6 : tie.Need-same-length-6 Inv-loop μ-loop
-same-length-6 c = c .before .before .before .before .loop .inv .2 .turns
+same-length-6 c = c .before .before .before .before .loop .inv .3 .turns
 
 returns : tie.Need-returns Inv-loop μ-loop
-returns c = spent-all (c .before .before .before .before .loop .inv .1) (c .before .up-next .ensures) (c .if1 .taken) _ (c .before .before .before .before .loop .inv .0)
+returns c =
+    let i = c .before .before .before .before .loop .inv in
+    (spent-all (i .1) (c .before .up-next .ensures) (c .if1 .taken) _ (i .0), i .2)
 
 serve-requires : tie.Need-serve-requires Inv-loop μ-loop
 serve-requires c κs =
@@ -57,7 +61,7 @@ serve-requires c κs =
     let at-loop = at-up-next .before .before .before in
     let start = at-loop .before .before .before .before .before .before .before .before .before in
     let p = start .pre in
-    let l = at-loop .loop .inv .2 in
+    let l = at-loop .loop .inv .3 in
     let h = at-if1 .if1 .left in (
       p .0,
       (
@@ -66,7 +70,7 @@ serve-requires c κs =
           p .1 .1 .0,
           (
             (omega (arith, h), omega (arith, h, p .1 .1 .1 .1 .0 .0, l .settings)),
-            (lendable _ _ _ _ (p .1 .1 .1 .0) (omega (arith, h)) (l .work) (l .masks) (l .stacks), up-stands (at-loop .loop .inv .1) (at-up-next .up-next .ensures) (omega (arith, h))),
+            (lendable _ _ _ _ (p .1 .1 .1 .0) (omega (arith, h)) (l .work) (l .masks) (l .stacks), up-stands (at-loop .loop .work) (at-loop .loop .masks) (at-loop .loop .opens) (at-loop .loop .inv .1) (at-loop .loop .inv .2) (at-up-next .up-next .ensures) (omega (arith, h))),
           ),
         ),
       ),
@@ -78,7 +82,7 @@ slice-write-verdicts c =
     let at-loop = at-if1 .before .before .before .before in
     let start = at-loop .before .before .before .before .before .before .before .before .before in
     let r = start .pre .1 .1 .1 .0 in
-    omega (arith, at-if1 .if1 .left, r .few, r .verdicts, at-loop .loop .inv .2 .verdicts)
+    omega (arith, at-if1 .if1 .left, r .few, r .verdicts, at-loop .loop .inv .3 .verdicts)
 
 mul-turns : tie.Need-mul-turns Inv-loop μ-loop
 mul-turns c =
@@ -92,7 +96,7 @@ slice-read-turns c =
     let at-loop = at-if1 .before .before .before .before in
     let start = at-loop .before .before .before .before .before .before .before .before .before in
     let p = start .pre in
-    omega (arith, at-if1 .if1 .left, p .1 .1 .1 .0 .few, p .1 .1 .1 .1 .0 .1, at-loop .loop .inv .2 .turns)
+    omega (arith, at-if1 .if1 .left, p .1 .1 .1 .0 .few, p .1 .1 .1 .1 .0 .1, at-loop .loop .inv .3 .turns)
 
 add-turns : tie.Need-add-turns Inv-loop μ-loop
 add-turns c =
@@ -106,7 +110,7 @@ slice-write-turns c =
     let at-loop = at-if1 .before .before .before .before in
     let start = at-loop .before .before .before .before .before .before .before .before .before in
     let p = start .pre in
-    omega (arith, at-if1 .if1 .left, p .1 .1 .1 .0 .few, p .1 .1 .1 .1 .0 .1, at-loop .loop .inv .2 .turns)
+    omega (arith, at-if1 .if1 .left, p .1 .1 .1 .0 .few, p .1 .1 .1 .1 .0 .1, at-loop .loop .inv .3 .turns)
 
 add-next : tie.Need-add-next Inv-loop μ-loop
 add-next c =
@@ -130,37 +134,38 @@ loop-again c =
     let start = at-loop .before .before .before .before .before .before .before .before .before in
     let p = start .pre in
     let r = p .1 .1 .1 .0 in
-    let l = at-loop .loop .inv .2 in
+    let l = at-loop .loop .inv .3 in
     let h = at-if1 .if1 .left in
     let u = at-serve .serve in (
       omega (arith, at-loop-test .loop-test .taken),
-      spent-more (at-loop .loop .inv .1) (at-up-next .up-next .ensures) (omega (arith, h)) (u .ensures) (omega (arith, h, r .few, r .verdicts, l .verdicts)) (omega (arith, h, r .few, p .1 .1 .1 .1 .0 .1, l .turns)),
+      served-more (at-loop .loop .work) (at-loop .loop .masks) (at-loop .loop .opens) (at-loop .loop .inv .1) (at-loop .loop .inv .2) (at-up-next .up-next .ensures) (omega (arith, h)) (u .ensures) (omega (arith, h, r .few, r .verdicts, l .verdicts)) (omega (arith, h, r .few, p .1 .1 .1 .1 .0 .1, l .turns)),
+      sits-more (at-loop .loop .work) (at-loop .loop .masks) (at-loop .loop .opens) (at-loop .loop .inv .1) (at-loop .loop .inv .2) (at-up-next .up-next .ensures) (omega (arith, h)) (u .ensures) (omega (arith, h, r .few, r .verdicts, l .verdicts)) (omega (arith, h, r .few, p .1 .1 .1 .1 .0 .1, l .turns)),
       long-more _ _ _ l (u .kept .1 .1 .1 .0) (u .kept .1 .1 .1 .1 .0) (u .kept .1 .1 .1 .1 .1 .0) (u .kept .1 .1 .1 .1 .1 .1 .0),
     )
 
 same-length-7 : tie.Need-same-length-7 Inv-loop μ-loop
-same-length-7 c = c .before .loop .inv .2 .settings
+same-length-7 c = c .before .loop .inv .3 .settings
 
 same-length-8 : tie.Need-same-length-8 Inv-loop μ-loop
-same-length-8 c = c .before .loop .inv .2 .work
+same-length-8 c = c .before .loop .inv .3 .work
 
 same-length-9 : tie.Need-same-length-9 Inv-loop μ-loop
-same-length-9 c = c .before .loop .inv .2 .masks
+same-length-9 c = c .before .loop .inv .3 .masks
 
 same-length-10 : tie.Need-same-length-10 Inv-loop μ-loop
-same-length-10 c = c .before .loop .inv .2 .stacks
+same-length-10 c = c .before .loop .inv .3 .stacks
 
 same-length-11 : tie.Need-same-length-11 Inv-loop μ-loop
-same-length-11 c = c .before .loop .inv .2 .verdicts
+same-length-11 c = c .before .loop .inv .3 .verdicts
 
 same-length-12 : tie.Need-same-length-12 Inv-loop μ-loop
-same-length-12 c = c .before .loop .inv .2 .turns
+same-length-12 c = c .before .loop .inv .3 .turns
 
 returns-2 : tie.Need-returns-2 Inv-loop μ-loop
 returns-2 c =
     let l = c .before .loop in
     let e : l .k ≡ c .before .before .before .before .before .before .before .before .before .before .args .allowance = omega (arith, c .loop-test .left, l .inv .0) in
-    rw e at (l .inv .1)
+    (rw e at (l .inv .1), l .inv .2)
 
 pub spend-spec : {M : Type 1} → statement M
 spend-spec =
