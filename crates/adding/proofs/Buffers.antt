@@ -1,21 +1,15 @@
 -- The used part of a buffer, and the parts of it that are lent and come back. Assumes nothing.
-use mathlib.Core.Path.{_≡_, _∙_, ap, sym, refl}
+use mathlib.Core.Path.{_≡_, _∙_, sym, refl}
 use mathlib.Core.List.{List, [], _++_}
-use Prim.Native.Nat.{ℕ, _+_, _-_, _*_, _/_, _<_, _≤_}
+use Prim.Native.Nat.{ℕ, _+_, _-_, _<_, _≤_}
 use native.Mathlib.Omega.{arith}
 use lib.ListN.{length, take, drop, getD}
 use lib.Seq.{length-take-le, drop-drop, getD-take, getD-drop}
 use borrow.Rule.Slice.PartMut.{midOf, putMid}
 use borrow.Author.Tests.{ne-eqb}
-use Rattle.scope.specs.Outcome.{answer, fine, first}
-use Rattle.scope.specs.Table.{tables, lengthOk, blockRows, tableTest}
+use Rattle.scope.specs.Outcome.{answer}
 use Rattle.scope.specs.Calls.{decodeUsed, tableCount}
-use Rattle.scope.proofs.Records.{count-parts}
-use Rattle.codec.proofs.Rows.{row}
-use Rattle.codec.proofs.Tables.{answers, whole-blocks}
-use Rattle.codec.proofs.Used.{used-reads}
-use Rattle.table.proofs.Rows.{count-fine}
-use Rattle.adding.specs.Added.{usedCount, Reads}
+use Rattle.adding.specs.Added.{usedCount}
 
 -- nothing is used: no nodes; something is: the count of that table
 pub none-count : (t : List ℕ) → length t ≡ 0 → usedCount t ≡ answer 0
@@ -42,15 +36,3 @@ mid-back f xs a e n s p =
 -- an element of a part that starts at a
 pub part-at : (xs : List ℕ) (a k i : ℕ) → i < k → getD (midOf a k xs) i 0 ≡ getD xs (a + i) 0
 part-at xs a k i h = getD-take k (drop a xs) i 0 h ∙ getD-drop a xs i 0
-
--- a table that is known to read, and is not empty
-module _ (t : List ℕ) (r : Reads t) (some : length t ≡ 0 → ⊥) where
-  passes : tableTest t ≡ fine
-  passes = answers t (r .nodes) (sym (used-reads t (omega (arith, some))) ∙ r .decoded) .0
-
-  pub known-blocks : (0 < length t / 512) × (length t ≡ 512 * (length t / 512)) × (length t / 512 ≤ 32)
-  unfolding tableTest
-  known-blocks = whole-blocks (length t) (row (lengthOk (length t)) 10 0 (first (blockRows t) 0 (length t / 512)) passes .0)
-
-  pub known-count : usedCount t ≡ answer (63 * (length t / 512 - 1) + getD t (512 * (length t / 512 - 1) + 1) 0)
-  known-count = some-count t some ∙ count-fine t passes ∙ ap answer (count-parts tables t)

@@ -40,16 +40,6 @@ readPassed r = readOf r >>= λ x. answer nowhere
 abbrev pub usedCount : List ℕ → Outcome ℕ
 usedCount t = decodeUsed t >>= λ rs. answer (length rs)
 
--- a used part is no table, or a readable one
-pub record Reads (t : List ℕ) : Type 0 where
-  pub nodes : List Node
-  pub decoded : decodeUsed t ≡ answer nodes
-
--- the used part of a buffer reads
-pub record Readable (buf : List ℕ) (used : ℕ) : Type 0 where
-  pub within : used ≤ length buf
-  pub reads : Reads (take used buf)
-
 -- the nodes of the used part of a buffer
 abbrev pub usedNodes : List ℕ → ℕ → ℕ → List Node
 usedNodes buf used n = listFrom (nodeAt (take used buf)) 0 n

@@ -10,7 +10,7 @@ ghost use Rattle.scope.specs.Table.{nodeBytes, rangeOk};
 ghost use Rattle.scope.specs.Calls.{add, bytesAfter};
 ghost use Rattle.writer.specs.Grown.{grown};
 ghost use Rattle.table.specs.Counted.{countedOf};
-ghost use Rattle.adding.specs.Added.{addedOf, marked, countPassed, readPassed, usedCount, Reads, Readable, Ready, AddsTo};
+ghost use Rattle.adding.specs.Added.{addedOf, marked, countPassed, readPassed, usedCount, Ready, AddsTo};
 use record::NodeRead;
 use scope::Node;
 use scope::Refusal;
@@ -149,27 +149,5 @@ pub fn add(buf: &mut [u8], used: usize, r: [u8; 8]) -> Added
     let Counted::Nodes(nodes) = c else {
         return pass_count(c);
     };
-    add_record(buf, used, nodes, r)
-}
-
-// How many nodes a table has that is known to read, or is empty: the last block's count, and all others are full.
-fn known_nodes(t: &[u8]) -> usize
-    requires { ⌜ Reads (now t) ⌝ }
-    ensures { λ n. ⌜ usedCount (now (t .entry)) ≡ answer n ⌝ }
-{
-    if t.len() == 0 {
-        return 0;
-    }
-    let full = t.len() / 512 - 1;
-    63 * full + t[512 * full + 1] as usize
-}
-
-// Adds a record where the used part is known to read, as it is after an add that answers: it is not read again.
-pub fn add_known(buf: &mut [u8], used: usize, r: [u8; 8]) -> Added
-    requires { ⌜ Readable (now buf) used ⌝ }
-    ensures answered { λ v. ⌜ addedOf v ≡ marked (add (now (buf .entry)) used r) ⌝ }
-    ensures bytes { λ v. ⌜ now (buf .exit) ≡ bytesAfter (now (buf .entry)) (add (now (buf .entry)) used r) ⌝ }
-{
-    let nodes = known_nodes(&buf[..used]);
     add_record(buf, used, nodes, r)
 }

@@ -4,7 +4,6 @@ use mathlib.Core.List.{List}
 use Prim.Native.Nat.{ℕ}
 use native.Mathlib.Omega.{arith}
 use lib.ListN.{length}
-use Rattle.scope.specs.declared.Node.{Node}
 use Rattle.scope.specs.declared.Refusal.{Refusal}
 use Rattle.scope.specs.Outcome.{Outcome, answer, refused, fine, _>>_, _>>=_}
 use Rattle.scope.specs.Table.{decode}
@@ -12,7 +11,6 @@ use Rattle.scope.specs.Calls.{tableCount}
 use Rattle.scope.proofs.Tests.{refused-no, passed-on}
 use Rattle.table.specs.declared.Counted.{Counted}
 use Rattle.table.specs.declared.Counted.the-variants.{Nodes, Refused}
-use Rattle.table.specs.Counted.{countedOf}
 use Rattle.calculus.specs.Decide.{goalsTest, lentTest, rowsTest, Admitted, askedBy}
 use Rattle.calculus.proofs.Asked.{by-rows}
 use Rattle.asking.specs.Asks.{Prepared, Asks}
@@ -101,20 +99,13 @@ module _ (listed : Outcome (Unit {0})) (t goals : List ℕ) (needed points area 
         rw z at p;
   }
 
-  -- what the calls take from it: a refusal is that of the definition
-  pub ask-refused : {x : List ℕ} (r : Counted) {f : Refusal} → Asks listed t goals needed points area x r → r ≡ Refused f
-      → askedBy listed t goals needed points area ≡ refused (f .number) (f .place)
-  ask-refused r {f} a q = go (askedBy listed t goals needed points area) (sym (a .answered) ∙ ap countedOf q)
-    where
-      go : (o : Outcome (List Node)) → (o >>= λ rs. answer (length rs)) ≡ refused (f .number) (f .place) → o ≡ refused (f .number) (f .place)
-      go (answer rs) e = refused-no (sym e)
-      go (refused number place) e = cc
-
 -- where the row on the list refuses, it is the same whatever the list is
-pub asks-other : (listed : Outcome (Unit {0})) (t goals other : List ℕ) (needed points area : ℕ) {x : List ℕ} {r : Counted} {number place : ℕ}
-    → listed ≡ refused number place → Asks listed t goals needed points area x r → Asks listed t other needed points area x r
+pub within-other : (listed : Outcome (Unit {0})) (t goals other : List ℕ) (needed points area : ℕ) {x : List ℕ} {r : Counted} {number place : ℕ}
+    → listed ≡ refused number place → Within listed t goals needed points area x r → Within listed t other needed points area x r
 unfolding askedBy rowsTest
-asks-other listed t goals other needed points area e a = record {
-  answered = a .answered ∙ rw e;
-  prepared = λ n q. refused-no (sym e ∙ a .prepared n q .admitted .list);
+within-other listed t goals other needed points area e a = record {
+  refuses = λ f q.
+      let z : askedBy listed t other needed points area ≡ askedBy listed t goals needed points area = rw e in
+      z ∙ a .refuses f q;
+  reached = λ m q. refused-no (sym e ∙ a .reached m q .admitted .list);
 }

@@ -1,4 +1,4 @@
--- What asking leaves where no more is indexed than the literals reach. Assumes nothing.
+-- What asking leaves where only the nodes below the literals are indexed. Assumes nothing.
 use mathlib.Core.Path.{_≡_}
 use mathlib.Core.List.{List}
 use Prim.Native.Nat.{ℕ, _*_, _<_, _≤_}
@@ -9,7 +9,8 @@ use Rattle.scope.specs.Outcome.{Outcome, answer, refused}
 use Rattle.scope.specs.Calls.{tableCount}
 use Rattle.table.specs.declared.Counted.{Counted}
 use Rattle.table.specs.declared.Counted.the-variants.{Nodes, Refused}
-use Rattle.calculus.specs.Model.{Below}
+use Rattle.calculus.specs.Model.{All, Below}
+use Rattle.calculus.specs.Agree.{Alike, Closed}
 use Rattle.calculus.specs.Decide.{nodesOf, Admitted, askedBy}
 use Rattle.index.specs.Index.{indexNode}
 use Rattle.index.specs.Indexed.{Indexed}
@@ -31,7 +32,8 @@ pub record Reach (goals : List ℕ) (m : ℕ) : Type 0 where
   pub below : Below m goals
   pub least : (n : ℕ) → Below n goals → m ≤ n
 
--- as `Prepared`, but x is the index of the first m nodes alone, which the literals are of
+-- as `Prepared`, but of the first m nodes, which the literals are of, x has those below the literals: it has each literal's node, and of each
+-- node that it has the operands'
 pub record Reached (listed : Outcome (Unit {0})) (t goals : List ℕ) (needed lent area : ℕ) (x : List ℕ) (m : ℕ) : Type 0 where
   pub nodes : List Node
   pub answered : askedBy listed t goals needed lent area ≡ answer nodes
@@ -39,7 +41,8 @@ pub record Reached (listed : Outcome (Unit {0})) (t goals : List ℕ) (needed le
   pub admitted : Admitted listed (length nodes) goals needed lent area
   pub below : Below m goals
   pub indexed : Indexed x m
-  pub same : (i : ℕ) → i < m → indexNode x i ≡ nodesOf nodes i
+  pub alike : All (Alike (indexNode x) (nodesOf nodes)) goals
+  pub closed : Closed m (indexNode x) (nodesOf nodes)
   pub points : (i : ℕ) → i < m → indexNode x i .kind ≡ 2 → indexNode x i .a < 1024
 
 pub record Within (listed : Outcome (Unit {0})) (t goals : List ℕ) (needed lent area : ℕ) (x : List ℕ) (r : Counted) : Type 0 where

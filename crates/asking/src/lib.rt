@@ -1,5 +1,5 @@
 // What the calls that search ask before: rows 10 to 17, a row on the list (62 for goals), 20, 21 and 23 in one place; and the index of the
-// table's nodes, which they work on, or of those up to the highest goal's.
+// table's nodes, which they work on, or of those below the goals.
 use scope::Refusal;
 use scope::Verdict;
 use table::Counted;
@@ -12,6 +12,7 @@ ghost use Rattle.scope.specs.Outcome.{verdictOf};
 ghost use Rattle.calculus.specs.Model.{mostGoals};
 ghost use Rattle.calculus.specs.Decide.{listRow, goalsTest, lentTest, rowsTest};
 ghost use Rattle.index.specs.Index.{indexSize, mostNodes};
+ghost use Rattle.index.specs.Marks.{Zeros};
 ghost use Rattle.asking.specs.Asks.{Asks};
 ghost use Rattle.asking.specs.Within.{Admits, Farther, Reach, Within};
 
@@ -186,7 +187,31 @@ fn reach(goals: &[u16]) -> usize
     top
 }
 
-// What `ask` asks; the index is of the nodes up to the highest goal's alone, which are all that a search of the goals comes to.
+// What `ask_by` asks; the index is of the nodes below the literals alone, which are all that a search of them comes to. x is zeros.
+pub fn ask_within_by(
+    listed: Verdict,
+    t: &[u8],
+    goals: &[u16],
+    needed: usize,
+    points: usize,
+    area: usize,
+    x: &mut [u16],
+) -> Counted
+    requires { ⌜ (length (now x) ≡ indexSize) × Zeros (now x) ⌝ }
+    ensures { λ r. ⌜ Within (verdictOf listed) (now (t .entry)) (now (goals .entry)) needed points area (now (x .exit)) r ⌝ }
+{
+    let a = admit(listed, t, goals, needed, points, area);
+    match a {
+        Counted::Refused(f) => Counted::Refused(f),
+        Counted::Nodes(_) => {
+            let top = reach(goals);
+            index::build_below(t, goals, top, x);
+            Counted::Nodes(top)
+        }
+    }
+}
+
+// The same of a list of goals.
 pub fn ask_within(
     t: &[u8],
     goals: &[u16],
@@ -195,16 +220,8 @@ pub fn ask_within(
     area: usize,
     x: &mut [u16],
 ) -> Counted
-    requires { ⌜ length (now x) ≡ indexSize ⌝ }
+    requires { ⌜ (length (now x) ≡ indexSize) × Zeros (now x) ⌝ }
     ensures { λ r. ⌜ Within (listRow (now (goals .entry))) (now (t .entry)) (now (goals .entry)) needed points area (now (x .exit)) r ⌝ }
 {
-    let a = admit(list_row(goals), t, goals, needed, points, area);
-    match a {
-        Counted::Refused(f) => Counted::Refused(f),
-        Counted::Nodes(_) => {
-            let top = reach(goals);
-            index::build(t, top, x);
-            Counted::Nodes(top)
-        }
-    }
+    ask_within_by(list_row(goals), t, goals, needed, points, area, x)
 }

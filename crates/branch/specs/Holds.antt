@@ -21,7 +21,7 @@ use Rattle.branch.specs.Clauses.{flat, offset, Listed}
 abbrev pub nodeCells : ℕ
 nodeCells = 8064
 
--- what the checker is given: the nodes of a table, each where an index has it. It needs no links and no codes
+-- what the checker is given: the nodes of a table, each where an index has it. It needs no edges and no codes
 pub record Indexed (x : List ℕ) (n : ℕ) : Type 0 where
   pub size : length x ≡ nodeCells
   pub few : n ≤ mostNodes

@@ -2,6 +2,7 @@
 pub mod Expansion
 pub mod Order
 pub mod Model
+pub mod Agree
 pub mod Count
 pub mod Mixed
 pub mod Jump

@@ -88,7 +88,7 @@ fn place_after(m: usize, at: usize) -> usize
     next
 }
 
-// The nodes are read from the table: the rules need no links between them.
+// The nodes are read from the table: the rules need no edges between them.
 fn load(t: &[u8], nodes: usize, x: &mut [u16])
     requires { ⌜ (nodes ≤ mostNodes) × Inside (now t) nodes × (length (now x) ≡ nodeCells) ⌝ }
     ensures { λ _. ⌜ Loaded (now (t .entry)) nodes (now (x .exit)) ⌝ }

@@ -13,10 +13,11 @@ use Rattle.scope.specs.Table.{decode}
 use Rattle.scope.proofs.Tests.{refused-no, bound}
 use Rattle.codec.specs.Valid.{Bytes}
 use Rattle.calculus.specs.Order.{Answer, answerOf}
-use Rattle.calculus.specs.Model.{Below, mostGoals}
-use Rattle.calculus.specs.Decide.{listRow, Admitted, asked, Satisfies, _⇔_}
+use Rattle.calculus.specs.Model.{All, Below, mostGoals}
+use Rattle.calculus.specs.Agree.{Alike}
+use Rattle.calculus.specs.Decide.{nodesOf, listRow, Admitted, asked, Satisfies, _⇔_}
 use Rattle.calculus.proofs.Asked.{list-met, asked-read}
-use Rattle.calculus.proofs.Lists.{all-getD, all-each, all-map}
+use Rattle.calculus.proofs.Lists.{all-at, all-imply, all-map}
 use Rattle.rules.specs.Derive.{isImpossible}
 use Rattle.index.specs.Index.{indexNode}
 use Rattle.asking.specs.Within.{Reached}
@@ -136,21 +137,19 @@ module _ (t goals w : List ℕ) (all : Bytes t) where
   refuses r f e q = clashes-by r (e ∙ rw q) (λ number place z. refl)
 
   module _ {x : List ℕ} {n : ℕ} (p : Reached (listRow goals) t goals 0 0 (length w) x n) where
-    fits : (is : List ℕ) → Below n (picked goals is)
-    fits is =
-        let some = some-node n goals (p .below) (list-met goals (p .admitted .list) .0) in
-        all-map (λ l. l < 2 * n) (λ i. getD goals i 0) is
-        (all-each (λ i. getD goals i 0 < 2 * n) (λ i. all-getD (λ l. l < 2 * n) goals i 0 (omega (arith, some)) (p .below)) is)
+    -- what all goals have, goals that are picked have
+    each : (P : ℕ → Type 0) → All P goals → (is : List ℕ) → All (λ i. i < length goals) is → All P (picked goals is)
+    each P a is b = all-map P (λ i. getD goals i 0) is (all-imply (λ i. i < length goals) (λ i. P (getD goals i 0)) (λ i h. all-at P goals i 0 a h) is b)
 
     -- the questions over the index are those over the nodes
-    same-answers : (is : List ℕ) → asks (indexNode x) n (picked goals is) ≡ answered (p .nodes) (picked goals is)
-    same-answers is = ap answerOf (searches-within p (picked goals is) (fits is))
+    same-answers : (is : List ℕ) → All (λ i. i < length goals) is → asks (indexNode x) n (picked goals is) ≡ answered (p .nodes) (picked goals is)
+    same-answers is b = ap answerOf (searches-within p (picked goals is) (each (λ l. l < 2 * n) (p .below) is b) (each (Alike (indexNode x) (nodesOf (p .nodes))) (p .alike) is b))
 
     same : argued (asks (indexNode x) n) goals ≡ argued (answered (p .nodes)) goals
     same =
-        ap₂ (λ (a : Answer) (is : List ℕ). require (isImpossible a) 63 0 >> answer is) (ap answerOf (searches-within p goals (p .below)))
-        (walk-same (clashes (asks (indexNode x) n) goals) (clashes (answered (p .nodes)) goals)
-        (clashes-same (asks (indexNode x) n) goals (answered (p .nodes)) same-answers) (length goals) [])
+        ap₂ (λ (a : Answer) (is : List ℕ). require (isImpossible a) 63 0 >> answer is) (ap answerOf (searches-within p goals (p .below) (p .alike)))
+        (walk-same (clashes (asks (indexNode x) n) goals) (clashes (answered (p .nodes)) goals) (length goals)
+        (λ is b. clashes-same (asks (indexNode x) n) goals (answered (p .nodes)) is (same-answers is b)) (length goals) [] (omega arith) tt)
 
     pub ends : {w′ : List ℕ} (r : Clashed) → r ≡ clashedOf (argued (asks (indexNode x) n) goals) → Clashes t goals w w′ r
     ends r e = clashes-by r (e ∙ ap clashedOf (same ∙ sym (clash-asked (p .answered)))) (λ number place z. refused-no (sym z ∙ p .answered))

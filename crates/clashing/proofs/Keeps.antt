@@ -28,10 +28,9 @@ module _ (ask : List ℕ → Answer) (goals : List ℕ) where
   clashes-some (i ∷ is) h = refl
 
   -- answers that agree on goals give the same test
-  pub clashes-same : (other : List ℕ → Answer) → ((is : List ℕ) → ask (picked goals is) ≡ other (picked goals is)) → (is : List ℕ)
-      → clashes ask goals is ≡ clashes other goals is
-  clashes-same other same [] = refl
-  clashes-same other same (i ∷ is) = ap isImpossible (same (i ∷ is))
+  pub clashes-same : (other : List ℕ → Answer) (is : List ℕ) → ask (picked goals is) ≡ other (picked goals is) → clashes ask goals is ≡ clashes other goals is
+  clashes-same other [] same = refl
+  clashes-same other (i ∷ is) same = ap isImpossible same
 
   -- the walk begins at all goals
   pub clashes-whole : 0 < length goals → isImpossible (ask goals) ≡ true → clashes ask goals (upTo (length goals) []) ≡ true

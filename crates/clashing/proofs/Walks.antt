@@ -2,10 +2,11 @@
 use mathlib.Core.Path.{_≡_, refl}
 use mathlib.Core.List.{List, [], _∷_, _++_}
 use mathlib.Core.Bool.{Bool, true, false, cond}
-use Prim.Native.Nat.{ℕ, zero, suc, _≤_}
+use Prim.Native.Nat.{ℕ, zero, suc, _<_, _≤_}
 use native.Mathlib.Omega.{arith}
+use Rattle.calculus.specs.Model.{All}
 use Rattle.questions.specs.Indices.{Rising, upTo}
-use Rattle.questions.proofs.Indices.{rising-from}
+use Rattle.questions.proofs.Indices.{rising-from, upTo-below}
 use Rattle.clashing.specs.Clash.{walk}
 
 module _ (test : List ℕ → Bool) where
@@ -22,11 +23,13 @@ module _ (test : List ℕ → Bool) where
   unfolding walk
   walk-ends kept = refl
 
-  -- tests that agree walk alike
-  pub walk-same : (other : List ℕ → Bool) → ((is : List ℕ) → test is ≡ other is) → (i : ℕ) (kept : List ℕ) → walk test i kept ≡ walk other i kept
+  -- tests that agree on indices below w walk alike
+  pub walk-same : (other : List ℕ → Bool) (w : ℕ) → ((is : List ℕ) → All (λ k. k < w) is → test is ≡ other is) → (i : ℕ) (kept : List ℕ) → i ≤ w → All (λ k. k < w) kept
+      → walk test i kept ≡ walk other i kept
   unfolding walk
-  walk-same other same zero kept = refl
-  walk-same other same (suc i) kept = rw (same (upTo i kept), walk-same other same i kept, walk-same other same i (i ∷ kept))
+  walk-same other w same zero kept h a = refl
+  walk-same other w same (suc i) kept h a =
+      rw (same (upTo i kept) (upTo-below i w kept (omega arith) a), walk-same other w same i kept (omega arith) a, walk-same other w same i (i ∷ kept) (omega arith) (h, a))
 
   -- 'in rising order'
   pub walk-rises : (w i : ℕ) (kept : List ℕ) → i ≤ w → Rising i w kept → Rising 0 w (walk test i kept)

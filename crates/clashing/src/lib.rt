@@ -1,5 +1,5 @@
 // Clash: which of goals that are impossible together to argue about. From last to first, a goal is dropped if the others left are still
-// impossible together. The table is read once, and indexed up to the highest goal.
+// impossible together. The table is read once, and of its nodes those below the goals are indexed.
 use searching::Found;
 use table::Counted;
 ghost use mathlib.Core.Path.{_≡_};
@@ -155,7 +155,7 @@ fn argue(x: &[u16], n: usize, goals: &[u16], work: &mut [u16]) -> Clashed
 pub fn clash(t: &[u8], goals: &[u16], work: &mut [u16]) -> Clashed
     ensures { λ r. ⌜ Clashes (now (t .entry)) (now (goals .entry)) (now (work .entry)) (now (work .exit)) r ⌝ }
 {
-    let mut x = [0u16; 18378];
+    let mut x = [0u16; 22626];
     let a = asking::ask_within(t, goals, 0, 0, work.len(), &mut x);
     match a {
         Counted::Refused(f) => refuse(f.number, f.place),

@@ -3,3 +3,5 @@ pub mod Lengths
 pub mod Rows
 pub mod States
 pub mod Codes
+pub mod Classes
+pub mod Signs

@@ -2,3 +2,4 @@
 pub mod Templates
 pub mod Literals
 pub mod Coded
+pub mod Classed

@@ -1,18 +1,20 @@
-// The clauses of a literal by TEMPLATES, and its code: what the clauses come to under the values of its node's operands.
+// The clauses of a literal by TEMPLATES, and what they come to: its code, under the values of its node's operands, and its class, by an edge.
 ghost use mathlib.Core.Path.{_≡_};
 ghost use mathlib.Core.List.{[]};
 ghost use Prim.Native.Nat.{_+_, _*_, _/_, _≤_, _<_};
 ghost use lib.ListN.{length, getD};
 ghost use Rattle.calculus.specs.Expansion.{neg, chosen, expand};
-ghost use Rattle.calculus.specs.Order.{valueOf};
+ghost use Rattle.calculus.specs.Order.{holds, valueOf};
 ghost use Rattle.calculus.specs.Model.{Good};
 ghost use Rattle.scope.specs.Table.{operands};
 ghost use Rattle.trail.specs.Trail.{valueCode};
 ghost use Rattle.index.specs.Index.{mostNodes, mostLiterals, indexNode};
+ghost use Rattle.index.specs.Edges.{PairAt, ThreeAt, parentOf, otherOf, edgeAt};
 ghost use Rattle.index.specs.Indexed.{Indexed};
 ghost use Rattle.clause.specs.Templates.{rows, cell};
 ghost use Rattle.clause.specs.Literals.{literals};
 ghost use Rattle.clause.specs.Coded.{tail, gOf, Valued, statesOf, Coded};
+ghost use Rattle.clause.specs.Classed.{keptBy, Classed};
 
 // A clause: how many literals it has, 0 to 3, and which.
 pub struct Clause {
@@ -57,8 +59,13 @@ const TEMPLATES: [[u8; 9]; 18] = [
 // A choice above this is of no operand.
 const LAST_CHOICE: u8 = 5;
 
-// Where the index has the codes (crate index), and the work area the trail and in it the values of the literals (crate state).
-const CODES_AT: usize = 18144;
+// Where the index has the edges, the codes and the classes (crate index), and the work area the trail and in it the values of the literals
+// (crate state).
+const EDGES: usize = 14112;
+
+const CLASSES_AT: usize = 22410;
+
+const CODES_AT: usize = 22176;
 
 const PAIR_CODES: usize = 126;
 
@@ -71,7 +78,7 @@ pub fn negated(l: u16) -> u16
     requires { ⌜ l < 2 * mostNodes ⌝ }
     ensures { λ r. ⌜ r ≡ neg l ⌝ }
 {
-    l + 1 - 2 * (l % 2)
+    l ^ 1
 }
 
 // TEMPLATES, to be lent: an index into a constant copies the constant.
@@ -106,7 +113,7 @@ pub fn choose(x: &[u16], n: usize, node: usize, c: usize) -> u16
     ensures { λ r. ⌜ r ≡ chosen (indexNode (now (x .entry)) node) c ⌝ }
 {
     let l = x[4 * node + (1 + c / 2)];
-    l - l % 2 + (l + c as u16) % 2
+    l ^ ((c % 2) as u16)
 }
 
 // Clause j of literal l.
@@ -180,4 +187,59 @@ pub fn code(x: &[u16], n: usize, work: &[u16], node: usize, sign: usize) -> u16
     }
     let c = value(work, x[4 * node + 3]);
     x[CODES_AT + (3 * i + c - 2 * PAIR_CODES)]
+}
+
+// ---- edges
+
+// The parent of an edge from a node of two operands, at an offset.
+pub fn parent(x: &[u16], n: usize, node: usize, k: usize) -> usize
+    requires { ⌜ Indexed (now x) n ⌝ }
+    requires { ⌜ (node < n) × PairAt (now x) node k ⌝ }
+    ensures { λ r. ⌜ (r ≡ parentOf (now (x .entry)) k) × (r < n) ⌝ }
+{
+    (x[EDGES + k] % 2048) as usize
+}
+
+// The parent's other operand.
+pub fn other(x: &[u16], n: usize, node: usize, k: usize) -> u16
+    requires { ⌜ Indexed (now x) n ⌝ }
+    requires { ⌜ (node < n) × PairAt (now x) node k ⌝ }
+    ensures { λ r. ⌜ (r ≡ otherOf (now (x .entry)) k) × (r < 2 * n) ⌝ }
+{
+    x[EDGES + (k + 1)]
+}
+
+// The parent of an edge from a node of three operands.
+pub fn parent_of_three(x: &[u16], n: usize, node: usize, k: usize) -> usize
+    requires { ⌜ Indexed (now x) n ⌝ }
+    requires { ⌜ (node < n) × ThreeAt (now x) node k ⌝ }
+    ensures { λ r. ⌜ (r ≡ edgeAt (now (x .entry)) k) × (r < n) ⌝ }
+{
+    x[EDGES + k] as usize
+}
+
+// The class of an edge of a node, whose literal of a sign is true: what the clauses of the parent's held literal come to.
+pub fn class(x: &[u16], n: usize, work: &[u16], node: usize, k: usize, sign: usize) -> u16
+    requires { ⌜ Indexed (now x) n ⌝ }
+    requires { ⌜ (node < n) × PairAt (now x) node k × (sign < 2) ⌝ }
+    requires { ⌜ (32768 ≤ length (now work)) × Valued (tail (now work)) × Good n (gOf (now work)) ⌝ }
+    requires { ⌜ valueOf (gOf (now work)) (2 * node + sign) ≡ holds ⌝ }
+    ensures { λ r. ⌜ Classed (indexNode (now (x .entry))) n (gOf (now (work .entry))) (parentOf (now (x .entry)) k) (otherOf (now (x .entry)) k) r ⌝ }
+{
+    let e = x[EDGES + k];
+    let row = (e / 2048) as usize + sign;
+    let v = value(work, 2 * (e % 2048));
+    let o = value(work, x[EDGES + (k + 1)]);
+    x[CLASSES_AT + (9 * row + (3 * v + o))]
+}
+
+// What a class that is not 0 or 1 keeps of the first unit: the literal that it forces, and 4,096 times which clause it is.
+pub fn kept(other: u16, class: u16) -> u16
+    requires { ⌜ (other < mostLiterals) × (keptBy other class < 65536) ⌝ }
+    ensures { λ r. ⌜ r ≡ keptBy other class ⌝ }
+{
+    if class % 2 == 0 {
+        return other + class / 4096 * 4096;
+    }
+    negated(other) + class / 4096 * 4096
 }

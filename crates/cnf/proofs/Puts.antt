@@ -8,7 +8,7 @@ use native.Mathlib.Omega.{arith}
 use lib.Dec.{leb, ltb}
 use lib.ListN.{length, getD, take, length-append}
 use lib.Seq.{take-length, take-append-seam, take-take, getD-take}
-use borrow.Author.Tests.{leb-true, ltb-true, ltb-false}
+use borrow.Author.Tests.{ltb-true, ltb-false}
 use Rattle.scope.specs.declared.Node.{Node}
 use Rattle.scope.specs.Outcome.{Outcome, answer, refused, require, _>>_}
 use Rattle.scope.specs.Table.{nodeBytes, readRecord, decode, encode}
@@ -16,17 +16,16 @@ use Rattle.scope.specs.Truth.{truthsFrom, litTruth, truthIn, classical, truth}
 use Rattle.scope.specs.Calls.{noNode, decodeUsed, normalized, indexOf, Added, addNew, addNode, add}
 use Rattle.scope.proofs.Tests.{refused-no}
 use Rattle.codec.specs.Valid.{Bytes, Valid, withNode, ReadsBack}
-use Rattle.codec.proofs.Rows.{row, by-test}
+use Rattle.codec.proofs.Rows.{by-test}
 use Rattle.codec.proofs.Bytes.{bytes-take}
 use Rattle.codec.proofs.Records.{length-nodeBytes}
 use Rattle.codec.proofs.Nodes.{with-found, with-more, index-last}
 use Rattle.codec.proofs.Used.{used-encodes, used-reads, written-length}
 use Rattle.codec.proofs.Tables.{length-encode, read-encodes, read-valid}
-use Rattle.codec.proofs.Adds.{found, more, nodes-of, by-add, add-reads-back, add-bytes}
+use Rattle.codec.proofs.Adds.{found, more, by-add, add-reads-back, add-bytes}
 use Rattle.truth.specs.Evaluated.{Low}
 use Rattle.truth.proofs.Truths.{lit-prefix}
 use Rattle.truth.proofs.Low.{reads-low}
-use Rattle.adding.specs.Added.{Readable}
 use Rattle.adding.proofs.Rows.{add-is}
 use Rattle.cnf.specs.Fold.{node}
 use Rattle.cnf.proofs.Outcomes.{Ends, ends}
@@ -179,21 +178,3 @@ module _ {vars used : ℕ} {bytes : List ℕ} {rs : List Node} (h : Holds vars u
       (λ number place q.
       only-two (ltb (indexOf y rs) (length rs)) (ltb (length rs) 2016) (leb (length (encode (rs ++ y ∷ []))) (length bytes)) (length rs)
       (found bytes used rs y) (more bytes rs y) (sym adds ∙ q))
-
--- what add leaves reads, and its literals are below 4,032
-pub add-leaves : (bytes : List ℕ) (used : ℕ) (x : Node) (u : Added) → Bytes bytes → Bytes (nodeBytes x) → add bytes used (nodeBytes x) ≡ answer u
-    → (u .literal < 4032) × Readable (u .bytes) (u .used)
-unfolding add
-add-leaves bytes used x u all small e =
-    let (rs, d) = nodes-of bytes used (nodeBytes x) u e in
-    let inside = row (leb used (length bytes)) 9 0 _ e .0 in
-    let (y, ey, back) = add-reads-back bytes used (nodeBytes x) all (length-nodeBytes x) small rs u d e in
-    let h : Holds 0 used bytes rs = record {
-      bytes-of = all;
-      within = leb-true used (length bytes) inside;
-      nodes = d;
-      wide = omega arith;
-      points = λ p i. absurd (omega arith);
-    } in
-    let p = put-answered h x y small ey u e in
-    (omega (arith, p .inside, most (p .holds)), record { within = p .holds .within; reads = record { nodes = p .rs′; decoded = p .holds .nodes } })

@@ -1,6 +1,6 @@
 // The nodes of a DIMACS file's table, one after another in a table under way: points, false, a clause's ORs, the ANDs.
 ghost use mathlib.Core.Path.{_≡_};
-ghost use Prim.Native.Nat.{_+_, _*_, _/_, _<_, _≤_};
+ghost use Prim.Native.Nat.{_<_, _≤_};
 ghost use lib.ListN.{take};
 ghost use Rattle.growing.specs.Growing.{state, Under, Grows};
 ghost use Rattle.cnf.specs.Fold.{opposite, put, points, no-literal, orClause, andJoin, empty};

@@ -1,34 +1,32 @@
 -- The reader: a text turned away, and one whose table is built. Assumes nothing.
 use mathlib.Core.Path.{_≡_, _∙_, ap, sym, refl, subst}
 use mathlib.Core.List.{List}
-use Prim.Native.Nat.{ℕ, _≤_}
+use Prim.Native.Nat.{ℕ}
 use native.Mathlib.Omega.{arith}
 use lib.Dec.{eqb}
 use lib.ListN.{length}
 use Rattle.scope.specs.declared.Refusal.{Refusal}
 use Rattle.scope.specs.Outcome.{Outcome, answer, refused, require, _>>_, _>>=_}
-use Rattle.scope.specs.Table.{encode}
-use Rattle.scope.specs.Calls.{Added as Written, written}
+use Rattle.scope.specs.Calls.{Added as Written}
 use Rattle.scope.proofs.Tests.{refused-no, bound}
 use Rattle.codec.specs.Valid.{Bytes}
 use Rattle.adding.specs.declared.Mark.{Mark}
-use Rattle.adding.specs.declared.Added.{Added}
 use Rattle.adding.specs.declared.Added.the-variants.{At, Refused}
 use Rattle.adding.specs.Added.{marked}
 use Rattle.growing.specs.declared.Spot.{Spot}
 use Rattle.growing.specs.declared.Grown.{Grown}
 use Rattle.growing.specs.declared.Grown.the-variants.{At as Grew, Refused as Full}
-use Rattle.growing.specs.Growing.{nodesIn, state, roomOf, outcomeOf, Writes}
-use Rattle.cnf.specs.Text.{File, words, clausesFrom, heading, behindComments, fileOf}
+use Rattle.growing.specs.Growing.{state, roomOf, outcomeOf, Writes}
+use Rattle.cnf.specs.Text.{File, fileOf}
 use Rattle.cnf.specs.Fold.{build}
 use Rattle.cnf.specs.Reader.{dimacs, Turns}
 use Rattle.cnf.proofs.Reader.{dimacs-builds, dimacs-refuses}
 use Rattle.cnftext.specs.declared.Heading.{Heading}
 use Rattle.cnftext.specs.declared.Head.{Head}
 use Rattle.cnftext.specs.declared.Head.the-variants.{At as Found, Malformed as NoHeading}
-use Rattle.cnftext.specs.Scanned.{headOf, Headed}
+use Rattle.cnftext.specs.Scanned.{Headed}
 use Rattle.cnfread.specs.declared.Folded.{Folded}
-use Rattle.cnfread.specs.declared.Folded.the-variants.{Table, Malformed}
+use Rattle.cnfread.specs.declared.Folded.the-variants.{Table}
 use Rattle.cnfread.specs.Clauses.{bodyAt, filed, Folds}
 use Rattle.cnfread.specs.Reads.{fileWith, Starts, Told, FirstRefusal, Reads}
 

@@ -5,7 +5,7 @@ use mathlib.Core.Bool.{Bool, true, false, not, or-true, or-false}
 use Prim.Native.Nat.{ℕ, _<_, _≤_}
 use native.Mathlib.Omega.{arith}
 use lib.ListN.{length, getD, take, drop}
-use Rattle.scope.specs.Outcome.{answer, refused}
+use Rattle.scope.specs.Outcome.{refused}
 use Rattle.cnf.specs.declared.Word.the-variants.{Malformed, End, Literal}
 use Rattle.cnf.specs.Text.{words, isEmpty, clausesFrom}
 use Rattle.cnf.specs.Fold.{opposite, holds, kept, distinctFrom, bothSigns}
@@ -14,7 +14,6 @@ use Rattle.cnf.proofs.Texts.{word-literal}
 use Rattle.cnfwords.specs.Words.{Next}
 use Rattle.cnftext.proofs.Clauses.{clauses-done, clauses-open, clauses-bad, clauses-end, clauses-literal}
 use Rattle.cnfread.specs.declared.Gathered.{Gathered}
-use Rattle.cnfread.specs.declared.Gathering.{Gathering}
 use Rattle.cnfread.specs.declared.Gathering.the-variants.{Clause, Done, Malformed as Bad}
 use Rattle.cnfread.specs.Clauses.{mark, Kept, Keeps, bodyAt, ReadsClause, Gathers}
 use Rattle.cnfread.proofs.Keeping.{mark-set, mark-clear}

@@ -1,5 +1,4 @@
 // The reader of DIMACS files: the nodes are made as the text is read, and the table is written once the text is known to be in order.
-ghost use mathlib.Core.Path.{_≡_};
 ghost use mathlib.Core.List.{[]};
 ghost use Prim.Native.Nat.{_<_, _≤_};
 ghost use lib.ListN.{length, take};

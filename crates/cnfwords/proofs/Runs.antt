@@ -1,18 +1,18 @@
 -- A sign and a run of digits, read at once. Assumes nothing.
 use mathlib.Core.Path.{_≡_, _∙_, ap, sym, refl, subst}
 use mathlib.Core.List.{List, [], _∷_, _++_}
-use mathlib.Core.Bool.{Bool, true, false, and-true}
-use Prim.Native.Nat.{ℕ, suc, _+_, _-_, _*_, _^_, _<_, _≤_}
+use mathlib.Core.Bool.{true, false}
+use Prim.Native.Nat.{ℕ, _+_, _-_, _*_, _^_, _<_, _≤_}
 use native.Mathlib.Omega.{arith}
-use lib.Dec.{eqb, leb, ltb}
+use lib.Dec.{eqb, ltb}
 use lib.ListN.{length, getD, take, drop, length-take, length-drop}
 use lib.Seq.{drop-drop, getD-take, getD-drop}
-use borrow.Author.Tests.{eqb-true, eqb-false, eq-eqb, ne-eqb, lt-ltb, le-ltb}
+use borrow.Author.Tests.{eqb-true, eqb-false, ne-eqb, lt-ltb, le-ltb}
 use Rattle.codec.proofs.Rows.{both, by-test}
 use Rattle.codec.proofs.Bytes.{drop-take}
 use Rattle.cnf.specs.declared.Word.{Word}
 use Rattle.cnf.specs.declared.Word.the-variants.{Malformed, End, Literal}
-use Rattle.cnf.specs.Text.{digit, few, valueFrom, separator, wordsFrom, words, allDigits, wordOf}
+use Rattle.cnf.specs.Text.{digit, valueFrom, separator, wordsFrom, allDigits, wordOf}
 use Rattle.cnfwords.specs.declared.Number.the-variants.{Value}
 use Rattle.cnfwords.specs.declared.Run.{Run}
 use Rattle.cnfwords.specs.declared.Token.{Token}

@@ -14,6 +14,9 @@ ghost use Rattle.state.specs.Holds.{Holds};
 ghost use Rattle.moves.specs.Place.{placeNumber, Placed};
 ghost use Rattle.counting.specs.Count.{atMost, Sized, SizedIn, Advanced, Tallied};
 
+// No unit is the next move.
+const NO_UNIT: u32 = 4294967295;
+
 // Where the units end, and the count up to there.
 struct Told {
     stop: Stop,
@@ -92,34 +95,43 @@ fn units(
     ensures { λ r. ⌜ Advanced version (indexNode (now (x .entry))) n (now (goals .entry)) (now (work .entry)) (now (work .exit)) (now (masks .exit)) cap s r ⌝ }
 {
     let mut count = s;
+    let mut u = moves::pick(work, masks);
     loop {
-        let m = moves::next_move(x, n, goals, work, masks);
-        match m {
-            Move::Conflict(_) => {
-                let size = size_in(version, templates, x, n, goals, work, 0);
-                count = capped(count, size + 1, cap);
-                return Told {
-                    stop: Stop::Closed,
-                    count,
-                };
-            }
-            Move::Unit(_, l) => {
-                let size = size_in(version, templates, x, n, goals, work, 1);
-                count = capped(count, size, cap);
-                solver::assume(x, n, goals, work, masks, l);
-            }
-            Move::Done => {
-                return Told {
-                    stop: Stop::Model,
-                    count,
-                };
-            }
-            Move::Split(l) => {
-                count = capped(count, 1, cap);
-                return Told {
-                    stop: Stop::Fork(l),
-                    count,
-                };
+        if u != NO_UNIT {
+            moves::unit_move(x, n, goals, work, masks, u);
+            let size = size_in(version, templates, x, n, goals, work, 1);
+            count = capped(count, size, cap);
+            u = solver::join(x, n, goals, work, masks, u);
+        } else {
+            let m = moves::next_move(x, n, goals, work, masks);
+            match m {
+                Move::Conflict(_) => {
+                    let size = size_in(version, templates, x, n, goals, work, 0);
+                    count = capped(count, size + 1, cap);
+                    return Told {
+                        stop: Stop::Closed,
+                        count,
+                    };
+                }
+                Move::Unit(_, l) => {
+                    let size = size_in(version, templates, x, n, goals, work, 1);
+                    count = capped(count, size, cap);
+                    solver::assume(x, n, goals, work, masks, l);
+                    u = moves::pick(work, masks);
+                }
+                Move::Done => {
+                    return Told {
+                        stop: Stop::Model,
+                        count,
+                    };
+                }
+                Move::Split(l) => {
+                    count = capped(count, 1, cap);
+                    return Told {
+                        stop: Stop::Fork(l),
+                        count,
+                    };
+                }
             }
         }
     }

@@ -16,13 +16,11 @@ use Rattle.calculus.specs.Order.{Answer, possible, impossible, unfinished, tree
 use Rattle.calculus.specs.Model.{All}
 use Rattle.calculus.specs.Jump.{Jumped, jump, endAnswer, stopped}
 use Rattle.calculus.specs.Decide.{nodesOf, jumpOf, Decided as Given, listRow, asked, settingsOn, decidedBy, decided, decide, settingsAfter, _⇔_}
-use Rattle.calculus.proofs.Search.{grown-whole}
 use Rattle.jumping.proofs.Same.{jump-same}
 use Rattle.jumping.proofs.Answers.{same-answer}
 use Rattle.index.specs.Index.{indexNode}
 use Rattle.asking.specs.Within.{Reached}
 use Rattle.asking.proofs.Models.{all-filled}
-use Rattle.asking.proofs.Finals.{possible-good}
 use Rattle.asking.proofs.Nodes.{setting-within}
 use Rattle.meaning.proofs.Decisions.{decide-plain, decide-exact, decide-evaluates}
 use Rattle.deciding.specs.Decides.{can, cannot, wordOf, Said, saidOf, decidedOf, Room, givenBy, Solved, Decides}
@@ -79,7 +77,7 @@ module _ (t goals s w : List ℕ) (all : Bytes t) (r : Decided) {s′ : List ℕ
 module _ {row : Outcome (Unit {0})} {t goals : List ℕ} {needed lent area : ℕ} {x : List ℕ} {n : ℕ} (p : Reached row t goals needed lent area x n) (s : List ℕ) where
   -- the setting of what the search over the index ends on
   set-in : (a : Answer) → a ≡ answerOf (tree (expand (indexNode x)) goals n []) → settingsOn (listFrom (indexNode x) 0 n) s a ≡ settingsOn (p .nodes) s a
-  set-in (possible G) e = ap (_++ drop 1024 s) (setting-within p G (possible-good (grown-whole n (indexNode x) goals (p .indexed .table) (p .below)) (sym e)))
+  set-in (possible G) e = ap (_++ drop 1024 s) (setting-within p (sym e))
   set-in impossible e = refl
   set-in unfinished e = refl
 
@@ -88,7 +86,7 @@ module _ {row : Outcome (Unit {0})} {t goals : List ℕ} {needed lent area : ℕ
   given-in =
       let j : Jumped = jump 128 (expand (indexNode x)) goals n 0 [] in
       let e : j ≡ jumpOf (p .nodes) goals =
-      jump-same 128 n (indexNode x) (nodesOf (p .nodes)) (p .same) goals (p .indexed .table) (p .below) n (length (p .nodes)) 0 [] tt (omega arith) (p .some) in
+      jump-same 128 n (indexNode x) (nodesOf (p .nodes)) goals (p .indexed .table) (p .below) (p .closed) (p .alike) n (length (p .nodes)) 0 [] tt tt (omega arith) (p .some) in
       let b = set-in (endAnswer (j .end)) (same-answer 128 n (indexNode x) goals (p .indexed .table) (p .below)) in
       ap (λ (y : List ℕ). record { verdict = endAnswer (j .end); settings = y; splits = stopped (j .splits) }) b
       ∙ ap (λ (k : Jumped). decidedBy (p .nodes) s (endAnswer (k .end)) (k .splits)) e

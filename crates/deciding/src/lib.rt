@@ -86,7 +86,7 @@ fn solve(x: &[u16], n: usize, goals: &[u16], settings: &mut [u8], work: &mut [u1
 pub fn decide(t: &[u8], goals: &[u16], settings: &mut [u8], work: &mut [u16]) -> Decided
     ensures { λ r. ⌜ Decides (now (t .entry)) (now (goals .entry)) (now (settings .entry)) (now (work .entry)) (now (settings .exit)) (now (work .exit)) r ⌝ }
 {
-    let mut x = [0u16; 18378];
+    let mut x = [0u16; 22626];
     let a = asking::ask_within(t, goals, 1024, settings.len(), work.len(), &mut x);
     match a {
         Counted::Refused(r) => Decided::Refused(r),

@@ -15,8 +15,8 @@ use Rattle.rules.specs.declared.Step.{Step}
 use Rattle.rules.specs.declared.Version.{Version}
 use Rattle.rules.specs.Derivation.{namedSteps}
 use Rattle.rules.specs.Derive.{derivationOf, Derived as Given, blocks, derived, derive, derivedAfter, check}
-use Rattle.asking.specs.Asks.{Prepared}
-use Rattle.asking.proofs.Nodes.{search-in}
+use Rattle.asking.specs.Within.{Reached}
+use Rattle.asking.proofs.Nodes.{searches-within}
 use Rattle.meaning.proofs.Derivations.{derive-open, derive-never, derived-accepted, derived-published}
 use Rattle.deriving.specs.Derives.{derivedOf, producedBy, produced, Produced, Derives}
 use Rattle.deriving.specs.declared.Derived.{Derived}
@@ -71,18 +71,17 @@ module _ (v : Version) (t goals w d : List ℕ) (all : Bytes t) where
       let z = refused-by q in
       derives (Refused f) (rw z) (rw z) (λ number place a. refl)
 
-  module _ {x : List ℕ} {n : ℕ} (p : Prepared (listRow goals) t goals 0 0 (length w) x n) where
+  module _ {x : List ℕ} {n : ℕ} (p : Reached (listRow goals) t goals 0 0 (length w) x n) where
     -- the steps over the index are those over the nodes
     steps-in : namedSteps v (expand (indexNode x)) goals (tree (expand (indexNode x)) goals n []) ≡ derivationOf v (p .nodes) goals
     steps-in =
-        derivation-same v n (indexNode x) (nodesOf (p .nodes)) (p .same) goals (p .indexed .table) (p .admitted .below)
-        ∙ ap (λ (k : ℕ). namedSteps v (expand (nodesOf (p .nodes))) goals (tree (expand (nodesOf (p .nodes))) goals k [])) (sym (p .count))
+        derivation-same v n (indexNode x) (nodesOf (p .nodes)) (p .indexed .table) (p .closed) goals (p .alike) (p .below) (length (p .nodes)) (p .some)
 
     ends-on : derive v t goals w d ≡ produced v (indexNode x) n goals d
     unfolding derive derived
     ends-on =
         rw (p .answered)
-        (ap (λ (s : Tree). producedBy v s (derivationOf v (p .nodes) goals) d) (sym (search-in p))
+        (ap (λ (s : Tree). producedBy v s (derivationOf v (p .nodes) goals) d) (sym (searches-within p goals (p .below) (p .alike)))
         ∙ ap (λ (ss : List Step). producedBy v (tree (expand (indexNode x)) goals n []) ss d) (sym steps-in))
 
     pub ends : {w′ d′ : List ℕ} (r : Derived) → Produced v (indexNode x) n goals d d′ r → Derives v t goals w d w′ d′ r

@@ -1,5 +1,6 @@
 // Derive: the derivation of impossible goals in the solver's order, in blocks of a lent buffer. A first pass counts the steps, so
-// that nothing is written before it is known that the goals are impossible and that the blocks fit; the second writes them.
+// that nothing is written before it is known that the goals are impossible and that the blocks fit; the second writes them. Of the nodes
+// those below the goals are indexed.
 use counting::Tally;
 use rules::Version;
 use scope::Refusal;
@@ -83,8 +84,8 @@ fn produce(
 pub fn derive(version: Version, t: &[u8], goals: &[u16], work: &mut [u16], d: &mut [u8]) -> Derived
     ensures { λ r. ⌜ Derives version (now (t .entry)) (now (goals .entry)) (now (work .entry)) (now (d .entry)) (now (work .exit)) (now (d .exit)) r ⌝ }
 {
-    let mut x = [0u16; 18378];
-    let a = asking::ask(t, goals, 0, 0, work.len(), &mut x);
+    let mut x = [0u16; 22626];
+    let a = asking::ask_within(t, goals, 0, 0, work.len(), &mut x);
     match a {
         Counted::Refused(r) => Derived::Refused(r),
         Counted::Nodes(n) => produce(version, &x, n, goals, work, d),

@@ -28,6 +28,9 @@ ghost use Rattle.gather.specs.Kept.{lent, Space, Pushed};
 ghost use Rattle.counting.specs.Count.{stepsFrom};
 ghost use Rattle.emitting.specs.Trace.{falseBit, falseBits, RemovedBy, Due, Stepped, Emitted, Fits, written};
 
+// No unit is the next move.
+const NO_UNIT: u32 = 4294967295;
+
 // Where a phase ends: at a conflict, or at a split on a literal.
 pub enum Turn {
     Closed,
@@ -136,41 +139,61 @@ fn phase(
     ensures { λ r. ⌜ Stepped version (indexNode (now (x .entry))) n (now (goals .entry)) (now (work .entry)) (now (work .exit)) (now (masks .exit)) (now (out .entry)) (now (out .exit)) (lent (now (block .entry)) start) (lent (now (block .exit)) (r .at)) (r .turn) ⌝ }
 {
     let mut at = start;
+    let mut u = moves::pick(work, masks);
     loop {
-        let m = moves::next_move(x, n, goals, work, masks);
-        match m {
-            Move::Conflict(k) => {
-                at = on_clause(version, templates, x, n, goals, work, out, block, at, 67, k);
-                return Told {
-                    turn: Turn::Closed,
-                    at,
-                };
-            }
-            Move::Unit(k, l) => {
-                at = on_clause(version, templates, x, n, goals, work, out, block, at, 85, k);
-                solver::assume(x, n, goals, work, masks, l);
-            }
-            Move::Done => {
-                return Told {
-                    turn: Turn::Closed,
-                    at,
-                };
-            }
-            Move::Split(l) => {
-                at = gather::add(
-                    out,
-                    block,
-                    at,
-                    Step {
-                        rule: 83,
-                        position: 0,
-                        value: l,
-                    },
-                );
-                return Told {
-                    turn: Turn::Fork(l),
-                    at,
-                };
+        if u != NO_UNIT {
+            let f = moves::unit_move(x, n, goals, work, masks, u);
+            at = on_clause(
+                version,
+                templates,
+                x,
+                n,
+                goals,
+                work,
+                out,
+                block,
+                at,
+                85,
+                f.number,
+            );
+            u = solver::join(x, n, goals, work, masks, u);
+        } else {
+            let m = moves::next_move(x, n, goals, work, masks);
+            match m {
+                Move::Conflict(k) => {
+                    at = on_clause(version, templates, x, n, goals, work, out, block, at, 67, k);
+                    return Told {
+                        turn: Turn::Closed,
+                        at,
+                    };
+                }
+                Move::Unit(k, l) => {
+                    at = on_clause(version, templates, x, n, goals, work, out, block, at, 85, k);
+                    solver::assume(x, n, goals, work, masks, l);
+                    u = moves::pick(work, masks);
+                }
+                Move::Done => {
+                    return Told {
+                        turn: Turn::Closed,
+                        at,
+                    };
+                }
+                Move::Split(l) => {
+                    at = gather::add(
+                        out,
+                        block,
+                        at,
+                        Step {
+                            rule: 83,
+                            position: 0,
+                            value: l,
+                        },
+                    );
+                    return Told {
+                        turn: Turn::Fork(l),
+                        at,
+                    };
+                }
             }
         }
     }

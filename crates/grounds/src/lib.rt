@@ -1,17 +1,17 @@
 // What the clause of the last move, a unit or a conflict, rests on: what its false literals do, and the literal whose expansion gave it.
 ghost use mathlib.Core.Path.{_≡_};
-ghost use Prim.Native.Nat.{_*_, _<_, _≤_};
+ghost use Prim.Native.Nat.{_+_, _*_, _/_, _<_, _≤_};
 ghost use lib.ListN.{length};
+ghost use Rattle.scope.specs.Table.{arity};
 ghost use Rattle.calculus.specs.Expansion.{expand};
 ghost use Rattle.calculus.specs.Model.{Goals};
 ghost use Rattle.calculus.specs.Jump.{clauseRest};
 ghost use Rattle.index.specs.Index.{mostNodes, indexNode};
 ghost use Rattle.index.specs.Indexed.{Indexed};
-ghost use Rattle.clause.specs.Templates.{rows};
-ghost use Rattle.state.specs.Work.{area, tail, gOf, Ready, Numbered};
+ghost use Rattle.state.specs.Work.{area, tail, litAt, placeOf, gOf, Ready, Numbered};
 ghost use Rattle.moves.specs.Place.{placeNumber, Placed};
-ghost use Rattle.rests.specs.Words.{Put, heldOf};
-ghost use Rattle.grounds.specs.Ground.{slotIn, originSlot, Grounded};
+ghost use Rattle.rests.specs.Words.{restAt, Put, heldOf};
+ghost use Rattle.grounds.specs.Ground.{slotOf, upTo, operandsIn, over, Room, Grounded};
 
 // The cell of the work area that has the place of the last move's clause.
 const PLACE: usize = 3;
@@ -19,37 +19,94 @@ const PLACE: usize = 3;
 // The places of the goals' clauses; before them stand four for each position.
 const GOALS: usize = 8064;
 
-// The slot of the literal whose expansion gave the clause of the last move; 0 for a goal's clause.
-fn origin(work: &[u16]) -> usize
-    requires { ⌜ area ≤ length (now work) ⌝ }
-    ensures { λ r. ⌜ r ≡ originSlot (now (work .entry)) ⌝ }
+// The rows, 2 * kind + sign, whose clauses have one literal each, that of operand j in clause j: AND, OR negated, IMP negated, AND of three
+// and OR of three negated. Each clause of the other rows has all operands.
+const SINGLES: u64 = 150080;
+
+// Kinds below it have no operands; kinds from it on have three.
+const PAIRS: u16 = 3;
+
+const THREES: u16 = 7;
+
+// The slot of a literal's node: 1 + the position of its literal that is held, or 0 where it is undecided.
+fn slot(n: usize, work: &[u16], l: u16) -> usize
+    requires { ⌜ (area ≤ length (now work)) × (n ≤ mostNodes) × (l < 2 * n) ⌝ }
+    ensures { λ r. ⌜ r ≡ slotOf (tail (now (work .entry))) l ⌝ }
 {
-    let place = work[PLACE] as usize;
-    if place < GOALS { place / 4 + 1 } else { 0 }
+    (state::entry(work, (l / 2) as usize) as usize + 1) / 2
 }
 
-// The slot of the literal at index i of a clause of a length; 0 where it is undecided, or there is none.
-fn slot_in(n: usize, work: &[u16], len: u8, i: u8, l: u16) -> usize
-    requires { ⌜ (area ≤ length (now work)) × (n ≤ mostNodes) × (i < len → l < 2 * n) ⌝ }
-    ensures { λ r. ⌜ r ≡ slotIn (tail (now (work .entry))) len i l ⌝ }
+// What a clause with all operands of a node rests on, where the literal at position q gave it.
+fn put_all(x: &[u16], n: usize, work: &[u16], rests: &mut [u64], to: usize, q: usize, node: usize)
+    requires { ⌜ Indexed (now x) n ⌝ }
+    requires { ⌜ Ready n (now work) ⌝ }
+    requires { ⌜ Room (now work) (now rests) to ⌝ }
+    requires { ⌜ (q < tail (now work) 0) × (node < n) ⌝ }
+    ensures { λ _. ⌜ Put (now (rests .entry)) to (over (now (rests .entry)) (tail (now (work .entry))) (indexNode (now (x .entry)) node) (restAt (now (rests .entry)) (q + 1)) (upTo (arity (indexNode (now (x .entry)) node .kind)))) (now (rests .exit)) ⌝ }
 {
-    if i < len {
-        return (state::entry(work, (l / 2) as usize) as usize + 1) / 2;
+    let s = 4 * node;
+    let kind = x[s];
+    if kind < PAIRS {
+        rests::put_both(rests, to, 0, q + 1);
+        return;
     }
-    0
+    let a = slot(n, work, x[s + 1]);
+    let b = slot(n, work, x[s + 2]);
+    if kind < THREES {
+        rests::put_three(rests, to, a, b, q + 1);
+        return;
+    }
+    let c = slot(n, work, x[s + 3]);
+    rests::put_four(rests, to, a, b, c, q + 1);
 }
 
-// What the clause of the last move rests on is put at slot `to`.
-pub fn put_clause(
-    templates: &[[u8; 9]; 18],
+// What clause j of the literal at position q rests on.
+fn put_position(x: &[u16], n: usize, work: &[u16], rests: &mut [u64], to: usize, q: usize, j: usize)
+    requires { ⌜ Indexed (now x) n ⌝ }
+    requires { ⌜ Ready n (now work) ⌝ }
+    requires { ⌜ Room (now work) (now rests) to ⌝ }
+    requires { ⌜ (q < tail (now work) 0) × (j < length (expand (indexNode (now x)) (litAt (tail (now work)) q))) ⌝ }
+    ensures { λ _. ⌜ Put (now (rests .entry)) to (over (now (rests .entry)) (tail (now (work .entry))) (indexNode (now (x .entry)) (litAt (tail (now (work .entry))) q / 2)) (restAt (now (rests .entry)) (q + 1)) (operandsIn (indexNode (now (x .entry))) (litAt (tail (now (work .entry))) q) j)) (now (rests .exit)) ⌝ }
+{
+    let l = state::literal(work, q);
+    let node = (l / 2) as usize;
+    let row = 2 * x[4 * node] as usize + (l % 2) as usize;
+    if (SINGLES >> row) % 2 == 1 {
+        let a = slot(n, work, x[4 * node + (1 + j)]);
+        rests::put_both(rests, to, a, q + 1);
+        return;
+    }
+    put_all(x, n, work, rests, to, q, node);
+}
+
+// What the clause of the last move rests on is put at slot `to`; its place is given.
+pub fn put_at(
     x: &[u16],
     n: usize,
     goals: &[u16],
     work: &[u16],
     rests: &mut [u64],
     to: usize,
+    place: usize,
 )
-    requires { ⌜ now templates ≡ rows ⌝ }
+    requires { ⌜ Indexed (now x) n ⌝ }
+    requires { ⌜ Goals n (now goals) ⌝ }
+    requires { ⌜ Ready n (now work) × Numbered (indexNode (now x)) (now goals) (tail (now work)) ⌝ }
+    requires { ⌜ Placed (indexNode (now x)) (now goals) (now work) (placeNumber (now work)) ⌝ }
+    requires { ⌜ Grounded (indexNode (now x)) (now goals) (now work) (now rests) to ⌝ }
+    requires { ⌜ place ≡ placeOf (now work) ⌝ }
+    ensures { λ _. ⌜ Put (now (rests .entry)) to (clauseRest (expand (indexNode (now (x .entry)))) (now (goals .entry)) (heldOf (now (rests .entry)) (gOf (now (work .entry)))) (placeNumber (now (work .entry)))) (now (rests .exit)) ⌝ }
+{
+    if place < GOALS {
+        put_position(x, n, work, rests, to, place / 4, place % 4);
+        return;
+    }
+    let a = slot(n, work, goals[place - GOALS]);
+    rests::put_both(rests, to, a, 0);
+}
+
+// What the clause of the last move rests on is put at slot `to`.
+pub fn put_clause(x: &[u16], n: usize, goals: &[u16], work: &[u16], rests: &mut [u64], to: usize)
     requires { ⌜ Indexed (now x) n ⌝ }
     requires { ⌜ Goals n (now goals) ⌝ }
     requires { ⌜ Ready n (now work) × Numbered (indexNode (now x)) (now goals) (tail (now work)) ⌝ }
@@ -57,10 +114,5 @@ pub fn put_clause(
     requires { ⌜ Grounded (indexNode (now x)) (now goals) (now work) (now rests) to ⌝ }
     ensures { λ _. ⌜ Put (now (rests .entry)) to (clauseRest (expand (indexNode (now (x .entry)))) (now (goals .entry)) (heldOf (now (rests .entry)) (gOf (now (work .entry)))) (placeNumber (now (work .entry)))) (now (rests .exit)) ⌝ }
 {
-    let c = moves::reason(templates, x, n, goals, work);
-    let from = origin(work);
-    let first = slot_in(n, work, c.len, 0, c.first);
-    let second = slot_in(n, work, c.len, 1, c.second);
-    let third = slot_in(n, work, c.len, 2, c.third);
-    rests::put_four(rests, to, first, second, third, from);
+    put_at(x, n, goals, work, rests, to, work[PLACE] as usize);
 }

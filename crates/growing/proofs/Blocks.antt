@@ -1,26 +1,23 @@
 -- The blocks of the numbers' nodes, one after another. Assumes nothing.
 use mathlib.Core.Path.{_≡_, _∙_, ap, sym, refl}
 use mathlib.Core.List.{List, [], _∷_, _++_, append-assoc, append-nil, map, map-append, flatMap}
-use Prim.Native.Nat.{ℕ, zero, suc, _+_, _-_, _*_, _/_, _%_, _≤_, _<_}
+use Prim.Native.Nat.{ℕ, zero, suc, _+_, _-_, _*_, _/_, _≤_, _<_}
 use native.Mathlib.Nat.{sub-zero}
 use native.Mathlib.Numerals.{add-one}
 use native.Mathlib.Omega.{arith}
 use lib.Dec.{ltb}
 use borrow.Author.Tests.{ltb-true, ltb-false}
-use lib.ListN.{length, getD, take, drop, length-append, length-drop, length-take, length-map, drop-of-length-le}
-use lib.Seq.{length-take-le, take-suc, take-take, take-all, take-at, drop-at, drop-drop, take-length, getD-drop, paste, take-paste, length-paste}
+use lib.ListN.{length, getD, take, drop, length-append, length-drop, length-take, length-map}
+use lib.Seq.{length-take-le, take-suc, take-take, take-all, take-at, drop-at, drop-drop, take-length, getD-drop, paste, take-paste}
 use Rattle.scope.specs.declared.Node.{Node}
 use Rattle.scope.specs.Block.{blockOf, blocksOf, fileOf}
 use Rattle.scope.specs.Table.{tables, nodeBytes, encode}
-use Rattle.scope.specs.Calls.{written}
 use Rattle.scope.proofs.Tests.{by-test}
 use Rattle.codec.proofs.Blocks.{length-blockOf}
 use Rattle.codec.proofs.Bytes.{drop-take}
 use Rattle.codec.proofs.Files.{flat-append}
 use Rattle.codec.proofs.Records.{length-nodeBytes}
-use Rattle.codec.proofs.Tables.{length-encode}
-use Rattle.writer.proofs.Parts.{part-back}
-use Rattle.growing.specs.Growing.{nodeIn, nodesIn, recordsIn, roomOf, Held, Writes}
+use Rattle.growing.specs.Growing.{nodeIn, nodesIn, recordsIn, Held, Writes}
 use Rattle.growing.proofs.Nodes.{nodes-count}
 
 drop-map : {A B : Type 0} (f : A → B) (i : ℕ) (l : List A) → drop i (map f l) ≡ map f (drop i l)

@@ -13,18 +13,16 @@ use Rattle.scope.specs.declared.Node.{Node}
 use Rattle.scope.specs.declared.Refusal.{Refusal}
 use Rattle.scope.specs.Outcome.{answer, refused}
 use Rattle.scope.specs.Table.{nodeBytes, readRecord, sameNode, encode}
-use Rattle.scope.specs.Calls.{noNode, indexOf, Added, written, addNode, addNew}
+use Rattle.scope.specs.Calls.{noNode, indexOf, written, addNode, addNew}
 use Rattle.scope.proofs.Tests.{by-test}
-use Rattle.codec.specs.Valid.{Valid}
 use Rattle.codec.proofs.Records.{same-is, same-self}
 use Rattle.codec.proofs.Nodes.{not-found, index-none, index-at, valid-more}
 use Rattle.codec.proofs.Tables.{length-encode}
 use Rattle.codec.proofs.Used.{written-length, written-over}
 use Rattle.growing.specs.declared.Spot.{Spot}
-use Rattle.growing.specs.declared.Grown.{Grown}
 use Rattle.growing.specs.declared.Grown.the-variants.{At, Refused}
 use Rattle.growing.specs.Chains.{Chains, Finds}
-use Rattle.growing.specs.Growing.{nodeIn, nodesIn, state, roomOf, outcomeOf, Under, Grows, joins}
+use Rattle.growing.specs.Growing.{nodeIn, nodesIn, roomOf, Under, Grows, joins}
 
 -- different numbers are of different nodes
 pub key-one : (x y : ℕ) → nodeIn x ≡ nodeIn y → x ≡ y

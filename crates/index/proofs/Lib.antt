@@ -1,3 +1,9 @@
 -- Laws of the index, for the proofs of the functions and of the crates above. Assumes nothing.
 pub mod Nodes
-pub mod Cells
+pub mod Sums
+pub mod Copies
+pub mod Counts
+pub mod Rooms
+pub mod Fills
+pub mod Wholes
+pub mod Marks

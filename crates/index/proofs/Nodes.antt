@@ -16,14 +16,15 @@ use Rattle.scope.proofs.Operands.{arity-most, operands-length, operand-at}
 use Rattle.calculus.specs.Expansion.{neg, chosen}
 use Rattle.calculus.specs.Model.{Table}
 use Rattle.calculus.proofs.Lists.{all-at}
-use Rattle.index.specs.Index.{indexSize, mostNodes, headsAt, indexNode, Loaded}
+use Rattle.index.specs.Index.{indexSize, mostNodes, midAt, endAt, indexNode}
+use Rattle.index.specs.Built.{Loaded}
 
 -- a node hangs on its own numbers alone
 pub node-same : (x x′ : List ℕ) (b m : ℕ) → ((i : ℕ) → i < 4 * b → getD x′ i 0 ≡ getD x i 0) → m < b → indexNode x′ m ≡ indexNode x m
 unfolding indexNode
 node-same x x′ b m e h = rw (e (4 * m) (omega arith), e (4 * m + 1) (omega arith), e (4 * m + 2) (omega arith), e (4 * m + 3) (omega arith))
 
--- ---- node m is written, with no links yet: its kind, its operands' cells, and its head
+-- ---- node m is written, with no edges yet: its kind, its operands' cells, and two counts
 
 abbrev withA : List ℕ → ℕ → Node → List ℕ
 withA x m y = set (set x (4 * m) (y .kind)) (4 * m + 1) (y .a)
@@ -34,22 +35,29 @@ withB x m y = set (withA x m y) (4 * m + 2) (y .b)
 abbrev withC : List ℕ → ℕ → Node → List ℕ
 withC x m y = set (withB x m y) (4 * m + 3) (y .c)
 
+abbrev withMid : List ℕ → ℕ → Node → List ℕ
+withMid x m y = set (withC x m y) (midAt + m) 0
+
 abbrev written : List ℕ → ℕ → Node → List ℕ
-written x m y = set (withC x m y) (headsAt + m) 0
+written x m y = set (withMid x m y) (endAt + m) 0
 
 module _ (x : List ℕ) (m : ℕ) (y : Node) (h : m < mostNodes) (z : length x ≡ indexSize) where
-  -- a place before or behind the node's, that is not its head
-  written-other : (i : ℕ) → (4 * m ≤ i → i < 4 * m + 4 → ⊥) → (i ≡ headsAt + m → ⊥) → getD (written x m y) i 0 ≡ getD x i 0
-  written-other i n d =
-      getD-set-other (withC x m y) (headsAt + m) i 0 0 d
+  -- the counts are behind the nodes
+  before-counts : (i : ℕ) → (i ≡ midAt + m → ⊥) → (i ≡ endAt + m → ⊥) → getD (written x m y) i 0 ≡ getD (withC x m y) i 0
+  before-counts i d e = getD-set-other (withMid x m y) (endAt + m) i 0 0 e ∙ getD-set-other (withC x m y) (midAt + m) i 0 0 d
+
+  -- a place before or behind the node's, that is not its counts
+  written-other : (i : ℕ) → (4 * m ≤ i → i < 4 * m + 4 → ⊥) → (i ≡ midAt + m → ⊥) → (i ≡ endAt + m → ⊥) → getD (written x m y) i 0 ≡ getD x i 0
+  written-other i n d e =
+      before-counts i d e
       ∙ getD-set-other (withB x m y) (4 * m + 3) i (y .c) 0 (λ q. n (omega (arith, q)) (omega (arith, q)))
       ∙ getD-set-other (withA x m y) (4 * m + 2) i (y .b) 0 (λ q. n (omega (arith, q)) (omega (arith, q)))
       ∙ getD-set-other (set x (4 * m) (y .kind)) (4 * m + 1) i (y .a) 0 (λ q. n (omega (arith, q)) (omega (arith, q)))
       ∙ getD-set-other x (4 * m) i (y .kind) 0 (λ q. n (omega (arith, q)) (omega (arith, q)))
 
-  -- the last two stores are none of the first three fields
+  -- the last three stores are none of the first three fields
   after-fields : (i : ℕ) → i < 4 * m + 3 → getD (written x m y) i 0 ≡ getD (withB x m y) i 0
-  after-fields i l = getD-set-other (withC x m y) (headsAt + m) i 0 0 (λ q. omega (arith, q)) ∙ getD-set-other (withB x m y) (4 * m + 3) i (y .c) 0 (λ q. omega (arith, q))
+  after-fields i l = before-counts i (λ q. omega (arith, q)) (λ q. omega (arith, q)) ∙ getD-set-other (withB x m y) (4 * m + 3) i (y .c) 0 (λ q. omega (arith, q))
 
   written-b : getD (written x m y) (4 * m + 2) 0 ≡ y .b
   written-b = after-fields (4 * m + 2) (omega arith) ∙ getD-set-same (withA x m y) (4 * m + 2) (y .b) 0 (simp length-set (omega arith))
@@ -69,12 +77,16 @@ module _ (x : List ℕ) (m : ℕ) (y : Node) (h : m < mostNodes) (z : length x �
 
   written-c : getD (written x m y) (4 * m + 3) 0 ≡ y .c
   written-c =
-      getD-set-other (withC x m y) (headsAt + m) (4 * m + 3) 0 0 (λ q. omega (arith, q))
+      before-counts (4 * m + 3) (λ q. omega (arith, q)) (λ q. omega (arith, q))
       ∙ getD-set-same (withB x m y) (4 * m + 3) (y .c) 0 (simp length-set (omega arith))
 
   written-node : indexNode (written x m y) m ≡ y
   unfolding indexNode
   written-node = rw (written-kind, written-a, written-b, written-c)
+
+  written-counts : (getD (written x m y) (midAt + m) 0 ≡ 0) × (getD (written x m y) (endAt + m) 0 ≡ 0)
+  written-counts =
+      (getD-set-other (withMid x m y) (endAt + m) (midAt + m) 0 0 (λ q. omega (arith, q)) ∙ getD-set-same (withC x m y) (midAt + m) 0 0 (simp length-set (omega arith)), getD-set-same (withMid x m y) (endAt + m) 0 0 (simp length-set (omega arith)))
 
 -- ---- the first nodes
 
@@ -82,21 +94,24 @@ pub loaded-none : (t x : List ℕ) → length x ≡ indexSize → Loaded t 0 x
 loaded-none t x z = record {
   size = z;
   nodes = λ m h. absurd (omega (arith, h));
-  heads = λ m h. absurd (omega (arith, h));
+  counts = λ m h. absurd (omega (arith, h));
 }
 
 pub loaded-more : (t x : List ℕ) (m : ℕ) (y : Node) → m < mostNodes → y ≡ nodeAt t m → Loaded t m x → Loaded t (m + 1) (written x m y)
 loaded-more t x m y h e L = record {
   size = simp length-set (L .size);
   nodes = below-more _ m (λ k l. node-same x (written x m y) m k before l ∙ L .nodes k l) (written-node x m y h (L .size) ∙ e);
-  heads =
+  counts =
       below-more _ m
-      (λ k l. written-other x m y h (L .size) (headsAt + k) (λ a b. omega (arith, b)) (λ d. omega (arith, d)) ∙ L .heads k l)
-      (getD-set-same (withC x m y) (headsAt + m) 0 0 (simp length-set (omega (arith, L .size))));
+      (λ k l. (other k l midAt (omega arith) (omega arith) (λ d. omega (arith, d, h)) ∙ L .counts k l .0, other k l endAt (omega arith) (λ d. omega (arith, d, h)) (omega arith) ∙ L .counts k l .1))
+      (written-counts x m y h (L .size));
 }
   where
     before : (j : ℕ) → j < 4 * m → getD (written x m y) j 0 ≡ getD x j 0
-    before j l = written-other x m y h (L .size) j (λ a b. omega (arith, a)) (λ d. omega (arith, d))
+    before j l = written-other x m y h (L .size) j (λ a b. omega (arith, a)) (λ d. omega (arith, d)) (λ d. omega (arith, d))
+
+    other : (k : ℕ) → k < m → (i : ℕ) → 8064 ≤ i → (i + k ≡ midAt + m → ⊥) → (i + k ≡ endAt + m → ⊥) → getD (written x m y) (i + k) 0 ≡ getD x (i + k) 0
+    other k l i b d e = written-other x m y h (L .size) (i + k) (λ p q. omega (arith, q)) d e
 
 -- ---- the operands of node m are its cells, in order
 

@@ -70,3 +70,29 @@ codeAt i =
 -- CODES
 abbrev pub codes : List ℕ
 codes = listFrom codeAt 0 codesSize
+
+-- ---- the classes: what a node of two operands comes to by an edge, when the literal of the edge's node with sign no has become true
+
+abbrev pub classesSize : ℕ
+classesSize = 216
+
+-- of a code: 0 where no clause is a unit or all false, 1 where one is all false, else 2 + the sign of what the first unit forces + 4,096 ×
+-- which clause that is
+unfoldable pub classOf : ℕ → ℕ
+classOf r = cond (eqb (r / 2 % 2) 1) 1 (cond (eqb (r % 2) 1) (2 + r / 32 % 2 + 4096 * (r / 8 % 4)) 0)
+
+-- where the code of a node of two operands stands: of its kind, its literal's sign, the side of the operand that is known, that one's value
+-- and the other's
+abbrev pub codePlace : ℕ → ℕ → ℕ → ℕ → ℕ → ℕ
+codePlace kind sign side mine other = 9 * (2 * kind + sign) + cond (eqb side 0) (3 * mine + other) (3 * other + mine)
+
+-- nine for each type + no: in them 3 × how the node is held, 0 not, 1 by its positive literal, 2 by its negation, + the other operand's
+-- value. The type is 3 × (kind - 3 + 4 × side) + the sign of the known operand, which is true where that and no are the same
+unfoldable pub classAt : ℕ → ℕ
+classAt i =
+    cond (eqb (i / 3 % 3) 0) 0
+    (classOf (codeAt (codePlace (3 + i / 27 % 4) (i / 3 % 3 - 1) (i / 108) (cond (eqb (i / 9 % 3) 1) 2 1) (i % 3))))
+
+-- CLASSES
+abbrev pub classes : List ℕ
+classes = listFrom classAt 0 classesSize

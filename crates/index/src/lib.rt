@@ -1,22 +1,35 @@
-// The index of a table, built once a call: the nodes' fields as numbers, four a node, for each node the links to the operand cells that
-// name it, so that a node's parents are found without a look at the others, and the codes of the literals' clauses.
+// The index of a table, built once a call: the nodes' fields as numbers, four a node, each node's edges, so that its parents are found
+// without a look at the others, and the codes and classes, which say what the clauses of a literal come to.
 ghost use mathlib.Core.Path.{_≡_};
-ghost use Prim.Native.Nat.{ℕ, _+_, _*_, _%_, _<_, _≤_};
+ghost use Prim.Native.Nat.{ℕ, _+_, _/_, _%_, _<_, _≤_};
 ghost use lib.ListN.{length};
 ghost use Rattle.record.specs.Place.{placeOf};
-ghost use Rattle.index.specs.Codes.{codesSize};
-ghost use Rattle.index.specs.Index.{indexSize, mostNodes, indexNode, opNode, Linked, Entered, Loaded, Copied, Built};
+ghost use Rattle.scope.specs.Table.{operands, nodeAt};
+ghost use Rattle.calculus.specs.Model.{All, Below};
+ghost use Rattle.index.specs.Codes.{codesSize, classesSize};
+ghost use Rattle.index.specs.Index.{indexSize, mostNodes, mostEdges, firstAt, midAt, endAt, indexNode};
+ghost use Rattle.index.specs.Edges.{midOf, endOf};
+ghost use Rattle.index.specs.Built.{Same, Known, raised, countNode, putPair, putThree, putNode, Room, Blank, Counting, Placing, Linked, Loaded, Copied, Classified, Built};
+ghost use Rattle.index.specs.Marks.{marked, markAll, stored, passed, sunk, Earlier, Zeros, Pruned};
 
-// The layout: node m has its kind at 4 m, then its operands; from HEADS on each node's link to the last operand cell that names it; from
-// LINKS on each cell's link to the cell before it that names the same node; from CODES_AT on the codes. A link is the place of the cell
-// itself, 4 p + 1 to 4 p + 3, and 0 ends.
-const HEADS: usize = 8064;
+// The layout: node m has its kind at 4 m, then its operands; from FIRST, MID and END on each node's offsets: its edges from parents of two
+// operands stand from the first on below the second, two numbers each, those from parents of three from the second on below the third, one
+// number each; from EDGES on the edges, then the codes and the classes. specs/Edges.antt says what an edge holds.
+const FIRST: usize = 8064;
 
-const LINKS: usize = 10080;
+const MID: usize = 10080;
 
-const CODES_AT: usize = 18144;
+const END: usize = 12096;
+
+const EDGES: usize = 14112;
+
+const CODES_AT: usize = 22176;
+
+const CLASSES_AT: usize = 22410;
 
 const CODES_SIZE: usize = 234;
+
+const CLASSES_SIZE: usize = 216;
 
 // Kinds below it have no operands; kinds from it on have three.
 const PAIRS: u16 = 3;
@@ -275,59 +288,383 @@ const CODES: [u16; 234] = [
     24576,
 ];
 
-// Cell s, which names node m, is linked: it becomes the last cell of m. A node that the table does not have has no cells.
-fn enter(x: &mut [u16], n: usize, s: usize, m: usize)
-    requires { ⌜ (length (now x) ≡ indexSize) × (n ≤ mostNodes) × (s < 4 * n) × (m ≡ opNode (indexNode (now x)) s) ⌝ }
-    requires { ⌜ Linked (indexNode (now x)) n s (now x) ⌝ }
-    ensures { λ _. ⌜ Entered n (s + 1) (now (x .entry)) (now (x .exit)) ⌝ }
+// What a node of two operands comes to by an edge, where a literal of the edge's node has become true: nine for each type + the literal's
+// sign, in them 3 v + o, where v is the value of the parent (0: no literal of it is held) and o that of its other operand. `classAt` in
+// specs/Codes.antt says what a class is, and computes these.
+const CLASSES: [u16; 216] = [
+    // AND, by an edge of its first operand's node
+    0,
+    0,
+    0,
+    4098,
+    0,
+    1,
+    3,
+    1,
+    0,
+    0,
+    0,
+    0,
+    1,
+    1,
+    1,
+    0,
+    0,
+    0,
+    0,
+    0,
+    0,
+    4098,
+    0,
+    1,
+    3,
+    1,
+    0,
+    // OR, by an edge of its first operand's node
+    0,
+    0,
+    0,
+    0,
+    0,
+    0,
+    1,
+    1,
+    1,
+    0,
+    0,
+    0,
+    2,
+    0,
+    1,
+    4099,
+    1,
+    0,
+    0,
+    0,
+    0,
+    0,
+    0,
+    0,
+    1,
+    1,
+    1,
+    // IMP, by an edge of its first operand's node
+    0,
+    0,
+    0,
+    2,
+    0,
+    1,
+    4099,
+    1,
+    0,
+    0,
+    0,
+    0,
+    0,
+    0,
+    0,
+    1,
+    1,
+    1,
+    0,
+    0,
+    0,
+    2,
+    0,
+    1,
+    4099,
+    1,
+    0,
+    // IFF, by an edge of its first operand's node
+    0,
+    0,
+    0,
+    2,
+    0,
+    1,
+    4099,
+    1,
+    0,
+    0,
+    0,
+    0,
+    4099,
+    1,
+    0,
+    2,
+    0,
+    1,
+    0,
+    0,
+    0,
+    2,
+    0,
+    1,
+    4099,
+    1,
+    0,
+    // AND, by an edge of its second operand's node
+    0,
+    0,
+    0,
+    2,
+    0,
+    1,
+    3,
+    1,
+    0,
+    0,
+    0,
+    0,
+    1,
+    1,
+    1,
+    0,
+    0,
+    0,
+    0,
+    0,
+    0,
+    2,
+    0,
+    1,
+    3,
+    1,
+    0,
+    // OR, by an edge of its second operand's node
+    0,
+    0,
+    0,
+    0,
+    0,
+    0,
+    1,
+    1,
+    1,
+    0,
+    0,
+    0,
+    2,
+    0,
+    1,
+    3,
+    1,
+    0,
+    0,
+    0,
+    0,
+    0,
+    0,
+    0,
+    1,
+    1,
+    1,
+    // IMP, by an edge of its second operand's node
+    0,
+    0,
+    0,
+    0,
+    0,
+    0,
+    1,
+    1,
+    1,
+    0,
+    0,
+    0,
+    3,
+    1,
+    0,
+    2,
+    0,
+    1,
+    0,
+    0,
+    0,
+    0,
+    0,
+    0,
+    1,
+    1,
+    1,
+    // IFF, by an edge of its second operand's node
+    0,
+    0,
+    0,
+    4098,
+    0,
+    1,
+    4099,
+    1,
+    0,
+    0,
+    0,
+    0,
+    3,
+    1,
+    0,
+    2,
+    0,
+    1,
+    0,
+    0,
+    0,
+    4098,
+    0,
+    1,
+    4099,
+    1,
+    0,
+];
+
+// An edge of two numbers is counted at the node of l.
+fn count_pair(x: &mut [u16], l: u16)
+    requires { ⌜ (length (now x) ≡ indexSize) × (l / 2 < mostNodes) × (midOf (now x) (l / 2) + 2 ≤ mostEdges) ⌝ }
+    ensures { λ _. ⌜ now (x .exit) ≡ raised (now (x .entry)) (midAt + l / 2) 2 ⌝ }
 {
-    if n <= m {
-        return;
-    }
-    x[LINKS + s] = x[HEADS + m];
-    x[HEADS + m] = s as u16;
+    let m = MID + (l / 2) as usize;
+    x[m] = x[m] + 2;
 }
 
-// The cells of node p are linked: as many as its kind has operands.
-fn enter_node(x: &mut [u16], n: usize, p: usize)
-    requires { ⌜ (length (now x) ≡ indexSize) × (n ≤ mostNodes) × (p < n) ⌝ }
-    requires { ⌜ Linked (indexNode (now x)) n (4 * p) (now x) ⌝ }
-    ensures { λ _. ⌜ Entered n (4 * (p + 1)) (now (x .entry)) (now (x .exit)) ⌝ }
+// An edge of one number.
+fn count_three(x: &mut [u16], l: u16)
+    requires { ⌜ (length (now x) ≡ indexSize) × (l / 2 < mostNodes) × (endOf (now x) (l / 2) + 1 ≤ mostEdges) ⌝ }
+    ensures { λ _. ⌜ now (x .exit) ≡ raised (now (x .entry)) (endAt + l / 2) 1 ⌝ }
+{
+    let m = END + (l / 2) as usize;
+    x[m] = x[m] + 1;
+}
+
+// The edges from node p are counted at the nodes of its operands.
+fn count_node(x: &mut [u16], n: usize, p: usize)
+    requires { ⌜ (p < n) × Room n (indexNode (now x) p) (now x) ⌝ }
+    ensures { λ _. ⌜ now (x .exit) ≡ countNode (now (x .entry)) (indexNode (now (x .entry)) p) ⌝ }
 {
     let s = 4 * p;
     let kind = x[s];
     if kind < PAIRS {
         return;
     }
-    let a = x[s + 1] / 2;
-    let b = x[s + 2] / 2;
-    let c = x[s + 3] / 2;
-    enter(x, n, s + 1, a as usize);
-    enter(x, n, s + 2, b as usize);
+    let a = x[s + 1];
+    let b = x[s + 2];
     if kind < THREES {
+        count_pair(x, a);
+        count_pair(x, b);
         return;
     }
-    enter(x, n, s + 3, c as usize);
+    let c = x[s + 3];
+    count_three(x, a);
+    count_three(x, b);
+    count_three(x, c);
 }
 
-// All cells are linked, node by node.
-fn link(x: &mut [u16], n: usize)
-    requires { ⌜ (length (now x) ≡ indexSize) × (n ≤ mostNodes) ⌝ }
-    requires { ⌜ Linked (indexNode (now x)) n 0 (now x) ⌝ }
-    ensures { λ _. ⌜ Entered n (4 * n) (now (x .entry)) (now (x .exit)) ⌝ }
+// All edges are counted.
+fn count(x: &mut [u16], n: usize)
+    requires { ⌜ (length (now x) ≡ indexSize) × (n ≤ mostNodes) × Known (indexNode (now x)) n ⌝ }
+    requires { ⌜ Blank n (now x) ⌝ }
+    ensures { λ _. ⌜ Counting n (now (x .exit)) × Same firstAt (now (x .entry)) (now (x .exit)) ⌝ }
 {
     let mut p = 0;
     while p < n {
-        enter_node(x, n, p);
+        count_node(x, n, p);
         p += 1;
     }
 }
 
-// Node m is read from its record, which is at a place of the table, with no links yet.
-fn load_node(t: &[u8], x: &mut [u16], m: usize, at: usize)
-    requires { ⌜ (m < mostNodes) × (at ≡ placeOf m) × (placeOf m + 8 ≤ length (now t)) ⌝ }
-    requires { ⌜ Loaded (now t) m (now x) ⌝ }
-    ensures { λ _. ⌜ Loaded (now (t .entry)) (m + 1) (now (x .exit)) ⌝ }
+// Each node's edges get their place, behind those of the nodes before it.
+fn place(x: &mut [u16], n: usize)
+    requires { ⌜ (n ≤ mostNodes) × Counting n (now x) ⌝ }
+    ensures { λ _. ⌜ Placing n (now (x .exit)) × Same firstAt (now (x .entry)) (now (x .exit)) ⌝ }
+{
+    let mut m = 0;
+    let mut start = 0u16;
+    while m < n {
+        let mid = start + x[MID + m];
+        let end = mid + x[END + m];
+        x[FIRST + m] = start;
+        x[MID + m] = start;
+        x[END + m] = mid;
+        start = end;
+        m += 1;
+    }
+}
+
+// An edge from p, which has two operands, is put to the others of the node of mine.
+fn put_pair(x: &mut [u16], p: usize, mine: u16, other: u16, y: u16)
+    requires { ⌜ (length (now x) ≡ indexSize) × (p < mostNodes) × (mine / 2 < mostNodes) × (y ≤ 21) ⌝ }
+    requires { ⌜ midOf (now x) (mine / 2) + 2 ≤ mostEdges ⌝ }
+    ensures { λ _. ⌜ now (x .exit) ≡ putPair (now (x .entry)) p mine other y ⌝ }
+{
+    let m = MID + (mine / 2) as usize;
+    let k = x[m];
+    x[m] = k + 2;
+    x[EDGES + k as usize] = p as u16 + 2048 * (y + mine % 2);
+    x[EDGES + (k as usize + 1)] = other;
+}
+
+// An edge from p, which has three.
+fn put_three(x: &mut [u16], p: usize, mine: u16)
+    requires { ⌜ (length (now x) ≡ indexSize) × (p < mostNodes) × (mine / 2 < mostNodes) ⌝ }
+    requires { ⌜ endOf (now x) (mine / 2) + 1 ≤ mostEdges ⌝ }
+    ensures { λ _. ⌜ now (x .exit) ≡ putThree (now (x .entry)) p mine ⌝ }
+{
+    let m = END + (mine / 2) as usize;
+    let k = x[m];
+    x[m] = k + 1;
+    x[EDGES + k as usize] = p as u16;
+}
+
+// The edges from node p are put.
+fn put_node(x: &mut [u16], n: usize, p: usize)
+    requires { ⌜ (p < n) × Room n (indexNode (now x) p) (now x) ⌝ }
+    ensures { λ _. ⌜ now (x .exit) ≡ putNode (now (x .entry)) p (indexNode (now (x .entry)) p) ⌝ }
+{
+    let s = 4 * p;
+    let kind = x[s];
+    if kind < PAIRS {
+        return;
+    }
+    let a = x[s + 1];
+    let b = x[s + 2];
+    if kind < THREES {
+        put_pair(x, p, a, b, 3 * (kind - 3));
+        put_pair(x, p, b, a, 3 * (kind + 1));
+        return;
+    }
+    let c = x[s + 3];
+    put_three(x, p, a);
+    put_three(x, p, b);
+    put_three(x, p, c);
+}
+
+// All edges are put.
+fn fill(x: &mut [u16], n: usize)
+    requires { ⌜ (n ≤ mostNodes) × Placing n (now x) ⌝ }
+    ensures { λ _. ⌜ Linked n (now (x .entry)) (now (x .exit)) ⌝ }
+{
+    let mut p = 0;
+    while p < n {
+        put_node(x, n, p);
+        p += 1;
+    }
+}
+
+// The edges are counted, get their places and are put.
+fn link(x: &mut [u16], n: usize)
+    requires { ⌜ (length (now x) ≡ indexSize) × (n ≤ mostNodes) × Known (indexNode (now x)) n ⌝ }
+    requires { ⌜ Blank n (now x) ⌝ }
+    ensures { λ _. ⌜ Linked n (now (x .entry)) (now (x .exit)) ⌝ }
+{
+    count(x, n);
+    place(x, n);
+    fill(x, n);
+}
+
+// Node m is stored, from its record at a place of the table.
+fn store_node(t: &[u8], x: &mut [u16], m: usize, at: usize)
+    requires { ⌜ (m < mostNodes) × (at ≡ placeOf m) × (placeOf m + 8 ≤ length (now t)) × (length (now x) ≡ indexSize) ⌝ }
+    ensures { λ _. ⌜ now (x .exit) ≡ stored (now (x .entry)) m (nodeAt (now (t .entry)) m) ⌝ }
 {
     let end = at + 8;
     let node = record::fields(&t[at..end]);
@@ -336,7 +673,17 @@ fn load_node(t: &[u8], x: &mut [u16], m: usize, at: usize)
     x[s + 1] = node.a;
     x[s + 2] = node.b;
     x[s + 3] = node.c;
-    x[HEADS + m] = 0;
+}
+
+// Node m is read from its record, which is at a place of the table, with no edges yet.
+fn load_node(t: &[u8], x: &mut [u16], m: usize, at: usize)
+    requires { ⌜ (m < mostNodes) × (at ≡ placeOf m) × (placeOf m + 8 ≤ length (now t)) ⌝ }
+    requires { ⌜ Loaded (now t) m (now x) ⌝ }
+    ensures { λ _. ⌜ Loaded (now (t .entry)) (m + 1) (now (x .exit)) ⌝ }
+{
+    store_node(t, x, m, at);
+    x[MID + m] = 0;
+    x[END + m] = 0;
 }
 
 // The nodes from base up to end are read, all of one block.
@@ -379,7 +726,7 @@ fn load(t: &[u8], nodes: usize, x: &mut [u16])
     }
 }
 
-// The codes are copied behind the links.
+// The codes are copied behind the edges.
 fn copy_codes(x: &mut [u16])
     requires { ⌜ length (now x) ≡ indexSize ⌝ }
     ensures { λ _. ⌜ Copied codesSize (now (x .entry)) (now (x .exit)) ⌝ }
@@ -392,13 +739,126 @@ fn copy_codes(x: &mut [u16])
     }
 }
 
+// The classes are copied behind the codes.
+fn copy_classes(x: &mut [u16])
+    requires { ⌜ length (now x) ≡ indexSize ⌝ }
+    ensures { λ _. ⌜ Classified classesSize (now (x .entry)) (now (x .exit)) ⌝ }
+{
+    let classes = &CLASSES;
+    let mut i = 0;
+    while i < CLASSES_SIZE {
+        x[CLASSES_AT + i] = classes[i];
+        i += 1;
+    }
+}
+
 // The index of the nodes of a table. Nothing is assumed of what x held: each number that belongs to a node is stored.
 pub fn build(t: &[u8], nodes: usize, x: &mut [u16])
-    requires { ⌜ (nodes ≤ mostNodes) × ((m : ℕ) → m < nodes → placeOf m + 8 ≤ length (now t)) ⌝ }
+    requires { ⌜ (nodes ≤ mostNodes) × ((m : ℕ) → m < nodes → placeOf m + 8 ≤ length (now t)) × Known (nodeAt (now t)) nodes ⌝ }
     requires { ⌜ length (now x) ≡ indexSize ⌝ }
     ensures { λ _. ⌜ Built (now (t .entry)) nodes (now (x .exit)) ⌝ }
 {
     load(t, nodes, x);
     link(x, nodes);
     copy_codes(x);
+    copy_classes(x);
+}
+
+// The node of a literal is marked.
+fn mark(x: &mut [u16], l: u16)
+    requires { ⌜ (length (now x) ≡ indexSize) × (l / 2 < mostNodes) ⌝ }
+    ensures { λ _. ⌜ now (x .exit) ≡ marked (now (x .entry)) l ⌝ }
+{
+    x[4 * ((l / 2) as usize)] = 1;
+}
+
+// The nodes of some literals are.
+fn mark_all(x: &mut [u16], ls: &[u16])
+    requires { ⌜ (length (now x) ≡ indexSize) × Below mostNodes (now ls) ⌝ }
+    ensures { λ _. ⌜ now (x .exit) ≡ markAll (now (x .entry)) (now (ls .entry)) ⌝ }
+{
+    let mut i = 0;
+    while i < ls.len() {
+        mark(x, ls[i]);
+        i += 1;
+    }
+}
+
+// The nodes of the operands of node p are.
+fn mark_operands(x: &mut [u16], p: usize)
+    requires { ⌜ (length (now x) ≡ indexSize) × (p < mostNodes) × All (λ l. l / 2 < mostNodes) (operands (indexNode (now x) p)) ⌝ }
+    ensures { λ _. ⌜ now (x .exit) ≡ markAll (now (x .entry)) (operands (indexNode (now (x .entry)) p)) ⌝ }
+{
+    let s = 4 * p;
+    let kind = x[s];
+    if kind < PAIRS {
+        return;
+    }
+    let a = x[s + 1];
+    let b = x[s + 2];
+    let c = x[s + 3];
+    mark(x, a);
+    mark(x, b);
+    if kind < THREES {
+        return;
+    }
+    mark(x, c);
+}
+
+// Node p is loaded if it is marked, and marks its operands'.
+fn pass(t: &[u8], x: &mut [u16], p: usize, at: usize)
+    requires { ⌜ (p < mostNodes) × (at ≡ placeOf p) × (placeOf p + 8 ≤ length (now t)) × (length (now x) ≡ indexSize) ⌝ }
+    requires { ⌜ All (λ l. l / 2 < p) (operands (nodeAt (now t) p)) ⌝ }
+    ensures { λ _. ⌜ now (x .exit) ≡ passed (now (t .entry)) (now (x .entry)) p ⌝ }
+{
+    if x[4 * p] == 0 {
+        x[4 * p] = 1;
+        return;
+    }
+    store_node(t, x, p, at);
+    mark_operands(x, p);
+}
+
+// The nodes below end, down to base, all of one block.
+fn pass_block(t: &[u8], x: &mut [u16], base: usize, end: usize)
+    requires { ⌜ (base % 63 ≡ 0) × (base ≤ end) × (end ≤ base + 63) × (end ≤ mostNodes) ⌝ }
+    requires { ⌜ ((m : ℕ) → m < end → placeOf m + 8 ≤ length (now t)) × Earlier (now t) end × (length (now x) ≡ indexSize) ⌝ }
+    ensures { λ _. ⌜ (sunk (now (t .entry)) (now (x .exit)) base ≡ sunk (now (t .entry)) (now (x .entry)) end) × (length (now (x .exit)) ≡ indexSize) ⌝ }
+{
+    let mut p = end;
+    let mut at = record::place(base) + 8 * (end - base);
+    while base < p {
+        p -= 1;
+        at -= 8;
+        pass(t, x, p, at);
+    }
+}
+
+// The first n nodes, from the highest down, block by block.
+fn sink(t: &[u8], n: usize, x: &mut [u16])
+    requires { ⌜ (n ≤ mostNodes) × ((m : ℕ) → m < n → placeOf m + 8 ≤ length (now t)) × Earlier (now t) n ⌝ }
+    requires { ⌜ length (now x) ≡ indexSize ⌝ }
+    ensures { λ _. ⌜ now (x .exit) ≡ sunk (now (t .entry)) (now (x .entry)) n ⌝ }
+{
+    let mut end = n;
+    while 0 < end {
+        let base = 63 * ((end - 1) / 63);
+        pass_block(t, x, base, end);
+        end = base;
+    }
+}
+
+// The index of those of the first n nodes of a table that are below some literals of them: all that a search of these comes to. In the
+// place of each other is a TRUE. x is zeros.
+pub fn build_below(t: &[u8], ls: &[u16], n: usize, x: &mut [u16])
+    requires { ⌜ (n ≤ mostNodes) × ((m : ℕ) → m < n → placeOf m + 8 ≤ length (now t)) × Earlier (now t) n ⌝ }
+    requires { ⌜ Below n (now ls) ⌝ }
+    requires { ⌜ (length (now x) ≡ indexSize) × Zeros (now x) ⌝ }
+    ensures { λ _. ⌜ Pruned (now (t .entry)) (now (ls .entry)) n (now (x .exit)) ⌝ }
+{
+    mark_all(x, ls);
+    sink(t, n, x);
+    link(x, n);
+    copy_codes(x);
+    copy_classes(x);
 }

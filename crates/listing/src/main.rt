@@ -111,7 +111,7 @@ fn list(t: &[u8], out: &mut [u8]) -> usize
     ensures { λ r. ⌜ Put (now (out .entry)) 0 (listing (now (t .entry))) (now (out .exit)) r ⌝ }
 {
     let goals = [0u16; 1];
-    let mut x = [0u16; 18378];
+    let mut x = [0u16; 22626];
     let c = asking::ask_by(Verdict::Fine, t, &goals[..0], 0, 0, 32768, &mut x);
     match c {
         Counted::Refused(f) => {

@@ -14,21 +14,19 @@ use Rattle.calculus.specs.Order.{Value, holds, fails, undecided, State, met, em
 use Rattle.calculus.specs.Model.{Goals}
 use Rattle.calculus.specs.declared.Move.the-variants.{Conflict, Unit as Single, Done, Split}
 use Rattle.calculus.proofs.Literals.{is-false}
+use Rattle.calculus.proofs.Sizes.{expand-few}
 use Rattle.trail.proofs.Trails.{trail-length}
 use Rattle.scope.specs.Table.{operands}
 use Rattle.index.specs.Index.{mostNodes}
 use Rattle.units.specs.Units.{member, Empty, First, positions}
-use Rattle.clause.specs.Coded.{isOpen, Choice, Coded}
-use Rattle.state.specs.Work.{tail, litAt, baseOf, gOf, held, trail, valueCode, cursorAt, codeAt, cursorOf, conflictOf, waitingOf, placeOf, Numbered, trailAt, literalsAt, basesAt, valuesAt}
-use Rattle.state.specs.Holds.{statesAt, Entered, Closed, AllMet, Waiting, Holds, deniedAt, NoneDenied}
+use Rattle.clause.specs.Coded.{isOpen, Coded}
+use Rattle.state.specs.Work.{tail, litAt, baseOf, gOf, held, trail, valueCode, cursorAt, codeAt, cursorOf, conflictOf, waitingOf, placeOf, Numbered, trailAt, literalsAt, basesAt, valuesAt, codesAt}
+use Rattle.state.specs.Holds.{statesAt, Forces, Entered, Late, FirstLive, Closed, AllMet, Waiting, Holds, deniedAt, NoneDenied}
+use Rattle.state.specs.Picked.{Picked}
 use Rattle.state.proofs.Areas.{count-most, base-most, ready-same}
 use Rattle.state.proofs.Clauses.{sofar, sofar-length, none-by, first-at, none-sofar, found-goal, found-position, goal-state, goals-length}
 use Rattle.moves.specs.Place.{placeNumber, Placed, Without, FirstGoal, CellSet, FirstOpen, Moved, goalsAt}
 use Rattle.moves.proofs.Tests.{move-conflict, move-unit, move-split, move-done, all-met, met-closed, first-low, goal-false, goal-unfalse, goal-unit, goal-ununit, value-else}
-
-bit-false : (b : Bool) → bit b ≡ 0 → b ≡ false
-bit-false true e = absurd (omega arith)
-bit-false false e = refl
 
 single-same : {a b c d : ℕ} → a ≡ b → c ≡ d → Single a c ≡ Single b d
 single-same p q = cc
@@ -79,6 +77,10 @@ module _ {t : ℕ → Node} {n : ℕ} {goals w m : List ℕ} (w′ : List ℕ) (
     units = H .units;
     entered = subst (λ (r : ℕ → ℕ). (q : ℕ) → q < r 0 → Entered t (held r) r (conflictOf w′) m q) (sym same)
         (subst (λ (c : ℕ). (q : ℕ) → q < tail w 0 → Entered t (gOf w) (tail w) c m q) (sym conflict) (H .entered));
+    late = subst (λ (r : ℕ → ℕ). (q : ℕ) → q < r 0 → Late t n (held r) r (conflictOf w′) m q) (sym same)
+        (subst (λ (c : ℕ). (q : ℕ) → q < tail w 0 → Late t n (gOf w) (tail w) c m q) (sym conflict) (H .late));
+    first = subst (λ (r : ℕ → ℕ). FirstLive (held r) r (conflictOf w′) m) (sym same)
+        (subst (λ (c : ℕ). FirstLive (gOf w) (tail w) c m) (sym conflict) (H .first));
     clear = subst (λ (r : ℕ → ℕ). (q : ℕ) → r 0 ≤ q → q < positions → member m q ≡ 0) (sym same) (H .clear);
     closed = subst (λ (r : ℕ → ℕ). Closed t (held r) r (conflictOf w′)) (sym same) (subst (Closed t (gOf w) (tail w)) (sym conflict) (H .closed));
     cursor = omega (arith, low, ap (λ (r : ℕ → ℕ). r 0) same);
@@ -130,6 +132,22 @@ module _ {t : ℕ → Node} {n place : ℕ} {goals w w′ m : List ℕ} (few : n
         held = λ i. rw (p, d) (omega (arith, b, rest 4 (omega arith)));
         column = λ i. rw (p, d, f, rest (trailAt + (literalsAt + q)) (omega arith)) l;
       }
+
+-- ---- the unit that was picked
+
+pub picks : {w m : List ℕ} {q k : ℕ} → waitingOf w ≡ 0 → mostNodes ≤ conflictOf w → First m q → k ≡ getD w (12104 + q) 0 → k < 65536 → Picked w m (65536 * q + k)
+picks {w} {m} {q} {k} z c f e b =
+    let d : (65536 * q + k) / 65536 ≡ q = omega (arith, b) in
+    record { waiting = z; free = c; first = rw d f; kept = ap (codeAt (tail w)) d ∙ ap (λ (i : ℕ). getD w i 0) (omega arith) ∙ sym e ∙ omega (arith, b) }
+
+-- a place that is kept does not change it
+pub picked-on : {place u : ℕ} {w w′ m : List ℕ} → CellSet 3 place w w′ → Picked w m u → Picked w′ m u
+picked-on {place} {u} z p = record {
+  waiting = z .other 2 (λ e. omega (arith, e)) ∙ p .waiting;
+  free = omega (arith, z .other 1 (λ e. omega (arith, e)), p .free);
+  first = p .first;
+  kept = z .other (trailAt + (codesAt + u / 65536)) (λ e. omega (arith, e)) ∙ p .kept;
+}
 
 -- ---- the moves
 
@@ -258,7 +276,7 @@ module _ {t : ℕ → Node} {n : ℕ} {goals w m : List ℕ} (few : n ≤ mostNo
       no-unit-goal : some isOne (C 0) ≡ false
       no-unit-goal = no-goal isOne (λ k i. goal-ununit (valueOf G (getD goals k 0)) (getD goals k 0) (λ e. omega (arith, e, true-goal z₀ k i)))
 
-      -- the first position that has a unit
+      -- the first position of the set
       module _ {q : ℕ} (f : First m q) where
         pub unit-low : q < r 0
         unit-low = go (decLt q (r 0))
@@ -267,40 +285,47 @@ module _ {t : ℕ → Node} {n : ℕ} {goals w m : List ℕ} (few : n ≤ mostNo
             go (yes i) = i
             go (no i) = absurd (omega (arith, H .clear q (omega (arith, i)) (f .low), f .here))
 
+        -- what is kept of it is undecided, so a clause is a unit
         unit-there : some isOne (S q) ≡ true
-        unit-there = bit-true (some isOne (S q)) (sym (H .entered q unit-low .unit) ∙ f .here)
+        unit-there = H .late q unit-low .live free (f .here) (H .first free q f)
 
-        -- the code that was kept is its
-        pub unit-code : {code : ℕ} → code ≡ codeAt r q → Coded (t (litAt r q / 2)) (S q) code
-        unit-code e = subst (Coded (t (litAt r q / 2)) (S q)) (sym e) (H .entered q unit-low .code (f .here))
+        unit-kept : Forces (S q) (codeAt r q)
+        unit-kept = H .entered q unit-low .unit free unit-there .1
 
-        pub unit-choice : {code : ℕ} → Coded (t (litAt r q / 2)) (S q) code → Choice (t (litAt r q / 2)) (code / 32 % 8) (literalAt (S q) (firstOf isOne (S q)))
-        unit-choice c = c .unit-literal unit-there
+        unit-column : codeAt r q / 4096 < length (expand t (litAt r q))
+        unit-column = omega (arith, unit-kept .column, first-low isOne (S q) unit-there, length-map (expand t (litAt r q)) (stateOf G))
 
-        pub unit-position : {code l k : ℕ} {w′ : List ℕ} → Coded (t (litAt r q / 2)) (S q) code → CellSet 3 (4 * q + code / 8 % 4) w w′
-            → k ≡ baseOf r q → l ≡ chosen (t (litAt r q / 2)) (code / 32 % 8) → Moved t n goals w w′ m (Single (k + code / 8 % 4) l)
-        unit-position {code} {l} {k} c z y e =
-            let n = none-sofar t goals G r isOne q no-unit-goal (λ p a. bit-false (some isOne (S p)) (sym (H .entered p (omega (arith, a, unit-low)) .unit) ∙ f .before p a)) in
+        -- which of its clauses: one of three
+        unit-few : codeAt r q / 4096 < 4
+        unit-few = omega (arith, unit-column, expand-few t (litAt r q))
+
+        -- no position before has one
+        none-earlier : (p : ℕ) → p < q → some isOne (S p) ≡ false
+        none-earlier p a = is-false (some isOne (S p)) (λ u. omega (arith, H .entered p (omega (arith, a, unit-low)) .unit free u .0, f .before p a))
+
+        unit-next : move (expand t) goals G ≡ Single (baseOf r q + codeAt r q / 4096) (codeAt r q % 4096)
+        unit-next =
+            let n = none-sofar t goals G r isOne q no-unit-goal none-earlier in
             let o = found-position t goals G r isOne q (r 0) unit-low n unit-there in
-            let j : code / 8 % 4 ≡ firstOf isOne (S q) = c .unit-clause unit-there in
-            let b : code / 8 % 4 < length (expand t (litAt r q)) =
-            omega (arith, j, first-low isOne (S q) unit-there, length-map (expand t (litAt r q)) (stateOf G)) in
-            record {
-              is =
-                  single-same (ap (_+ code / 8 % 4) (y ∙ sym (base-is q (omega (arith, unit-low)))) ∙ ap (length (C q) +_) j ∙ sym (o .1))
-                  (e ∙ unit-choice c .1 ∙ sym (o .2))
-                  ∙ sym (move-unit (C (r 0)) (all-free (without z₀)) (o .0)) ∙ move-is;
-              holds-on = keeps few H z;
-              list = keeps-list few H z;
-              kept = rw y (placed-at few H z q (code / 8 % 4) refl (omega arith) unit-low (omega (arith, unit-low, most)) b);
-            }
+            sym move-is ∙ move-unit (C (r 0)) (all-free (without z₀)) (o .0)
+            ∙ single-same (o .1 ∙ ap (_+ firstOf isOne (S q)) (base-is q (omega (arith, unit-low))) ∙ ap (baseOf r q +_) (sym (unit-kept .column)))
+            (o .2 ∙ sym (unit-kept .literal))
+
+        pub unit-position : {j l k : ℕ} {w′ : List ℕ} → j ≡ codeAt r q / 4096 → l ≡ codeAt r q % 4096 → CellSet 3 (4 * q + j) w w′ → k ≡ baseOf r q
+            → Moved t n goals w w′ m (Single (k + j) l)
+        unit-position {j} {l} {k} d e z y = record {
+          is = single-same (ap (_+ j) y ∙ ap (baseOf r q +_) d) e ∙ sym unit-next;
+          holds-on = keeps few H z;
+          list = keeps-list few H z;
+          kept = rw y (placed-at few H z q j refl (omega (arith, d, unit-few)) unit-low (omega (arith, unit-low, most)) (omega (arith, d, unit-column)));
+        }
 
       -- no unit: a split at the first position that has an open clause, or none
       module _ {q : ℕ} {w′ : List ℕ} (none : Empty m) (f : FirstOpen t w q) (z : CellSet 0 q w w′) where
         no-unit : some isOne (C (r 0)) ≡ false
         no-unit =
             none-sofar t goals G r isOne (r 0) no-unit-goal
-            (λ p a. bit-false (some isOne (S p)) (sym (H .entered p a .unit) ∙ none p (omega (arith, a, most))))
+            (λ p a. is-false (some isOne (S p)) (λ u. omega (arith, H .entered p a .unit free u .0, none p (omega (arith, a, most)))))
 
         no-open-goal : some isOpen (C 0) ≡ false
         no-open-goal = no-goal isOpen (λ k i. rw (H .waiting .over k (omega (arith, i, z₀))))
@@ -366,3 +391,11 @@ module _ {t : ℕ → Node} {n : ℕ} {goals w m : List ℕ} (few : n ≤ mostNo
                   kept = tt;
                 },
               )
+
+  -- the unit that was picked is the next move
+  pub picked-next : {u : ℕ} → Picked w m u → (k : ℕ) × (move (expand t) goals G ≡ Single k (u % 4096))
+  picked-next {u} p =
+      let q : ℕ = u / 65536 in (
+        baseOf r q + codeAt r q / 4096,
+        unit-next (p .free) (p .waiting) (p .first) ∙ ap (Single (baseOf r q + codeAt r q / 4096)) (omega (arith, p .kept)),
+      )

@@ -2,23 +2,24 @@
 use calculus::Move;
 use clause::Clause;
 ghost use mathlib.Core.Path.{_≡_};
-ghost use mathlib.Core.Bool.{true};
-ghost use Prim.Native.Nat.{_/_, _≤_, _<_};
+ghost use Prim.Native.Nat.{_/_, _%_, _≤_, _<_};
 ghost use lib.ListN.{length};
 ghost use Rattle.calculus.specs.Expansion.{expand};
 ghost use Rattle.calculus.specs.Order.{move};
-ghost use Rattle.units.specs.Units.{Units, Some, Empty};
+ghost use Rattle.units.specs.Units.{Units, Empty};
 ghost use Rattle.calculus.specs.Model.{Goals};
 ghost use Rattle.index.specs.Index.{mostNodes, indexNode};
 ghost use Rattle.index.specs.Indexed.{Indexed};
 ghost use Rattle.clause.specs.Coded.{Coded};
 ghost use Rattle.clause.specs.Templates.{rows};
-ghost use Rattle.state.specs.Work.{area, tail, litAt, gOf, Ready, Numbered, cursorOf, conflictOf, waitingOf};
+ghost use Rattle.state.specs.Work.{area, tail, litAt, gOf, Ready, Numbered, cursorOf, conflictOf, waitingOf, placeOf};
 ghost use Rattle.state.specs.Holds.{Holds, Waiting, statesAt, deniedOf, NoneDenied};
+ghost use Rattle.state.specs.Picked.{noUnit, Picked, Picks};
 ghost use Rattle.moves.specs.Place.{forcedMove, placeNumber, Placed, Kept, Reasoned, Without, FirstGoal, CellSet, FirstOpen, Moved};
 
-// A unit: the number of its clause, and its literal.
+// A unit: the place and the number of its clause, and its literal.
 pub struct Forced {
+    pub place: usize,
     pub number: u16,
     pub literal: u16,
 }
@@ -35,8 +36,14 @@ const PLACE: usize = 3;
 // 0 only where no goal is false: a cell between the cursors and the codes.
 const DENIED: usize = 12103;
 
+// What is kept of each position's units.
+const CODES: usize = 12104;
+
 // No position.
 const NONE: usize = 2016;
+
+// No unit is the next move.
+const NO_UNIT: u32 = 4294967295;
 
 // The places of the goals' clauses; before them stand four for each position.
 const GOALS: usize = 8064;
@@ -161,38 +168,52 @@ fn goal_move(x: &[u16], n: usize, goals: &[u16], work: &mut [u16], masks: &[u64]
     Move::Unit(u as u16, goals[u])
 }
 
-// Whether the next move is the unit of a position: every goal is true, there is no conflict, and some position has a unit.
-pub fn has_unit(work: &[u16], masks: &[u64]) -> bool
+// The unit that is the next move: 65536 * the first position of the set, and what is kept of it. None where a goal waits, there is a
+// conflict, or the set is empty.
+pub fn pick(work: &[u16], masks: &[u64]) -> u32
     requires { ⌜ (area ≤ length (now work)) × Units (now masks) ⌝ }
-    ensures { λ r. ⌜ (r ≡ true → (waitingOf (now (work .entry)) ≡ 0) × (mostNodes ≤ conflictOf (now (work .entry))) × Some (now (masks .entry))) ⌝ }
+    ensures { λ r. ⌜ Picks (now (work .entry)) (now (masks .entry)) r ⌝ }
+    ensures { λ r. ⌜ (r ≡ noUnit → waitingOf (now (work .entry)) ≡ 0 → mostNodes ≤ conflictOf (now (work .entry)) → Empty (now (masks .entry))) ⌝ }
 {
     if work[WAITING] != 0 {
-        return false;
+        return NO_UNIT;
     }
     if (work[CONFLICT] as usize) < NONE {
-        return false;
+        return NO_UNIT;
     }
-    units::some(masks)
+    if units::some(masks) {
+        let q = units::first(masks);
+        return 65536 * q as u32 + work[CODES + q] as u32;
+    }
+    NO_UNIT
 }
 
-// The unit at the first position that has one, where every goal is true and there is no conflict.
-pub fn first_unit(x: &[u16], n: usize, goals: &[u16], work: &mut [u16], masks: &[u64]) -> Forced
+// The move of unit u, which was picked: the clause that it is on, whose place is kept, and its literal.
+pub fn unit_move(
+    x: &[u16],
+    n: usize,
+    goals: &[u16],
+    work: &mut [u16],
+    masks: &[u64],
+    u: u32,
+) -> Forced
     requires { ⌜ Indexed (now x) n ⌝ }
     requires { ⌜ Goals n (now goals) ⌝ }
     requires { ⌜ Holds (indexNode (now x)) n (now goals) (now work) (now masks) ⌝ }
-    requires { ⌜ (waitingOf (now work) ≡ 0) × (mostNodes ≤ conflictOf (now work)) × Some (now masks) ⌝ }
+    requires { ⌜ Picked (now work) (now masks) u ⌝ }
     ensures { λ r. ⌜ Moved (indexNode (now (x .entry))) n (now (goals .entry)) (now (work .entry)) (now (work .exit)) (now (masks .entry)) (forcedMove r) ⌝ }
+    ensures { λ r. ⌜ (placeOf (now (work .exit)) ≡ r .place) × (r .literal ≡ u % 4096) ⌝ }
+    ensures { λ _. ⌜ Picked (now (work .exit)) (now (masks .entry)) u ⌝ }
 {
-    let q = units::first(masks);
-    let code = state::code(work, q);
-    let l = state::literal(work, q);
-    let chosen = clause::choose(x, n, (l / 2) as usize, ((code / 32) % 8) as usize);
-    let j = (code / 8) % 4;
+    let q = (u / 65536) as usize;
+    let j = (u / 4096) % 16;
+    let place = 4 * q + j as usize;
     let base = state::base(work, q);
-    keep(work, 4 * q + j as usize);
+    keep(work, place);
     Forced {
-        number: base + j,
-        literal: chosen,
+        place: place,
+        number: base + j as u16,
+        literal: (u % 4096) as u16,
     }
 }
 
@@ -231,9 +252,10 @@ pub fn next_move(x: &[u16], n: usize, goals: &[u16], work: &mut [u16], masks: &[
     if c < NONE {
         return conflict_at(x, n, goals, work, masks, c);
     }
-    if units::some(masks) {
-        let u = first_unit(x, n, goals, work, masks);
-        return Move::Unit(u.number, u.literal);
+    let u = pick(work, masks);
+    if u != NO_UNIT {
+        let f = unit_move(x, n, goals, work, masks, u);
+        return Move::Unit(f.number, f.literal);
     }
     split_move(x, n, goals, work, masks)
 }

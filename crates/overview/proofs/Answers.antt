@@ -17,16 +17,17 @@ use Rattle.scope.proofs.Tests.{and-right, refused-no, required, bound}
 use Rattle.codec.specs.Valid.{Bytes}
 use Rattle.table.specs.declared.Counted.{Counted}
 use Rattle.calculus.specs.Order.{Answer, possible, impossible, unfinished, answerOf}
-use Rattle.calculus.specs.Model.{Below}
+use Rattle.calculus.specs.Model.{All, Below}
+use Rattle.calculus.specs.Agree.{Alike}
 use Rattle.calculus.specs.Decide.{nodesOf, listRow, Admitted, askedBy, decided, decide, _⇔_}
 use Rattle.calculus.proofs.Asked.{by-read, asked-fine}
 use Rattle.calculus.proofs.Lists.{all-at, getD-map}
 use Rattle.calculus.proofs.Search.{never-cut}
 use Rattle.jumping.proofs.Answers.{decided-plain}
 use Rattle.index.specs.Index.{indexNode}
-use Rattle.asking.specs.Asks.{Prepared, Asks}
+use Rattle.asking.specs.Within.{Reached, Within}
 use Rattle.asking.proofs.Models.{table-of, search-exact}
-use Rattle.asking.proofs.Nodes.{searches-in}
+use Rattle.asking.proofs.Nodes.{searches-within}
 use Rattle.meaning.proofs.Numbers.{Numbered, gives, then, row, by-numbered}
 use Rattle.questions.specs.Asking.{asks, answered}
 use Rattle.overview.specs.Overview.{mostAsked, overviewRow, byteOf, bytesOf, overview, answersAfter}
@@ -101,8 +102,8 @@ module _ (t goals b w : List ℕ) (all : Bytes t) where
   -- ---- where overview ends
 
   -- what was asked, by the list's own row
-  pub by-row : {listed : Outcome (Unit {0})} {x : List ℕ} {r : Counted} → listed ≡ overviewRow goals (length b) → Asks listed t goals 0 0 (length w) x r
-      → Asks (overviewRow goals (length b)) t goals 0 0 (length w) x r
+  pub by-row : {listed : Outcome (Unit {0})} {x : List ℕ} {r : Counted} → listed ≡ overviewRow goals (length b) → Within listed t goals 0 0 (length w) x r
+      → Within (overviewRow goals (length b)) t goals 0 0 (length w) x r
   by-row e a = rw e at a
 
   refused-by : {number place : ℕ} → askedBy (overviewRow goals (length b)) t goals 0 0 (length w) ≡ refused number place → overview t goals b w ≡ refused number place
@@ -114,18 +115,19 @@ module _ (t goals b w : List ℕ) (all : Bytes t) where
       let d = refused-by q in
       overviews (Refused f) (rw d) (rw d) (λ g z. refl)
 
-  module _ {x : List ℕ} {n : ℕ} (p : Prepared (overviewRow goals (length b)) t goals 0 0 (length w) x n) where
+  module _ {x : List ℕ} {n : ℕ} (p : Reached (overviewRow goals (length b)) t goals 0 0 (length w) x n) where
     pub room : length goals ≤ length b
     room =
         leb-true (length goals) (length b)
         (and-right (leb (length goals) mostAsked) _ (and-right (ltb 0 (length goals)) _ (required _ 68 0 (p .admitted .list))))
 
     -- the questions over the index are those over the nodes
-    same-bytes : (ls : List ℕ) → Below n ls → bytesOf (asks (indexNode x) n) ls ≡ bytesOf (answered (p .nodes)) ls
-    same-bytes [] h = refl
-    same-bytes (l ∷ ls) h = ap₂ _∷_ (ap (λ (a : Answer). byteOf a) (ap answerOf (searches-in p (l ∷ []) (h .0, tt)))) (same-bytes ls (h .1))
+    same-bytes : (ls : List ℕ) → Below n ls → All (Alike (indexNode x) (nodesOf (p .nodes))) ls → bytesOf (asks (indexNode x) n) ls ≡ bytesOf (answered (p .nodes)) ls
+    same-bytes [] h a = refl
+    same-bytes (l ∷ ls) h a =
+        ap₂ _∷_ (ap (λ (o : Answer). byteOf o) (ap answerOf (searches-within p (l ∷ []) (h .0, tt) (a .0, tt)))) (same-bytes ls (h .1) (a .1))
 
     pub ends : {b′ w′ : List ℕ} → b′ ≡ bytesOf (asks (indexNode x) n) goals ++ drop (length goals) b → Overviews t goals b w b′ w′ Fine
     ends q =
         let d = overview-asked (p .answered) in
-        overviews Fine (rw d) (q ∙ ap (_++ drop (length goals) b) (same-bytes goals (p .admitted .below)) ∙ rw d) (λ f z. refused-no (sym (ap verdictOf z)))
+        overviews Fine (rw d) (q ∙ ap (_++ drop (length goals) b) (same-bytes goals (p .below) (p .alike)) ∙ rw d) (λ f z. refused-no (sym (ap verdictOf z)))

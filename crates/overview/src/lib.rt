@@ -100,9 +100,9 @@ fn put(x: &[u16], n: usize, goals: &[u16], answers: &mut [u8], work: &mut [u16])
 pub fn overview(t: &[u8], goals: &[u16], answers: &mut [u8], work: &mut [u16]) -> Verdict
     ensures { λ r. ⌜ Overviews (now (t .entry)) (now (goals .entry)) (now (answers .entry)) (now (work .entry)) (now (answers .exit)) (now (work .exit)) r ⌝ }
 {
-    let mut x = [0u16; 18378];
+    let mut x = [0u16; 22626];
     let listed = list_row(goals, answers.len());
-    let a = asking::ask_by(listed, t, goals, 0, 0, work.len(), &mut x);
+    let a = asking::ask_within_by(listed, t, goals, 0, 0, work.len(), &mut x);
     match a {
         Counted::Refused(f) => Verdict::Refused(f),
         Counted::Nodes(n) => {

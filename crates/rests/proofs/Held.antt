@@ -8,7 +8,7 @@ use native.Mathlib.Decide.{decLt}
 use lib.Dec.{eqb, ltb}
 use lib.ListN.{length, getD, replicate, length-replicate, getD-replicate}
 use borrow.Author.Tests.{lt-ltb, le-ltb}
-use Rattle.calculus.specs.Jump.{Rests, nothing, both, Held, hold, literals}
+use Rattle.calculus.specs.Jump.{Rests, nothing, Held, hold, literals}
 use Rattle.units.specs.Units.{bit}
 use Rattle.units.proofs.Bits.{bit-none}
 use Rattle.rests.specs.Words.{restAt, Put, Cleared, Sets, setsSize, conflictSlot, SameTo, heldOf}
@@ -30,19 +30,6 @@ put-same u k h q b = u .other q (λ e. omega arith)
 
 pub put-sets : {m m′ : List ℕ} {p : ℕ} {s : Rests} → Sets m → Put m p s m′ → 0 < p → Sets m′
 put-sets h u b = record { size = u .size ∙ h .size; none = u .other 0 (λ e. omega arith) ∙ h .none }
-
--- the set of an earlier slot joins what is at slot q
-put-more : {m m₁ m₂ : List ℕ} {q : ℕ} {s : Rests} (a : ℕ) → a < q → Put m q s m₁ → Put m₁ q (both (restAt m₁ a) (restAt m₁ q)) m₂ → Put m q (both (restAt m a) s) m₂
-put-more a h u v = record {
-  size = v .size ∙ u .size;
-  here = v .here ∙ ap₂ both (u .other a (λ e. omega arith)) (u .here);
-  other = λ p n. v .other p n ∙ u .other p n;
-}
-
-pub put-four : {m m₁ m₂ m₃ : List ℕ} {q : ℕ} (a b c d : ℕ) → a < q → b < q → Put m q (both (restAt m c) (restAt m d)) m₁
-    → Put m₁ q (both (restAt m₁ b) (restAt m₁ q)) m₂ → Put m₂ q (both (restAt m₂ a) (restAt m₂ q)) m₃
-    → Put m q (both (restAt m a) (both (restAt m b) (both (restAt m c) (restAt m d)))) m₃
-put-four a b c d g h u v w = put-more a g (put-more b h u v) w
 
 -- a literal joins, with the set that was put at its slot
 pub held-joined : {m m′ : List ℕ} {s : Rests} (G : List ℕ) (l : ℕ) → Put m (suc (length G)) s m′ → heldOf m′ (l ∷ G) ≡ hold l s ∷ heldOf m G

@@ -1,49 +1,21 @@
 -- The operations on what literals rest on, as operations on words. Assumes nothing.
-use mathlib.Core.Path.{_≡_, refl, sym, ap, ap₂, _∙_, fun-ext}
+use mathlib.Core.Path.{_≡_, refl, sym, ap₂, _∙_, fun-ext}
 use mathlib.Core.List.{List}
 use mathlib.Core.Bool.{true, false, not, _&&_, _||_, and-true, and-false}
-use Prim.Native.Nat.{ℕ, zero, suc, _+_, _-_, _*_, _/_, _%_, _^_, _<_, _≤_, max}
-use native.Mathlib.Nat.{zero-add, one-mul}
+use Prim.Native.Nat.{ℕ, zero, suc, _+_, _-_, _*_, _/_, _%_, _^_, _<_, _≤_}
+use native.Mathlib.Nat.{one-mul}
 use native.Mathlib.Omega.{arith}
 use native.Mathlib.Decide.{ℕ-discrete, decLt}
 use lib.Dec.{eqb, ltb}
 use lib.ListN.{getD, set, length-set}
 use lib.Seq.{getD-set-same, getD-set-other}
 use lib.Pow.{shl-exact}
-use lib.Bits.{bitOr, or-step}
+use lib.Bits.{bitOr}
 use borrow.Author.Tests.{eqb-true, eq-eqb, ne-eqb, lt-ltb, le-ltb}
 use Rattle.calculus.specs.Jump.{Rests, both, only, less}
 use Rattle.units.specs.Units.{bit}
-use Rattle.units.proofs.Bits.{bit-zero, bit-suc, Turned, set-bit, clear-bit, bit-none}
+use Rattle.units.proofs.Bits.{Turned, clear-bit, bit-none, bit-or, one-bit}
 use Rattle.rests.specs.Words.{restAt, There, Put, wordOf}
-
--- ---- a bit of `|`
-
--- the greater of two digits
-max-low : (x y : ℕ) → x < 2 → y < 2 → (max x y < 2) × (eqb (max x y) 1 ≡ (eqb x 1 || eqb y 1))
-max-low zero zero p q = (omega arith, refl)
-max-low zero (suc zero) p q = (omega arith, refl)
-max-low zero (suc (suc y)) p q = absurd (omega arith)
-max-low (suc zero) zero p q = (omega arith, refl)
-max-low (suc zero) (suc zero) p q = (omega arith, refl)
-max-low (suc zero) (suc (suc y)) p q = absurd (omega arith)
-max-low (suc (suc x)) y p q = absurd (omega arith)
-
-bit-low : (x j : ℕ) → bit x j < 2
-unfolding bit
-bit-low x j = omega arith
-
-bit-max : (j a b : ℕ) → bit (bitOr a b) j ≡ max (bit a j) (bit b j)
-bit-max zero a b =
-    let m = max-low (a % 2) (b % 2) (omega arith) (omega arith) in
-    bit-zero (bitOr a b) ∙ omega (arith, or-step a b, m .0) ∙ sym (ap₂ max (bit-zero a) (bit-zero b))
-bit-max (suc j) a b =
-    let m = max-low (a % 2) (b % 2) (omega arith) (omega arith) in
-    let h : bitOr a b / 2 ≡ bitOr (a / 2) (b / 2) = omega (arith, or-step a b, m .0) in
-    bit-suc (bitOr a b) j ∙ ap (λ (x : ℕ). bit x j) h ∙ bit-max j (a / 2) (b / 2) ∙ sym (ap₂ max (bit-suc a j) (bit-suc b j))
-
-bit-or : (a b j : ℕ) → eqb (bit (bitOr a b) j) 1 ≡ (eqb (bit a j) 1 || eqb (bit b j) 1)
-bit-or a b j = rw (bit-max j a b) (max-low (bit a j) (bit b j) (bit-low a j) (bit-low b j) .1)
 
 -- ---- a word of one bit
 
@@ -63,7 +35,7 @@ word-bit : (k d i : ℕ) → i < 64 → eqb (bit (wordOf k d) i) 1 ≡ eqb (64 *
 word-bit k d i b = go (ℕ-discrete (d / 64) k) (ℕ-discrete i (d % 64))
   where
     u : Turned 0 (2 ^ (d % 64)) (d % 64) 1
-    u = rw zero-add at (set-bit 0 (d % 64) (bit-none (d % 64)))
+    u = one-bit (d % 64)
 
     go : Dec (d / 64 ≡ k) → Dec (i ≡ d % 64) → eqb (bit (wordOf k d) i) 1 ≡ eqb (64 * k + i) d
     go (yes e) (yes z) = rw (← word-here k d e, eq-eqb (64 * k + i) d (omega arith), z, u .here)
@@ -150,6 +122,32 @@ module _ (m : List ℕ) (q x y : ℕ) (h : There m q) where
         (λ i a. rest-past stored p i a ∙ sym (rest-past m p i a));
   }
 
+-- ---- the sets of slots together
+
+-- two words have the splits of a set
+pub record Spells (x y : ℕ) (s : Rests) : Type 0 where
+  pub first : (i : ℕ) → i < 64 → eqb (bit x i) 1 ≡ s i
+  pub second : (i : ℕ) → 64 ≤ i → i < 128 → eqb (bit y (i - 64)) 1 ≡ s i
+  pub past : (i : ℕ) → 128 ≤ i → s i ≡ false
+
+-- those of a slot
+pub slot-spells : (m : List ℕ) (p : ℕ) → Spells (getD m (2 * p) 0) (getD m (2 * p + 1) 0) (restAt m p)
+slot-spells m p = record {
+  first = λ i b. sym (rest-first m p i b);
+  second = λ i a b. sym (rest-second m p i a b);
+  past = λ i a. rest-past m p i a;
+}
+
+pub or-spells : {x y x′ y′ : ℕ} {s s′ : Rests} → Spells x y s → Spells x′ y′ s′ → Spells (bitOr x x′) (bitOr y y′) (both s s′)
+or-spells {x} {y} {x′} {y′} h k = record {
+  first = λ i b. bit-or x x′ i ∙ ap₂ _||_ (h .first i b) (k .first i b);
+  second = λ i a b. bit-or y y′ (i - 64) ∙ ap₂ _||_ (h .second i a b) (k .second i a b);
+  past = λ i a. rw (h .past i a, k .past i a);
+}
+
+pub put-spelled : (m : List ℕ) (q : ℕ) {x y : ℕ} {s : Rests} → There m q → Spells x y s → Put m q s (storeTwo m q x y)
+put-spelled m q {x} {y} {s} h k = put-stored m q x y h s (k .first) (k .second) (k .past)
+
 -- ---- what is put at slot q
 
 module _ (m : List ℕ) (q : ℕ) (h : There m q) where
@@ -173,15 +171,6 @@ module _ (m : List ℕ) (q : ℕ) (h : There m q) where
       past i a (no z) = rw (ne-eqb i d z)
 
   module _ (p : ℕ) where
-    -- the sets of slots p and r
-    pub put-both : (r : ℕ)
-        → Put m q (both (restAt m p) (restAt m r)) (storeTwo m q (bitOr (getD m (2 * p) 0) (getD m (2 * r) 0)) (bitOr (getD m (2 * p + 1) 0) (getD m (2 * r + 1) 0)))
-    put-both r =
-        put-stored m q (bitOr (getD m (2 * p) 0) (getD m (2 * r) 0)) (bitOr (getD m (2 * p + 1) 0) (getD m (2 * r + 1) 0)) h (both (restAt m p) (restAt m r))
-        (λ i b. bit-or (getD m (2 * p) 0) (getD m (2 * r) 0) i ∙ sym (ap₂ _||_ (rest-first m p i b) (rest-first m r i b)))
-        (λ i a b. bit-or (getD m (2 * p + 1) 0) (getD m (2 * r + 1) 0) (i - 64) ∙ sym (ap₂ _||_ (rest-second m p i a b) (rest-second m r i a b)))
-        (λ i a. rw (rest-past m p i a, rest-past m r i a))
-
     -- the set of slot p less split d, which is in it if it counts
     module _ (d : ℕ) (e : d < 128 → restAt m p d ≡ true) where
       first-bit : d / 64 ≡ 0 → bit (getD m (2 * p) 0) (d % 64) ≡ 1

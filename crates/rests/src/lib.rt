@@ -48,14 +48,26 @@ pub fn put_both(m: &mut [u64], q: usize, p: usize, r: usize)
     m[2 * q + 1] = second;
 }
 
-// What rests on the sets of four slots before slot q.
+// What rests on the sets of slots a, b and c.
+pub fn put_three(m: &mut [u64], q: usize, a: usize, b: usize, c: usize)
+    requires { ⌜ There (now m) q × There (now m) a × There (now m) b × There (now m) c ⌝ }
+    ensures { λ _. ⌜ Put (now (m .entry)) q (both (restAt (now (m .entry)) a) (both (restAt (now (m .entry)) b) (restAt (now (m .entry)) c))) (now (m .exit)) ⌝ }
+{
+    let first = m[2 * a] | (m[2 * b] | m[2 * c]);
+    let second = m[2 * a + 1] | (m[2 * b + 1] | m[2 * c + 1]);
+    m[2 * q] = first;
+    m[2 * q + 1] = second;
+}
+
+// What rests on the sets of slots a, b, c and d.
 pub fn put_four(m: &mut [u64], q: usize, a: usize, b: usize, c: usize, d: usize)
-    requires { ⌜ There (now m) q × (a < q) × (b < q) × (c < q) × (d < q) ⌝ }
+    requires { ⌜ There (now m) q × There (now m) a × There (now m) b × There (now m) c × There (now m) d ⌝ }
     ensures { λ _. ⌜ Put (now (m .entry)) q (both (restAt (now (m .entry)) a) (both (restAt (now (m .entry)) b) (both (restAt (now (m .entry)) c) (restAt (now (m .entry)) d)))) (now (m .exit)) ⌝ }
 {
-    put_both(m, q, c, d);
-    put_both(m, q, b, q);
-    put_both(m, q, a, q);
+    let first = m[2 * a] | (m[2 * b] | (m[2 * c] | m[2 * d]));
+    let second = m[2 * a + 1] | (m[2 * b + 1] | (m[2 * c + 1] | m[2 * d + 1]));
+    m[2 * q] = first;
+    m[2 * q + 1] = second;
 }
 
 // A right literal rests on what is in the set of slot p, less its split, which is in it if it counts.

@@ -155,7 +155,7 @@ fn counted(c: usize, v: u16) -> usize
     if 1 < v { c + 1 } else { c }
 }
 
-// How many searches are not over.
+// How many searches are not over. It only chooses a way to the same answers, so no more is said than that there are not too many.
 pub fn unfinished(q: usize, work: &[u16]) -> usize
     requires { ⌜ (q ≤ mostQuestions) × (areaSize * q ≤ length (now work)) ⌝ }
     ensures { λ r. ⌜ r ≤ q ⌝ }

@@ -52,7 +52,7 @@ fn ask(t: &[u8], questions: &[u16], points: usize, area: usize, x: &mut [u16]) -
 pub fn open(t: &[u8], questions: &[u16], settings: &[u8], work: &mut [u16]) -> Turned
     ensures { λ r. ⌜ OpensRooms (now (t .entry)) (now (questions .entry)) (now (settings .entry)) (now (work .entry)) (now (work .exit)) r ⌝ }
 {
-    let mut x = [0u16; 18378];
+    let mut x = [0u16; 22626];
     let turns = [0usize; 8];
     let mut verdicts = [0u8; 8];
     let a = ask(t, questions, settings.len(), work.len(), &mut x);
@@ -273,7 +273,7 @@ pub fn turn(
 ) -> Turned
     ensures { λ r. ⌜ TurnsRooms (now (t .entry)) (now (questions .entry)) (now (settings .entry)) (now (work .entry)) allowance (now (settings .exit)) (now (work .exit)) r ⌝ }
 {
-    let mut x = [0u16; 18378];
+    let mut x = [0u16; 22626];
     let mut turns = [0usize; 8];
     let mut verdicts = [0u8; 8];
     let a = ask(t, questions, settings.len(), work.len(), &mut x);

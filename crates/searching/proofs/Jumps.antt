@@ -1,5 +1,5 @@
 -- What the contracts of the search that jumps come to at each return, over the literals held with their sets. Assumes nothing.
-use mathlib.Core.Path.{_≡_, refl, sym, ap, ap₂, _∙_}
+use mathlib.Core.Path.{_≡_, refl, sym, ap, ap₂, _∙_, subst}
 use mathlib.Core.List.{List, [], _∷_}
 use mathlib.Core.Bool.{Bool, true, false, cond, not, _&&_}
 use Prim.Native.Nat.{ℕ, suc, _+_, _-_, _<_, _≤_}
@@ -28,7 +28,7 @@ use Rattle.rests.proofs.Held.{held-literals, held-same, put-same, put-sets, hel
 use Rattle.grounds.specs.Ground.{Grounded}
 use Rattle.grounds.proofs.Grounds.{unmet}
 use Rattle.searching.specs.Search.{Extends, foundOf, Solved}
-use Rattle.searching.specs.Jumps.{blank, Due, Joined, jumpedFrom, Propagated, endOf, madeBy, foundBy, withLeft, Jumps, Counted}
+use Rattle.searching.specs.Jumps.{blank, Due, Joined, Stepped, jumpedFrom, Propagated, endOf, madeBy, foundBy, withLeft, Jumps, Counted}
 use Rattle.searching.specs.declared.Stop.{Stop}
 use Rattle.searching.specs.declared.Stop.the-variants.{Closed as Shut, Model as Open, Fork}
 use Rattle.searching.specs.declared.Found.{Found}
@@ -204,15 +204,16 @@ module _ {t : ℕ → Node} {n : ℕ} {goals w k m w′ k′ m′ : List ℕ} (r
           there = omega (arith, r .sets .size, run-room (r .run) T B e);
         }
 
-        pub rested-unit : {m″ w″ k″ : List ℕ} → Put m′ h (clauseRest (expand t) goals (heldOf m′ (gOf w′)) (placeNumber w′)) m″
-            → Holds t n goals w″ k″ → gOf w″ ≡ l ∷ gOf w′ → length w″ ≡ length w′ → length k″ ≡ length k′ → Rested t n goals w k m w″ k″ m″
-        rested-unit {m″} u a q x y = record {
-          run = run-unit (r .run) T B e a q x y;
-          sets = put-sets (r .sets) u (omega arith);
-          words = u .size ∙ r .words;
-          kept = put-kept u (omega arith);
-          same = λ d. rw q (sym (from-unit t n goals d m′ (gOf w′) (run-room (r .run) T B e) e (rw (z, number) at u)) ∙ r .same d);
-        }
+    -- a unit has joined
+    pub rested-stepped : Table n t → Below n goals → {l : ℕ} {w″ k″ m″ : List ℕ} → Stepped t n l goals w′ m′ w″ k″ m″ → length w″ ≡ length w′
+        → length k″ ≡ length k′ → Rested t n goals w k m w″ k″ m″
+    rested-stepped T B S x y = record {
+      run = run-unit (r .run) T B (S .next) (S .holds) (S .list) x y;
+      sets = put-sets (r .sets) (S .put) (omega arith);
+      words = S .put .size ∙ r .words;
+      kept = put-kept (S .put) (omega arith);
+      same = λ d. rw (S .list) (sym (from-unit t n goals d m′ (gOf w′) (run-room (r .run) T B (S .next)) (S .next) (S .put)) ∙ r .same d);
+    }
 
 -- the unit that was found
 pub due : {t : ℕ → Node} {goals w G : List ℕ} {v : Move} {k l : ℕ} → v ≡ move (expand t) goals G → v ≡ Single k l → gOf w ≡ G → Placed t goals w k → Due t goals w l
@@ -221,21 +222,30 @@ due {t} {goals} {l = l} e q g p = record {
   next = ap (move (expand t) goals) g ∙ sym e ∙ q ∙ ap (λ (j : ℕ). Single j l) (sym (p .number));
 }
 
--- it has joined
-pub rested-joined : {t : ℕ → Node} {n l : ℕ} {goals w k m w′ k′ m′ w″ k″ m″ : List ℕ} → Rested t n goals w k m w′ k′ m′ → n ≤ mostNodes → Table n t → Below n goals
-    → Due t goals w′ l → Joined t n l goals w′ m′ w″ k″ m″ → length w″ ≡ length w′ → length k″ ≡ length k′ → Rested t n goals w k m w″ k″ m″
-rested-joined r few T B D J x y = rested-unit r few refl T B (D .next) refl (J .put) (J .holds) (J .list) x y
+-- it has joined; w₁ is the work area once its place is kept
+pub stepped : {t : ℕ → Node} {n l : ℕ} {goals w w₁ m w″ k″ m″ : List ℕ} → gOf w₁ ≡ gOf w → Due t goals w₁ l → Joined t n l goals w₁ m w″ k″ m″
+    → Stepped t n l goals w m w″ k″ m″
+stepped {t} {n} {l} {goals} {w} {w₁} {m} {m″ = m″} g D J = record {
+  clause = placeNumber w₁;
+  next = ap (move (expand t) goals) (sym g) ∙ D .next;
+  holds = J .holds;
+  list = J .list ∙ ap (l ∷_) g;
+  put = subst (λ (G : List ℕ). Put m (suc (length G)) (clauseRest (expand t) goals (heldOf m G) (placeNumber w₁)) m″) g (J .put);
+}
 
 module _ {t : ℕ → Node} {n : ℕ} {goals w k : List ℕ} (few : n ≤ mostNodes) (h : Holds t n goals w k) where
   past-held : length (gOf w) < conflictSlot
   past-held = omega (arith, at-most n (gOf w) (h .ready .trail .good))
 
   -- where each set is empty
-  pub joined-blank : {l : ℕ} {w″ k″ : List ℕ} → Holds t n goals w″ k″ → gOf w″ ≡ l ∷ gOf w → Joined t n l goals w blank w″ k″ blank
-  joined-blank a q = record {
+  pub stepped-blank : {c l : ℕ} {w″ k″ : List ℕ} → move (expand t) goals (gOf w) ≡ Single c l → Holds t n goals w″ k″ → gOf w″ ≡ l ∷ gOf w
+      → Stepped t n l goals w blank w″ k″ blank
+  stepped-blank {c} e a q = record {
+    clause = c;
+    next = e;
     holds = a;
     list = q;
-    put = put-blank (expand t) goals (gOf w) past-held (placeNumber w) (suc (length (gOf w))) (omega (arith, past-held));
+    put = put-blank (expand t) goals (gOf w) past-held c (suc (length (gOf w))) (omega (arith, past-held));
   }
 
   pub conflict-blank : Put blank conflictSlot (clauseRest (expand t) goals (heldOf blank (gOf w)) (placeNumber w)) blank

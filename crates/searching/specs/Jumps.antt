@@ -40,6 +40,14 @@ pub record Joined (t : ℕ → Node) (n l : ℕ) (goals w m w′ k′ m′ : Lis
   pub list : gOf w′ ≡ l ∷ gOf w
   pub put : Put m (suc (length (gOf w))) (clauseRest (expand t) goals (heldOf m (gOf w)) (placeNumber w)) m′
 
+-- the next move, a unit on a clause, has joined, with what that rests on
+pub record Stepped (t : ℕ → Node) (n l : ℕ) (goals w m w′ k′ m′ : List ℕ) : Type 0 where
+  pub clause : ℕ
+  pub next : move (expand t) goals (gOf w) ≡ Single clause l
+  pub holds : Holds t n goals w′ k′
+  pub list : gOf w′ ≡ l ∷ gOf w
+  pub put : Put m (suc (length (gOf w))) (clauseRest (expand t) goals (heldOf m (gOf w)) clause) m′
+
 -- the units have joined: the search from here is that from the start, and the next move is no unit. k′ is the set of units (crate units)
 pub record Propagated (t : ℕ → Node) (n : ℕ) (goals w m w′ k′ m′ : List ℕ) (r : Stop) : Type 0 where
   pub holds : Holds t n goals w′ k′

@@ -4,18 +4,18 @@
 use calculus::Move;
 ghost use mathlib.Core.Path.{_≡_};
 ghost use mathlib.Core.List.{[]};
-ghost use Prim.Native.Nat.{suc, _+_, _≤_};
+ghost use Prim.Native.Nat.{suc, _+_, _%_, _≤_};
 ghost use lib.ListN.{length};
 ghost use Rattle.calculus.specs.Model.{Goals};
 ghost use Rattle.calculus.specs.Jump.{stopped};
 ghost use Rattle.index.specs.Index.{indexNode};
 ghost use Rattle.index.specs.Indexed.{Indexed};
-ghost use Rattle.clause.specs.Templates.{rows};
 ghost use Rattle.state.specs.Work.{gOf, Ready};
 ghost use Rattle.state.specs.Holds.{Holds};
+ghost use Rattle.state.specs.Picked.{Picked, Picks};
 ghost use Rattle.rests.specs.Words.{Sets};
 ghost use Rattle.searching.specs.Search.{Solved};
-ghost use Rattle.searching.specs.Jumps.{blank, Due, Joined, Propagated, withLeft, Jumps, Counted};
+ghost use Rattle.searching.specs.Jumps.{blank, Due, Joined, Stepped, Propagated, withLeft, Jumps, Counted};
 
 // Where the units end: at a conflict, at a model, or at a split on a literal.
 pub enum Stop {
@@ -39,12 +39,14 @@ pub enum Ended {
 // The slot of what the last conflict rests on.
 const CONFLICT: usize = 2017;
 
+// No unit is the next move.
+const NO_UNIT: u32 = 4294967295;
+
 // The count of splits stops here.
 const MOST: u64 = 4294967295;
 
 // A unit joins, whose clause's place is kept, with what it rests on.
 fn join(
-    templates: &[[u8; 9]; 18],
     x: &[u16],
     n: usize,
     goals: &[u16],
@@ -53,7 +55,6 @@ fn join(
     rests: &mut [u64],
     l: u16,
 )
-    requires { ⌜ now templates ≡ rows ⌝ }
     requires { ⌜ Indexed (now x) n ⌝ }
     requires { ⌜ Goals n (now goals) ⌝ }
     requires { ⌜ Holds (indexNode (now x)) n (now goals) (now work) (now masks) ⌝ }
@@ -61,13 +62,35 @@ fn join(
     ensures { λ _. ⌜ Joined (indexNode (now (x .entry))) n l (now (goals .entry)) (now (work .entry)) (now (rests .entry)) (now (work .exit)) (now (masks .exit)) (now (rests .exit)) ⌝ }
 {
     let slot = state::count(work) as usize + 1;
-    grounds::put_clause(templates, x, n, goals, work, rests, slot);
+    grounds::put_clause(x, n, goals, work, rests, slot);
     solver::assume(x, n, goals, work, masks, l);
+}
+
+// A unit that was picked joins, with what it rests on. The answer is the next one, or none.
+fn step(
+    x: &[u16],
+    n: usize,
+    goals: &[u16],
+    work: &mut [u16],
+    masks: &mut [u64],
+    rests: &mut [u64],
+    u: u32,
+) -> u32
+    requires { ⌜ Indexed (now x) n ⌝ }
+    requires { ⌜ Goals n (now goals) ⌝ }
+    requires { ⌜ Holds (indexNode (now x)) n (now goals) (now work) (now masks) ⌝ }
+    requires { ⌜ Sets (now rests) × Picked (now work) (now masks) u ⌝ }
+    ensures { λ _. ⌜ Stepped (indexNode (now (x .entry))) n (u % 4096) (now (goals .entry)) (now (work .entry)) (now (rests .entry)) (now (work .exit)) (now (masks .exit)) (now (rests .exit)) ⌝ }
+    ensures { λ r. ⌜ Picks (now (work .exit)) (now (masks .exit)) r ⌝ }
+{
+    let f = moves::unit_move(x, n, goals, work, masks, u);
+    let slot = state::count(work) as usize + 1;
+    grounds::put_at(x, n, goals, work, rests, slot, f.place);
+    solver::join(x, n, goals, work, masks, u)
 }
 
 // The units join, one after another, up to another move.
 fn propagate(
-    templates: &[[u8; 9]; 18],
     x: &[u16],
     n: usize,
     goals: &[u16],
@@ -75,26 +98,26 @@ fn propagate(
     masks: &mut [u64],
     rests: &mut [u64],
 ) -> Stop
-    requires { ⌜ now templates ≡ rows ⌝ }
     requires { ⌜ Indexed (now x) n ⌝ }
     requires { ⌜ Goals n (now goals) ⌝ }
     requires { ⌜ Holds (indexNode (now x)) n (now goals) (now work) (now masks) ⌝ }
     requires { ⌜ Sets (now rests) ⌝ }
     ensures { λ r. ⌜ Propagated (indexNode (now (x .entry))) n (now (goals .entry)) (now (work .entry)) (now (rests .entry)) (now (work .exit)) (now (masks .exit)) (now (rests .exit)) r ⌝ }
 {
+    let mut u = moves::pick(work, masks);
     loop {
-        if moves::has_unit(work, masks) {
-            let u = moves::first_unit(x, n, goals, work, masks);
-            join(templates, x, n, goals, work, masks, rests, u.literal);
+        if u != NO_UNIT {
+            u = step(x, n, goals, work, masks, rests, u);
         } else {
             let m = moves::next_move(x, n, goals, work, masks);
             match m {
                 Move::Conflict(_) => {
-                    grounds::put_clause(templates, x, n, goals, work, rests, CONFLICT);
+                    grounds::put_clause(x, n, goals, work, rests, CONFLICT);
                     return Stop::Closed;
                 }
                 Move::Unit(_, l) => {
-                    join(templates, x, n, goals, work, masks, rests, l);
+                    join(x, n, goals, work, masks, rests, l);
+                    u = moves::pick(work, masks);
                 }
                 Move::Done => {
                     return Stop::Model;
@@ -114,10 +137,10 @@ fn first_units(x: &[u16], n: usize, goals: &[u16], work: &mut [u16], masks: &mut
     requires { ⌜ Holds (indexNode (now x)) n (now goals) (now work) (now masks) ⌝ }
     ensures { λ r. ⌜ Propagated (indexNode (now (x .entry))) n (now (goals .entry)) (now (work .entry)) blank (now (work .exit)) (now (masks .exit)) blank r ⌝ }
 {
+    let mut u = moves::pick(work, masks);
     loop {
-        if moves::has_unit(work, masks) {
-            let u = moves::first_unit(x, n, goals, work, masks);
-            solver::assume(x, n, goals, work, masks, u.literal);
+        if u != NO_UNIT {
+            u = solver::join(x, n, goals, work, masks, u);
         } else {
             let m = moves::next_move(x, n, goals, work, masks);
             match m {
@@ -126,6 +149,7 @@ fn first_units(x: &[u16], n: usize, goals: &[u16], work: &mut [u16], masks: &mut
                 }
                 Move::Unit(_, l) => {
                     solver::assume(x, n, goals, work, masks, l);
+                    u = moves::pick(work, masks);
                 }
                 Move::Done => {
                     return Stop::Model;
@@ -163,7 +187,6 @@ fn with_left(left: u32, right: Ended) -> Ended
 // The search from the literals held, which stay held, with d splits on the branch: a model, or every branch closes, and the last
 // conflict's slot has what that rests on. What joined is taken back only before a right branch.
 fn search(
-    templates: &[[u8; 9]; 18],
     x: &[u16],
     n: usize,
     goals: &[u16],
@@ -172,14 +195,13 @@ fn search(
     rests: &mut [u64],
     d: usize,
 ) -> Ended
-    requires { ⌜ now templates ≡ rows ⌝ }
     requires { ⌜ Indexed (now x) n ⌝ }
     requires { ⌜ Goals n (now goals) ⌝ }
     requires { ⌜ Holds (indexNode (now x)) n (now goals) (now work) (now masks) ⌝ }
     requires { ⌜ Sets (now rests) × (d ≤ length (gOf (now work))) ⌝ }
     ensures { λ r. ⌜ Jumps (indexNode (now (x .entry))) n (now (goals .entry)) d (now (work .entry)) (now (rests .entry)) (now (work .exit)) (now (masks .exit)) (now (rests .exit)) r ⌝ }
 {
-    let stop = propagate(templates, x, n, goals, work, masks, rests);
+    let stop = propagate(x, n, goals, work, masks, rests);
     match stop {
         Stop::Closed => Ended::Closed(0),
         Stop::Model => Ended::Model(0),
@@ -188,7 +210,7 @@ fn search(
             let slot = held as usize + 1;
             rests::put_only(rests, slot, d);
             solver::assume(x, n, goals, work, masks, l);
-            let left = search(templates, x, n, goals, work, masks, rests, d + 1);
+            let left = search(x, n, goals, work, masks, rests, d + 1);
             match left {
                 Ended::Model(s) => Ended::Model(one_more(s, 0)),
                 Ended::Closed(s) => {
@@ -198,7 +220,7 @@ fn search(
                     solver::undo_to(x, n, goals, work, masks, held);
                     rests::put_less(rests, slot, CONFLICT, d);
                     solver::assume(x, n, goals, work, masks, clause::negated(l));
-                    let right = search(templates, x, n, goals, work, masks, rests, d + 1);
+                    let right = search(x, n, goals, work, masks, rests, d + 1);
                     with_left(s, right)
                 }
             }
@@ -227,10 +249,9 @@ fn from_start(
         Stop::Closed => Ended::Closed(0),
         Stop::Model => Ended::Model(0),
         Stop::Fork(_) => {
-            let templates = clause::templates();
             let held = state::count(work) as usize;
             rests::clear(rests, held);
-            search(&templates, x, n, goals, work, masks, rests, 0)
+            search(x, n, goals, work, masks, rests, 0)
         }
     }
 }

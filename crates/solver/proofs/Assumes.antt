@@ -5,32 +5,34 @@ use mathlib.Core.List.{List, _∷_}
 use Prim.Native.Nat.{ℕ, suc, _+_, _-_, _*_, _/_, _%_, _<_, _≤_}
 use native.Mathlib.Omega.{arith}
 use native.Mathlib.Numerals.{add-one}
-use native.Mathlib.Decide.{ℕ-discrete}
+use native.Mathlib.Decide.{decLt, ℕ-discrete}
 use lib.ListN.{length, getD, length-map, length-set}
 use lib.Seq.{getD-set-same, getD-set-other}
 use Rattle.scope.specs.declared.Node.{Node}
 use Rattle.calculus.specs.Expansion.{expand}
-use Rattle.calculus.specs.Order.{holds, fails, stateOf, clauses}
+use Rattle.calculus.specs.Order.{holds, fails, undecided, valueOf, stateOf, clauses, isEmpty, isOne, some}
 use Rattle.calculus.specs.Model.{Goals, Fresh}
+use Rattle.calculus.proofs.Literals.{value-joined}
 use Rattle.calculus.proofs.Sizes.{clauses-more}
 use Rattle.trail.proofs.Trails.{trail-length, trail-same}
 use Rattle.index.specs.Index.{indexNode, mostNodes}
 use Rattle.index.specs.Indexed.{Indexed}
-use Rattle.units.specs.Units.{member, positions}
+use Rattle.units.specs.Units.{member, positions, Units, Putted}
 use Rattle.clause.specs.Coded.{statesOf, Coded}
-use Rattle.state.specs.Work.{tail, litAt, entryOf, baseOf, cursorAt, codeAt, cursorOf, conflictOf, waitingOf, gOf, trail, Ready, Numbered, trailAt, literalsAt, basesAt, valuesAt, cursorsAt, codesAt, area}
-use Rattle.state.specs.Holds.{statesAt, Entered, Closed, AllMet, Waiting, Holds, deniedAt, deniedOf, NoneDenied}
+use Rattle.state.specs.Work.{tail, litAt, baseOf, cursorAt, codeAt, cursorOf, conflictOf, waitingOf, gOf, trail, Ready, Numbered, trailAt, literalsAt, basesAt, valuesAt, cursorsAt, codesAt, area}
+use Rattle.state.specs.Holds.{statesAt, Entered, Late, Closed, AllMet, Waiting, Holds, deniedAt, deniedOf, NoneDenied}
+use Rattle.state.specs.Picked.{Picked, Picks}
 use Rattle.state.specs.Changes.{Pushed, baseSet}
-use Rattle.state.proofs.Areas.{room-left, held-below, held-still, base-most, ready-same}
-use Rattle.solver.specs.Changes.{Beside, Renewed, Pending, Walk, Touchable, Served, Apart, Awaited}
-use Rattle.solver.proofs.Stays.{value-stays, fails-joined, all-met-stays, some-empty-stays, still-or}
-use Rattle.solver.proofs.Marks.{beside-same, still-at, still-list, still-ready, still-literal, still-states, entered-still, closed-still}
-use Rattle.solver.proofs.Walks.{beside-on, walk-ends}
+use Rattle.state.proofs.Areas.{count-most, room-left, held-below, held-still, base-most, ready-same}
+use Rattle.solver.specs.Changes.{Beside, Renewed, Pending, Touchable, Touched, Taken, Forcing, Tidied, Attached, Served, Apart, Awaited}
+use Rattle.solver.proofs.Stays.{value-stays, was-undecided, fails-joined, all-met-stays, some-empty-stays, first-stays, first-changes, first-undecided, still-or}
+use Rattle.solver.proofs.Marks.{beside-same, still-at, still-list, still-ready, still-literal, still-states, entered-still, late-still, closed-still}
+use Rattle.solver.proofs.Walks.{beside-on}
 
 holds-fails : holds ≡ fails → ⊥
 holds-fails y = let z : _≡_ {A = ℕ} 0 1 = cc in omega arith
 
-module _ {x goals w m : List ℕ} {n l : ℕ} (I : Indexed x n) (H : Holds (indexNode x) n goals w m) (f : Fresh n (gOf w) l) where
+module _ {x goals w m m₀ : List ℕ} {n l : ℕ} (I : Indexed x n) (H : Holds (indexNode x) n goals w m) (N : Taken w m l m₀) (f : Fresh n (gOf w) l) where
   abbrev t : ℕ → Node
   t = indexNode x
 
@@ -43,6 +45,9 @@ module _ {x goals w m : List ℕ} {n l : ℕ} (I : Indexed x n) (H : Holds (inde
   pub room : h < mostNodes
   room = omega (arith, room-left (H .ready) f, I .few)
 
+  pub count-is : {c : ℕ} → c ≡ length (gOf w) → c ≡ h
+  count-is e = e ∙ trail-length h r
+
   pub node-low : l / 2 < n
   node-low = omega (arith, f .0)
 
@@ -54,12 +59,6 @@ module _ {x goals w m : List ℕ} {n l : ℕ} (I : Indexed x n) (H : Holds (inde
 
     lits₁ : (q : ℕ) → q < h → litAt r₁ q ≡ litAt r q
     lits₁ q i = P .kept (trailAt + (literalsAt + q)) (inr (inl (omega arith, omega arith)))
-
-    -- its own entry
-    pub own-entry : entryOf r₁ (l / 2) ≡ 2 * h + l % 2 + 1
-    own-entry =
-        let e = P .ready .trail .place h (omega (arith, P .count)) in
-        subst (λ (k : ℕ). entryOf r₁ (k / 2) ≡ 2 * h + k % 2 + 1) (P .top) e
 
     -- the states of an earlier position, by the list before and now
     abbrev now : ℕ → Type 0
@@ -76,49 +75,113 @@ module _ {x goals w m : List ℕ} {n l : ℕ} (I : Indexed x n) (H : Holds (inde
             let (a, b) = H .closed i in
             (omega (arith, a, P .count), rw (now-is (conflictOf w) a) at (some-empty-stays (gOf w) l (f .1) (expand t (litAt r (conflictOf w))) b))
 
+    code₁ : (q : ℕ) → q < h → codeAt r₁ q ≡ codeAt r q
+    code₁ q i = P .kept (trailAt + (codesAt + q)) (inr (inr (inr (omega arith, λ y. omega (arith, y, room)))))
+
+    conflict₁ : conflictOf w₁ ≡ conflictOf w
+    conflict₁ = P .kept 1 (inl (omega arith))
+
+    -- what is in the set now was in it before
+    from₁ : (q : ℕ) → q < positions → member m₀ q ≡ 1 → member m q ≡ 1
+    from₁ q i y = ⊎-elim (λ e. sym e ∙ y) (λ e. e .1) (N .same q i)
+
+    clear₁ : (q : ℕ) → h ≤ q → q < positions → member m₀ q ≡ 0
+    clear₁ q i b = ⊎-elim (λ e. e ∙ H .clear q i b) (λ e. e .0) (N .same q b)
+
+    -- where a position was taken out of the set, the states of its clauses do not stay
+    taken₁ : (q : ℕ) → q < h → mostNodes ≤ conflictOf w₁ → member m q ≡ 1 → codeAt r q % 4096 ≡ l → statesOf t (l ∷ gOf w) (litAt r q) ≡ statesAt t (gOf w) r q → ⊥
+    taken₁ q i d y k s =
+        let free : mostNodes ≤ conflictOf w = omega (arith, d, conflict₁) in
+        let one = H .late q i .live free y (ap (valueOf (gOf w)) k ∙ f .1) in
+        first-changes (gOf w) l (f .1) (expand t (litAt r q)) one (sym (H .entered q i .unit free one .1 .literal) ∙ k) s
+
     -- an earlier position is entered, or one of a parent
-    waits₁ : (q : ℕ) → q < h → Entered t (gOf w₁) r₁ (conflictOf w₁) m q ⊎ Pending t (l / 2) (4 * n) (litAt r₁ q / 2)
-    waits₁ q i =
-        ⊎-elim
-        (λ s.
-        let o : codeAt r₁ q ≡ codeAt r q = P .kept (trailAt + (codesAt + q)) (inr (inr (inr (omega arith, λ y. omega (arith, y, room))))) in
-        inl (entered-still (H .entered q i) (sym (now-is q i) ∙ s) (lits₁ q i) (omega (arith, P .kept 1 (inl (omega arith)))) (refl, o)))
-        (λ y. inr (rw (lits₁ q i) y))
-        (still-or n t (I .table) (litAt r q) (held-below (H .ready) q i) (gOf w) l)
+    waits₁ : (q : ℕ) → q < h → Entered t (gOf w₁) r₁ (conflictOf w₁) m₀ q ⊎ Pending t n (l / 2) (litAt r₁ q / 2)
+    waits₁ q i = ⊎-elim (λ s. inl (go s (N .same q (omega (arith, i, room))))) (λ y. inr (rw (lits₁ q i) y)) (still-or n t (I .table) (litAt r q) (held-below (H .ready) q i) (gOf w) l)
+      where
+        go : statesOf t (l ∷ gOf w) (litAt r q) ≡ statesAt t (gOf w) r q → (member m₀ q ≡ member m q) ⊎ ((member m₀ q ≡ 0) × (member m q ≡ 1) × (codeAt r q % 4096 ≡ l))
+            → Entered t (gOf w₁) r₁ (conflictOf w₁) m₀ q
+        go s (inl e) = entered-still (sym (now-is q i) ∙ s) (omega (arith, conflict₁)) (e, code₁ q i) (H .entered q i)
+        go s (inr (z, y, k)) = record {
+          unit = λ d o. absurd (taken₁ q i d y k s);
+          conflict = λ o. omega (arith, conflict₁, H .entered q i .conflict (ap (some isEmpty) (sym s ∙ now-is q i) ∙ o));
+        }
+
+    -- what is kept of it is not too early
+    late₁ : (q : ℕ) → q < h → Late t n (gOf w₁) r₁ (conflictOf w₁) m₀ q
+    late₁ q i =
+        let b : q < positions = omega (arith, i, room) in
+        record {
+          low = λ y. rw (code₁ q i) (H .late q i .low (from₁ q b y));
+          live = λ d y u.
+              let free : mostNodes ≤ conflictOf w = omega (arith, d, conflict₁) in
+              let v : valueOf (l ∷ gOf w) (codeAt r q % 4096) ≡ undecided = rw (P .list, code₁ q i) at u in
+              let one = H .late q i .live free (from₁ q b y) (was-undecided (gOf w) l (f .1) (codeAt r q % 4096) v) in
+              ap (some isOne) (sym (now-is q i))
+              ∙ first-stays (gOf w) l (f .1) (expand t (litAt r q)) one (rw (H .entered q i .unit free one .1 .literal) at v);
+        }
+
+    pub own-literal : litAt r₁ h ≡ 2 * (l / 2) + l % 2
+    own-literal = omega (arith, P .top)
+
+    pub own-low : h < tail w₁ 0
+    own-low = omega (arith, P .count)
+
+    pub renewed-own : {c : ℕ} {w₂ m₂ : List ℕ} → c ≡ length (gOf w) → Renewed t n w₁ m₀ c w₂ m₂ → Renewed t n w₁ m₀ h w₂ m₂
+    renewed-own {c} {w₂} {m₂} e = subst (λ (k : ℕ). Renewed t n w₁ m₀ k w₂ m₂) (count-is e)
+
+    -- how many clauses its code says that it has
+    pub own-clauses : {c code : ℕ} {y : Node} → c ≡ length (gOf w) → Coded y (statesAt t (gOf w₁) r₁ c) code → code / 8192 ≡ length (expand t l)
+    own-clauses {c} e k =
+        k .clauses ∙ length-map (expand t (litAt r₁ c)) (stateOf (gOf w₁)) ∙ ap (λ (j : ℕ). length (expand t j)) (ap (litAt r₁) (count-is e) ∙ P .top)
 
     -- ---- after its own position is entered
 
-    module _ {w₂ m₂ : List ℕ} (R : Renewed t w₁ m (l / 2) w₂ m₂) where
+    module _ {w₂ m₂ : List ℕ} (R : Renewed t n w₁ m₀ h w₂ m₂) where
       pub ready₂ : Ready n w₂
       ready₂ = still-ready (I .few) (P .ready) (R .beside)
 
       count₂ : tail w₂ 0 ≡ suc h
       count₂ = still-at (I .few) (P .ready) (R .beside) 0 (omega arith) ∙ P .count
 
+      pub own-true : valueOf (gOf w₂) (2 * (l / 2) + l % 2) ≡ holds
+      own-true =
+          let e : 2 * (l / 2) + l % 2 ≡ l = omega arith in
+          rw (e, still-list (I .few) (P .ready) (R .beside), P .list) (value-joined (gOf w) l)
+
       pub touch-asked : Touchable t n (l / 2) w₂ m₂
       touch-asked = record {
         beside = beside-same w₂;
         units = R .units;
         closed = R .closed closed₁;
-        waits = λ q i. go q (omega (arith, i, count₂, P .count)) (ℕ-discrete (litAt r₁ q / 2) (l / 2));
+        waits = λ q i. go q (omega (arith, i, count₂)) (ℕ-discrete q h);
+        late = λ q i. late q (omega (arith, i, count₂)) (ℕ-discrete q h);
         else = λ q i k. refl;
       }
         where
-          go : (q : ℕ) → q < r₁ 0 → Dec (litAt r₁ q / 2 ≡ l / 2)
-              → Entered t (gOf w₂) (tail w₂) (conflictOf w₂) m₂ q ⊎ Pending t (l / 2) (4 * n) (litAt (tail w₂) q / 2)
-          go q i (yes e) = inl (R .here q i e)
+          still : (q : ℕ) → q < suc h → statesAt t (gOf w₂) (tail w₂) q ≡ statesAt t (gOf w₁) r₁ q
+          still q i = still-states (I .few) (P .ready) (R .beside) t q (omega (arith, i, P .count))
+
+          go : (q : ℕ) → q < suc h → Dec (q ≡ h) → Entered t (gOf w₂) (tail w₂) (conflictOf w₂) m₂ q ⊎ Pending t n (l / 2) (litAt (tail w₂) q / 2)
+          go q i (yes e) = inl (subst (Entered t (gOf w₂) (tail w₂) (conflictOf w₂) m₂) (sym e) (R .here))
           go q i (no e) =
-              let d : q ≡ h → ⊥ = λ y. e (ap (λ (k : ℕ). litAt r₁ k / 2) y ∙ ap (_/ 2) (P .top)) in
-              let b : q < h = omega (arith, i, P .count, d) in
-              let j = still-literal (I .few) (P .ready) (R .beside) q i in
-              ⊎-elim
-              (λ u.
-              inl (entered-still u (still-states (I .few) (P .ready) (R .beside) t q i) j (R .lower) (R .else q (omega (arith, b, room)) (λ a. e))))
-              (λ y. inr (subst (λ (k : ℕ). Pending t (l / 2) (4 * n) (k / 2)) (sym j) y)) (waits₁ q b)
+              let j = still-literal (I .few) (P .ready) (R .beside) q (omega (arith, i, P .count)) in
+              ⊎-elim (λ u. inl (entered-still (still q i) (R .lower) (R .else q (omega (arith, i, room)) e) u))
+              (λ y. inr (subst (λ (k : ℕ). Pending t n (l / 2) (k / 2)) (sym j) y)) (waits₁ q (omega (arith, i, e)))
+
+          own : Late t n (gOf w₁) r₁ (conflictOf w₁) m₀ h
+          own =
+              let z = clear₁ h (omega arith) (omega (arith, room)) in
+              record { low = λ y. absurd (omega (arith, y, z)); live = λ d y u. absurd (omega (arith, y, z)) }
+
+          late : (q : ℕ) → q < suc h → Dec (q ≡ h) → Late t n (gOf w₂) (tail w₂) (conflictOf w₂) m₂ q
+          late q i (yes e) = subst (Late t n (gOf w₂) (tail w₂) (conflictOf w₂) m₂) (sym e) (R .late own)
+          late q i (no e) =
+              late-still (still q i) (R .lower) (R .else q (omega (arith, i, room)) e) (still-list (I .few) (P .ready) (R .beside)) (late₁ q (omega (arith, i, e)))
 
       -- ---- after the walk, and the base
 
-      module _ {w₃ m₃ : List ℕ} (K : Walk t n (l / 2) 0 w₂ m₂ w₃ m₃) where
+      module _ {w₃ m₃ : List ℕ} (K : Touched t n w₂ m₂ w₃ m₃) where
         beside₃ : Beside w₁ w₃
         beside₃ = beside-on (R .beside) (K .beside)
 
@@ -140,15 +203,15 @@ module _ {x goals w m : List ℕ} {n l : ℕ} (I : Indexed x n) (H : Holds (inde
             )
 
         module _ {c : ℕ} {w₄ : List ℕ} (more : ℕ) (C : c ≡ length (gOf w)) (B₀ : w₄ ≡ baseSet w₃ c more) where
-          B : w₄ ≡ baseSet w₃ h more
-          B = subst (λ (k : ℕ). w₄ ≡ baseSet w₃ k more) (C ∙ trail-length h r) B₀
+          pub based-own : w₄ ≡ baseSet w₃ h more
+          based-own = subst (λ (k : ℕ). w₄ ≡ baseSet w₃ k more) (C ∙ trail-length h r) B₀
 
           other₄ : (i : ℕ) → (i ≡ trailAt + (basesAt + (h + 1)) → ⊥) → getD w₄ i 0 ≡ getD w₃ i 0
-          other₄ i d = rw B (getD-set-other w₃ (trailAt + (basesAt + (h + 1))) i (baseOf (tail w₃) h + more) 0 d)
+          other₄ i d = rw based-own (getD-set-other w₃ (trailAt + (basesAt + (h + 1))) i (baseOf (tail w₃) h + more) 0 d)
 
           base₄ : baseOf (tail w₄) (h + 1) ≡ baseOf (tail w₃) h + more
           base₄ =
-              rw B (getD-set-same w₃ (trailAt + (basesAt + (h + 1))) (baseOf (tail w₃) h + more) 0 (omega (arith, size₃, P .ready .size, room)))
+              rw based-own (getD-set-same w₃ (trailAt + (basesAt + (h + 1))) (baseOf (tail w₃) h + more) 0 (omega (arith, size₃, P .ready .size, room)))
 
           -- as the trail after `push`, beside the base
           same₄ : (i : ℕ) → i < codesAt → (i ≡ basesAt + (h + 1) → ⊥) → tail w₄ i ≡ r₁ i
@@ -156,7 +219,7 @@ module _ {x goals w m : List ℕ} {n l : ℕ} (I : Indexed x n) (H : Holds (inde
 
           pub ready₄ : Ready n w₄
           ready₄ =
-              ready-same (I .few) (P .ready) (rw B (length-set w₃ (trailAt + (basesAt + (h + 1))) (baseOf (tail w₃) h + more)) ∙ size₃)
+              ready-same (I .few) (P .ready) (rw based-own (length-set w₃ (trailAt + (basesAt + (h + 1))) (baseOf (tail w₃) h + more)) ∙ size₃)
               (λ i k. same₄ i (omega (arith, k)) (λ e. omega (arith, e, k))) (λ k i. same₄ (valuesAt + k) (omega (arith, i)) (λ e. omega (arith, e, room)))
 
           list₄ : gOf w₄ ≡ l ∷ gOf w
@@ -165,6 +228,20 @@ module _ {x goals w m : List ℕ} {n l : ℕ} (I : Indexed x n) (H : Holds (inde
           -- a cell but the conflict
           cell₄ : (i : ℕ) → i < trailAt → (i ≡ 1 → ⊥) → getD w₄ i 0 ≡ getD w i 0
           cell₄ i b d = other₄ i (λ e. omega (arith, e, b)) ∙ beside₃ .other i d (omega (arith, b)) ∙ P .kept i (inl b)
+
+          clear₄ : (q : ℕ) → suc h ≤ q → q < positions → member m₃ q ≡ 0
+          clear₄ q i b = K .else q (omega (arith, i, count₂)) b ∙ R .else q b (λ a. omega (arith, a, i)) .0 ∙ clear₁ q (omega (arith, i)) b
+
+          -- what `next_unit` asks
+          pub forcing₄ : Forcing n w₄ m₃
+          forcing₄ q b y = go (decLt q (suc h))
+            where
+              code₄ : codeAt (tail w₄) q ≡ codeAt (tail w₃) q
+              code₄ = other₄ (trailAt + (codesAt + q)) (λ e. omega (arith, e, room))
+
+              go : Dec (q < suc h) → (q < mostNodes) × (codeAt (tail w₄) q % 4096 < 2 * n)
+              go (yes i) = (omega (arith, i, room), rw code₄ (K .late q (omega (arith, i, count₂)) .low y))
+              go (no i) = absurd (omega (arith, y, clear₄ q (omega (arith, i)) b))
 
           -- what `wait` asks
           pub served : Served goals w₄
@@ -187,7 +264,7 @@ module _ {x goals w m : List ℕ} {n l : ℕ} (I : Indexed x n) (H : Holds (inde
             same₅ : (i : ℕ) → trailAt + i < deniedAt → (i ≡ basesAt + (h + 1) → ⊥) → r₅ i ≡ r₁ i
             same₅ i b d = A .other (trailAt + i) (λ e. omega (arith, e)) (λ e. omega (arith, e, b)) ∙ same₄ i (omega (arith, b)) d
 
-            ready₅ : Ready n w₅
+            pub ready₅ : Ready n w₅
             ready₅ =
                 ready-same (I .few) ready₄ (A .size) (λ i k. A .other (trailAt + i) (λ e. omega (arith, e)) (λ e. omega (arith, e, k)))
                 (λ k i. A .other (trailAt + (valuesAt + k)) (λ e. omega (arith, e)) (λ e. omega (arith, e, i)))
@@ -212,10 +289,11 @@ module _ {x goals w m : List ℕ} {n l : ℕ} (I : Indexed x n) (H : Holds (inde
             literal₅ q i =
                 same₅ (literalsAt + q) (omega (arith, i, room)) (λ e. omega (arith, e, i, room)) ∙ sym (same₃ (literalsAt + q) (omega (arith, i, room)))
 
+            lists₅ : gOf w₅ ≡ gOf w₃
+            lists₅ = list₅ ∙ sym (still-list (I .few) (P .ready) beside₃ ∙ P .list)
+
             states₅ : (q : ℕ) → q < suc h → statesAt t (gOf w₅) r₅ q ≡ statesAt t (gOf w₃) (tail w₃) q
-            states₅ q i =
-                let z : gOf w₅ ≡ gOf w₃ = list₅ ∙ sym (still-list (I .few) (P .ready) beside₃ ∙ P .list) in
-                ap (λ (G : List ℕ). statesOf t G (litAt r₅ q)) z ∙ ap (statesOf t (gOf w₃)) (literal₅ q i)
+            states₅ q i = ap (λ (G : List ℕ). statesOf t G (litAt r₅ q)) lists₅ ∙ ap (statesOf t (gOf w₃)) (literal₅ q i)
 
             code₅ : (q : ℕ) → codeAt r₅ q ≡ codeAt (tail w₃) q
             code₅ q = A .other (trailAt + (codesAt + q)) (λ e. omega (arith, e)) (λ e. omega (arith, e)) ∙ other₄ (trailAt + (codesAt + q)) (λ e. omega (arith, e, room))
@@ -230,8 +308,12 @@ module _ {x goals w m : List ℕ} {n l : ℕ} (I : Indexed x n) (H : Holds (inde
             entered₅ : (q : ℕ) → q < r₅ 0 → Entered t (gOf w₅) r₅ (conflictOf w₅) m₃ q
             entered₅ q i =
                 let b : q < suc h = omega (arith, i, count₅) in
-                let e = walk-ends I ready₂ node-low K q (omega (arith, b, count₂)) in
-                entered-still e (states₅ q b) (literal₅ q b) (omega (arith, conflict₅)) (refl, code₅ q)
+                entered-still (states₅ q b) (omega (arith, conflict₅)) (refl, code₅ q) (⊎-elim (λ e. e) (λ e. absurd e) (K .waits q (omega (arith, b, count₂))))
+
+            late₅ : (q : ℕ) → q < r₅ 0 → Late t n (gOf w₅) r₅ (conflictOf w₅) m₃ q
+            late₅ q i =
+                let b : q < suc h = omega (arith, i, count₅) in
+                late-still (states₅ q b) (omega (arith, conflict₅)) (refl, code₅ q) lists₅ (K .late q (omega (arith, b, count₂)))
 
             closed₅ : Closed t (gOf w₅) r₅ (conflictOf w₅)
             closed₅ =
@@ -239,9 +321,7 @@ module _ {x goals w m : List ℕ} {n l : ℕ} (I : Indexed x n) (H : Holds (inde
                 rw conflict₅ (closed-still t (gOf w₃) (gOf w₅) (tail w₃) r₅ (conflictOf w₃) (count₅ ∙ sym c) (λ q i. states₅ q (omega (arith, i, c))) (K .closed))
 
             clear₅ : (q : ℕ) → r₅ 0 ≤ q → q < positions → member m₃ q ≡ 0
-            clear₅ q i b =
-                K .else q (omega (arith, i, count₅, count₂)) b
-                ∙ R .else q b (λ a. absurd (omega (arith, a, i, count₅, P .count))) .0 ∙ H .clear q (omega (arith, i, count₅)) b
+            clear₅ q i b = clear₄ q (omega (arith, i, count₅)) b
 
             -- met clauses stay so
             met₅ : AllMet t (gOf w₅) r₅ (cursorOf w₅)
@@ -311,24 +391,136 @@ module _ {x goals w m : List ℕ} {n l : ℕ} (I : Indexed x n) (H : Holds (inde
                 apart : (deniedOf w₄ ≡ 0) × Apart goals l → NoneDenied goals (l ∷ gOf w)
                 apart (e, a) k i y = H .denied (sym before ∙ e) k i (fails-joined (gOf w) l (f .1) (getD goals k 0) (a k i) y)
 
-            pub assumed : Holds t n goals w₅ m₃
-            assumed = record {
-              ready = ready₅;
-              numbered = numbered₅;
-              units = K .units;
-              entered = entered₅;
-              clear = clear₅;
-              closed = closed₅;
-              cursor = omega (arith, cursor₅, H .cursor, count₅);
-              met-before = met₅;
-              cursors = cursors₅;
-              waiting = waiting₅;
-              denied = denied₅;
-            }
+            -- ---- after the set is tidied
 
--- how many clauses its code says that it has
-pub counted : (t : ℕ → Node) (l h : ℕ) (G : List ℕ) {e code : ℕ} → e ≡ 2 * h + l % 2 + 1 → Coded (t (l / 2)) (statesOf t G (2 * (l / 2) + (e - 1) % 2)) code
-    → code / 8192 ≡ length (expand t l)
-counted t l h G {e} {code} i c =
-    let z : 2 * (l / 2) + (e - 1) % 2 ≡ l = omega (arith, i) in
-    c .clauses ∙ length-map (expand t (2 * (l / 2) + (e - 1) % 2)) (stateOf G) ∙ ap (λ (k : ℕ). length (expand t k)) z
+            module _ {m₄ : List ℕ} {u : ℕ} (Z₄ : Tidied w₄ m₃ m₄ u) where
+              codes₅ : (q : ℕ) → codeAt r₅ q ≡ codeAt (tail w₄) q
+              codes₅ q = A .other (trailAt + (codesAt + q)) (λ e. omega (arith, e)) (λ e. omega (arith, e))
+
+              values₅ : (q : ℕ) → valueOf (gOf w₅) (codeAt r₅ q % 4096) ≡ valueOf (gOf w₄) (codeAt (tail w₄) q % 4096)
+              values₅ q = rw (codes₅ q, list₅, list₄)
+
+              conflicts₅ : conflictOf w₅ ≡ conflictOf w₄
+              conflicts₅ = A .other 1 (λ e. omega (arith, e)) (λ e. omega (arith, e))
+
+              Z : Tidied w₅ m₃ m₄ u
+              Z = record {
+                dropped = record {
+                  units = Z₄ .dropped .units;
+                  less = Z₄ .dropped .less;
+                  from = Z₄ .dropped .from;
+                  kept = λ q i y v. Z₄ .dropped .kept q i y (sym (values₅ q) ∙ v);
+                };
+                first = λ d q y. values₅ q ∙ Z₄ .first (omega (arith, d, conflicts₅)) q y;
+                next = λ y. let (a, b, c) = Z₄ .next y in (omega (arith, a, conflicts₅), b, codes₅ _ ∙ c);
+              }
+
+              entered₆ : (q : ℕ) → q < r₅ 0 → Entered t (gOf w₅) r₅ (conflictOf w₅) m₄ q
+              entered₆ q i = record {
+                unit = λ d y.
+                    let (a, b) = entered₅ q i .unit d y in
+                    (Z .dropped .kept q (omega (arith, i, count₅, room)) a (rw (b .literal) (first-undecided (gOf w₅) (expand t (litAt r₅ q)) y)), b);
+                conflict = entered₅ q i .conflict;
+              }
+
+              late₆ : (q : ℕ) → q < r₅ 0 → Late t n (gOf w₅) r₅ (conflictOf w₅) m₄ q
+              late₆ q i =
+                  let b : q < positions = omega (arith, i, count₅, room) in
+                  record { low = λ y. late₅ q i .low (Z .dropped .from q b y); live = λ d y v. late₅ q i .live d (Z .dropped .from q b y) v }
+
+              pub assumed : Holds t n goals w₅ m₄
+              assumed = record {
+                ready = ready₅;
+                numbered = numbered₅;
+                units = Z .dropped .units;
+                entered = entered₆;
+                late = late₆;
+                first = Z .first;
+                clear = λ q i b. Z .dropped .less q b (clear₅ q i b);
+                closed = closed₅;
+                cursor = omega (arith, cursor₅, H .cursor, count₅);
+                met-before = met₅;
+                cursors = cursors₅;
+                waiting = waiting₅;
+                denied = denied₅;
+              }
+
+              pub picked : waitingOf w₅ ≡ 0 → Picks w₅ m₄ u
+              picked e d = let (a, b, c) = Z .next d in record { waiting = e; free = a; first = b; kept = c }
+
+-- where no goal waits, none is waited for
+pub awaited-none : {goals w : List ℕ} {l : ℕ} → Served goals w → waitingOf w ≡ 0 → Awaited goals l w w
+awaited-none {goals} {w} v e = record {
+  size = refl;
+  waiting = record { few = omega (arith, e); over = v .over; on = λ z. absurd (z e) };
+  denied = λ z. inl e;
+  other = λ i d k. refl;
+}
+
+-- all of it together
+module _ {x goals w m m₀ w′ m′ : List ℕ} {n l u : ℕ} (I : Indexed x n) (H : Holds (indexNode x) n goals w m) (N : Taken w m l m₀) (f : Fresh n (gOf w) l)
+    (a : Attached (indexNode x) n l w m₀ w′ m′ u) where
+  C : tail w 0 ≡ length (gOf w)
+  C = sym (trail-length (tail w 0) (tail w))
+
+  pub ready-attached : Ready n w′
+  ready-attached = ready₄ I H N f (a .pushed) (a .own) (a .parents) (a .more) C (a .based)
+
+  pub served-attached : Served goals w′
+  served-attached = served I H N f (a .pushed) (a .own) (a .parents) (a .more) C (a .based)
+
+  pub waiting-attached : waitingOf w′ ≡ waitingOf w
+  waiting-attached = cell₄ I H N f (a .pushed) (a .own) (a .parents) (a .more) C (a .based) 2 (omega arith) (λ e. omega (arith, e))
+
+  module _ {w″ : List ℕ} (A : Awaited goals l w′ w″) where
+    pub holds-attached : Holds (indexNode x) n goals w″ m′
+    holds-attached = assumed I H N f (a .pushed) (a .own) (a .parents) (a .more) C (a .based) A (a .clauses) (a .tidied)
+
+    pub list-attached : gOf w″ ≡ l ∷ gOf w
+    list-attached = list₅ I H N f (a .pushed) (a .own) (a .parents) (a .more) C (a .based) A (a .clauses)
+
+    pub picks-attached : waitingOf w″ ≡ 0 → Picks w″ m′ u
+    picks-attached = picked I H N f (a .pushed) (a .own) (a .parents) (a .more) C (a .based) A (a .clauses) (a .tidied)
+
+-- ---- what is taken out of the set
+
+-- every position in it is held
+pub in-low : {t : ℕ → Node} {n : ℕ} {goals w m : List ℕ} → n ≤ mostNodes → Holds t n goals w m → (q : ℕ) → q < positions → member m q ≡ 1 → q < mostNodes
+in-low {w = w} few H q b y = go (decLt q (tail w 0))
+  where
+    go : Dec (q < tail w 0) → q < mostNodes
+    go (yes i) = omega (arith, i, count-most (H .ready), few)
+    go (no i) = absurd (omega (arith, y, H .clear q (omega (arith, i)) b))
+
+-- nothing
+pub taken-none : {w m : List ℕ} {l : ℕ} → Units m → Taken w m l m
+taken-none u = record { units = u; same = λ q i. inl refl }
+
+-- a position that forces l
+pub taken-one : {w m m₀ : List ℕ} {l q : ℕ} → member m q ≡ 1 → codeAt (tail w) q % 4096 ≡ l → Putted m q 0 m₀ → Taken w m l m₀
+taken-one {w} {m} {m₀} {l} {q} y k p = record { units = p .units; same = λ j i. go j i (ℕ-discrete j q) }
+  where
+    go : (j : ℕ) → j < positions → Dec (j ≡ q) → (member m₀ j ≡ member m j) ⊎ ((member m₀ j ≡ 0) × (member m j ≡ 1) × (codeAt (tail w) j % 4096 ≡ l))
+    go j i (yes e) = inr (rw e (p .here), rw e y, rw e k)
+    go j i (no e) = inl (p .other j i e)
+
+-- the unit that is the next move
+module _ {t : ℕ → Node} {n u : ℕ} {goals w m : List ℕ} (few : n ≤ mostNodes) (H : Holds t n goals w m) (k : Picked w m u) where
+  abbrev at : ℕ
+  at = u / 65536
+
+  at-held : at < tail w 0
+  at-held = go (decLt at (tail w 0))
+    where
+      go : Dec (at < tail w 0) → at < tail w 0
+      go (yes i) = i
+      go (no i) = absurd (omega (arith, k .first .here, H .clear at (omega (arith, i)) (k .first .low)))
+
+  pub at-literal : codeAt (tail w) at % 4096 ≡ u % 4096
+  at-literal = omega (arith, k .kept)
+
+  pub picked-fresh : Fresh n (gOf w) (u % 4096)
+  picked-fresh = (omega (arith, at-literal, H .late at at-held .low (k .first .here)), rw at-literal at (H .first (k .free) at (k .first)))
+
+  pub picked-taken : {m₀ : List ℕ} → Putted m at 0 m₀ → Taken w m (u % 4096) m₀
+  picked-taken = taken-one (k .first .here) at-literal

@@ -2,6 +2,7 @@
 pub mod Stays
 pub mod Marks
 pub mod Walks
+pub mod Lives
 pub mod Settles
 pub mod Assumes
 pub mod Undoes

@@ -1,26 +1,47 @@
 -- A position is entered by its code. Assumes nothing.
 use mathlib.Core.Path.{_≡_, refl, sym, ap, _∙_, subst}
-use mathlib.Core.Bool.{Bool, true, false}
+use mathlib.Core.Bool.{Bool, true, false, false≢true, cond}
 use mathlib.Core.Logic.{_⊎_, inl, inr}
 use mathlib.Core.List.{List}
 use Prim.Native.Nat.{ℕ, _+_, _-_, _*_, _/_, _%_, _<_, _≤_}
 use native.Mathlib.Omega.{arith}
+use native.Mathlib.Decide.{ℕ-discrete}
+use lib.Dec.{eqb}
 use lib.ListN.{length, getD, set, length-set}
 use lib.Seq.{getD-set-same, getD-set-other}
 use Rattle.scope.specs.declared.Node.{Node}
+use Rattle.scope.specs.Table.{operands}
+use Rattle.calculus.specs.Expansion.{neg, chosen}
 use Rattle.calculus.specs.Order.{State, isEmpty, isOne, some, bit}
+use Rattle.calculus.specs.Model.{All, Table}
+use Rattle.calculus.proofs.Lists.{all-at}
 use Rattle.index.specs.Index.{mostNodes}
-use Rattle.units.specs.Units.{member, Units, Putted}
+use Rattle.units.specs.Units.{member, Units}
 use Rattle.clause.specs.Coded.{statesOf, Coded}
-use Rattle.state.specs.Work.{area, tail, litAt, entryOf, codeAt, gOf, conflictOf, Ready, trailAt, literalsAt, valuesAt, codesAt}
-use Rattle.state.specs.Holds.{statesAt, Entered, Closed}
-use Rattle.state.specs.Changes.{codeSet}
+use Rattle.state.specs.Work.{tail, litAt, entryOf, codeAt, gOf, conflictOf, Ready, trailAt, literalsAt, valuesAt, codesAt}
+use Rattle.state.specs.Holds.{statesAt, Forces, Entered, Late, Closed}
 use Rattle.state.proofs.Areas.{count-most, held-still, ready-same}
-use Rattle.solver.specs.Changes.{Beside, Marked, Renewed}
+use Rattle.solver.specs.Changes.{Beside, Lowered, Flagged, Renewed, Visited}
 
-pub bit-true : (b : Bool) → bit b ≡ 1 → b ≡ true
+bit-true : (b : Bool) → bit b ≡ 1 → b ≡ true
 bit-true true e = refl
 bit-true false e = absurd (omega arith)
+
+bit-false : (b : Bool) → (bit b ≡ 1 → ⊥) → b ≡ false
+bit-false true e = absurd (e refl)
+bit-false false e = refl
+
+-- a choice of an operand is below what the operands are
+chosen-under : (i : ℕ) (x : Node) → All (λ l. l / 2 < i) (operands x) → (c : ℕ) → c / 2 < length (operands x) → chosen x c / 2 < i
+unfolding chosen
+chosen-under i x h c k = go (eqb (c % 2) 0) (all-at (λ l. l / 2 < i) (operands x) (c / 2) 0 h k)
+  where
+    l : ℕ
+    l = getD (operands x) (c / 2) 0
+
+    go : (p : Bool) → l / 2 < i → cond p l (neg l) / 2 < i
+    go true b = b
+    go false b = omega arith
 
 pub beside-same : (w : List ℕ) → Beside w w
 beside-same w = record { size = refl; other = λ i e k. refl }
@@ -43,17 +64,21 @@ module _ {n : ℕ} {w w′ : List ℕ} (few : n ≤ mostNodes) (h : Ready n w) (
   pub still-states : (t : ℕ → Node) (q : ℕ) → q < tail w 0 → statesAt t (gOf w′) (tail w′) q ≡ statesAt t (gOf w) (tail w) q
   still-states t q i = ap (λ (G : List ℕ). statesOf t G (litAt (tail w′) q)) still-list ∙ ap (statesOf t (gOf w)) (still-literal q i)
 
--- an entered position stays so where its states, its bit and its code stay and the first conflict is not later
-module _ {t : ℕ → Node} {G G′ : List ℕ} {r r′ : ℕ → ℕ} where
-  pub entered-still : {c c′ : ℕ} {m m′ : List ℕ} {q : ℕ} → Entered t G r c m q → statesAt t G′ r′ q ≡ statesAt t G r q → litAt r′ q ≡ litAt r q
-      → c′ ≤ c → (member m′ q ≡ member m q) × (codeAt r′ q ≡ codeAt r q) → Entered t G′ r′ c′ m′ q
-  entered-still {q = q} e z l k (s, o) = record {
-    unit = s ∙ e .unit ∙ sym (ap (λ (ss : List State). bit (some isOne ss)) z);
-    code = λ y.
-        subst (λ (ss : List State). Coded (t (litAt r′ q / 2)) ss (codeAt r′ q)) (sym z)
-        (subst (λ (j : ℕ). Coded (t (j / 2)) (statesAt t G r q) (codeAt r′ q)) (sym l)
-        (subst (Coded (t (litAt r q / 2)) (statesAt t G r q)) (sym o) (e .code (sym s ∙ y))));
+-- an entered position stays so where its states, its bit and what is kept of it stay and the first conflict is not later
+module _ {t : ℕ → Node} {G G′ : List ℕ} {r r′ : ℕ → ℕ} {c c′ : ℕ} {m m′ : List ℕ} {q : ℕ} (z : statesAt t G′ r′ q ≡ statesAt t G r q) (k : c′ ≤ c)
+    (s : (member m′ q ≡ member m q) × (codeAt r′ q ≡ codeAt r q)) where
+  pub entered-still : Entered t G r c m q → Entered t G′ r′ c′ m′ q
+  entered-still e = record {
+    unit = λ f y.
+        let (a, b) = e .unit (omega (arith, f, k)) (sym (ap (some isOne) z) ∙ y) in
+        (s .0 ∙ a, subst (λ (ss : List State). Forces ss (codeAt r′ q)) (sym z) (subst (Forces (statesAt t G r q)) (sym (s .1)) b));
     conflict = λ y. omega (arith, e .conflict (sym (ap (some isEmpty) z) ∙ y), k);
+  }
+
+  pub late-still : {n : ℕ} → G′ ≡ G → Late t n G r c m q → Late t n G′ r′ c′ m′ q
+  late-still {n} g e = record {
+    low = λ y. rw (s .1) (e .low (sym (s .0) ∙ y));
+    live = λ f y u. ap (some isOne) z ∙ e .live (omega (arith, f, k)) (sym (s .0) ∙ y) (rw (g, s .1) at u);
   }
 
 -- a first conflict where the states stay
@@ -61,125 +86,198 @@ pub closed-still : (t : ℕ → Node) (G G′ : List ℕ) (r r′ : ℕ → ℕ)
     → Closed t G r c → Closed t G′ r′ c
 closed-still t G G′ r r′ c n z o i = let (a, b) = o i in (omega (arith, a, n), ap (some isEmpty) (z c a) ∙ b)
 
--- ---- what `enter` does
+-- ---- what `conflict` and `unit` do
 
-module _ (w v : List ℕ) (q code : ℕ) {m m′ : List ℕ} (size : area ≤ length w) (low : q < mostNodes) (B : v ≡ codeSet w q code) (u : Putted m q (code % 2) m′) where
-  abbrev place : ℕ
-  place = trailAt + (codesAt + q)
+pub lowered-here : (w : List ℕ) (q : ℕ) → 1 < length w → q < conflictOf w → Lowered w q (set w 1 q)
+lowered-here w q size k =
+    let e : getD (set w 1 q) 1 0 ≡ q = getD-set-same w 1 q 0 size in
+    record {
+      size = length-set w 1 q;
+      other = λ i d. getD-set-other w 1 i q 0 d;
+      lower = omega (arith, e, k);
+      least = omega (arith, e);
+      from = inr e;
+    }
 
-  other : (i : ℕ) → (i ≡ place → ⊥) → getD v i 0 ≡ getD w i 0
-  other i d = rw B (getD-set-other w place i code 0 d)
+pub lowered-before : (w : List ℕ) (q : ℕ) → conflictOf w ≤ q → Lowered w q w
+lowered-before w q k = record { size = refl; other = λ i d. refl; lower = omega arith; least = k; from = inl refl }
 
-  here : codeAt (tail v) q ≡ code
-  here = rw B (getD-set-same w place code 0 (omega (arith, size, low)))
+-- ---- a position is entered, by what the states of its clauses are
 
-  size-v : length v ≡ length w
-  size-v = rw B (length-set w place code)
-
-  conflict-v : conflictOf v ≡ conflictOf w
-  conflict-v = other 1 (λ e. omega (arith, e))
-
-  -- the conflict is stored
-  pub marked-lower : code / 2 % 2 ≡ 1 → q < conflictOf v → Marked w m q code (set v 1 q) m′
-  marked-lower o k =
-      let e : getD (set v 1 q) 1 0 ≡ q = getD-set-same v 1 q 0 (omega (arith, size, size-v)) in
-      record {
-        beside = record { size = length-set v 1 q ∙ size-v; other = λ i d y. getD-set-other v 1 i q 0 d ∙ other i (λ z. omega (arith, z, y)) };
-        putted = u;
-        stored = getD-set-other v 1 place q 0 (λ z. omega (arith, z)) ∙ here;
-        codes = λ p d. getD-set-other v 1 (trailAt + (codesAt + p)) q 0 (λ z. omega (arith, z)) ∙ other (trailAt + (codesAt + p)) (λ z. d (omega (arith, z)));
-        lower = omega (arith, e, k, conflict-v);
-        least = λ x. omega (arith, e);
-        from = inr (e, o);
-      }
-
-  -- there is none, or not before the first
-  pub marked-kept : (code / 2 % 2 ≡ 1 → conflictOf v ≤ q) → Marked w m q code v m′
-  marked-kept k = record {
-    beside = record { size = size-v; other = λ i d y. other i (λ z. omega (arith, z, y)) };
-    putted = u;
-    stored = here;
-    codes = λ p d. other (trailAt + (codesAt + p)) (λ z. d (omega (arith, z)));
-    lower = omega (arith, conflict-v);
-    least = k;
-    from = inl conflict-v;
-  }
-
--- ---- what `renew` and `visit` do
-
-module _ (t : ℕ → Node) {n : ℕ} {w : List ℕ} {p : ℕ} (h : Ready n w) (b : p < n) where
+module _ (t : ℕ → Node) {n : ℕ} {w : List ℕ} {q : ℕ} (few : n ≤ mostNodes) (h : Ready n w) (b : q < tail w 0) where
   abbrev r : ℕ → ℕ
   r = tail w
 
+  abbrev ss : List State
+  ss = statesAt t (gOf w) r q
+
+  low : q < mostNodes
+  low = omega (arith, b, count-most h, few)
+
+  -- a clause is all false
+  pub renewed-empty : {m w′ : List ℕ} → Units m → some isEmpty ss ≡ true → Lowered w q w′ → Renewed t n w m q w′ m
+  renewed-empty {m} {w′} u y k = record {
+    beside = beside;
+    units = u;
+    lower = k .lower;
+    closed = λ o. closed-still t (gOf w) (gOf w′) r (tail w′) (conflictOf w′) (still-at few h beside 0 (omega arith)) (still-states few h beside t) (go o (k .from));
+    here = record { unit = λ f o. absurd (omega (arith, f, k .least, low)); conflict = λ o. k .least };
+    late = λ e. record { low = λ o. rw (code q) (e .low o); live = λ f o v. absurd (omega (arith, f, k .least, low)) };
+    else = λ j i d. (refl, code j);
+  }
+    where
+      beside : Beside w w′
+      beside = record { size = k .size; other = λ i d o. k .other i d }
+
+      code : (j : ℕ) → codeAt (tail w′) j ≡ codeAt r j
+      code j = k .other (trailAt + (codesAt + j)) (λ e. omega (arith, e))
+
+      go : Closed t (gOf w) r (conflictOf w) → (conflictOf w′ ≡ conflictOf w) ⊎ (conflictOf w′ ≡ q) → Closed t (gOf w) r (conflictOf w′)
+      go o (inl e) = subst (Closed t (gOf w) r) (sym e) o
+      go o (inr e) = subst (Closed t (gOf w) r) (sym e) (λ i. (b, y))
+
+  -- none is, and one is a unit
+  pub renewed-unit : {m w′ m′ : List ℕ} {k : ℕ} → some isEmpty ss ≡ false → some isOne ss ≡ true → Forces ss k → k % 4096 < 2 * n → Flagged w m q k w′ m′
+      → Renewed t n w m q w′ m′
+  renewed-unit {m} {w′} {m′} {k} none y f i g = record {
+    beside = beside;
+    units = g .putted .units;
+    lower = omega (arith, same);
+    closed = λ o.
+        closed-still t (gOf w) (gOf w′) r (tail w′) (conflictOf w′) (still-at few h beside 0 (omega arith)) (still-states few h beside t)
+        (subst (Closed t (gOf w) r) (sym same) o);
+    here = record {
+      unit = λ d o. (g .putted .here, subst (λ (s : List State). Forces s (codeAt (tail w′) q)) (sym still) (subst (Forces ss) (sym stored) f));
+      conflict = λ o. absurd (false≢true (sym none ∙ sym (ap (some isEmpty) still) ∙ o));
+    };
+    late = λ e. record { low = λ o. rw stored i; live = λ d o v. ap (some isOne) still ∙ y };
+    else = λ j o d. (g .putted .other j o d, other (trailAt + (codesAt + j)) (λ e. d (omega (arith, e))));
+  }
+    where
+      place : ℕ
+      place = trailAt + (codesAt + q)
+
+      other : (j : ℕ) → (j ≡ trailAt + (codesAt + q) → ⊥) → getD w′ j 0 ≡ getD w j 0
+      other j d = rw (g .stored) (getD-set-other w (trailAt + (codesAt + q)) j k 0 d)
+
+      stored : codeAt (tail w′) q ≡ k
+      stored = rw (g .stored) (getD-set-same w (trailAt + (codesAt + q)) k 0 (omega (arith, h .size, low)))
+
+      beside : Beside w w′
+      beside = record { size = rw (g .stored) (length-set w (trailAt + (codesAt + q)) k); other = λ j d o. other j (λ e. omega (arith, e, o)) }
+
+      same : conflictOf w′ ≡ conflictOf w
+      same = other 1 (λ e. omega (arith, e))
+
+      still : statesAt t (gOf w′) (tail w′) q ≡ ss
+      still = still-states few h beside t q b
+
+  -- neither
+  pub renewed-same : {m : List ℕ} → Units m → some isEmpty ss ≡ false → some isOne ss ≡ false → Renewed t n w m q w m
+  renewed-same u none y = record {
+    beside = beside-same w;
+    units = u;
+    lower = omega arith;
+    closed = λ o. o;
+    here = record { unit = λ d o. absurd (false≢true (sym y ∙ o)); conflict = λ o. absurd (false≢true (sym none ∙ o)) };
+    late = λ e. e;
+    else = λ j o d. (refl, refl);
+  }
+
+-- by its code
+module _ (t : ℕ → Node) {n : ℕ} (T : Table n t) {w : List ℕ} {q p : ℕ} (few : n ≤ mostNodes) (h : Ready n w) (b : q < tail w 0) (i : p < n)
+    {code : ℕ} (c : Coded (t p) (statesAt t (gOf w) (tail w) q) code) where
+  abbrev states : List State
+  states = statesAt t (gOf w) (tail w) q
+
+  pub code-empty : code / 2 % 2 ≡ 1 → some isEmpty states ≡ true
+  code-empty e = bit-true (some isEmpty states) (sym (c .conflict) ∙ e)
+
+  pub code-fine : (code / 2 % 2 ≡ 1 → ⊥) → some isEmpty states ≡ false
+  code-fine e = bit-false (some isEmpty states) (λ y. e (c .conflict ∙ y))
+
+  pub code-one : code % 2 ≡ 1 → some isOne states ≡ true
+  code-one e = bit-true (some isOne states) (sym (c .unit) ∙ e)
+
+  pub code-none : (code % 2 ≡ 1 → ⊥) → some isOne states ≡ false
+  code-none e = bit-false (some isOne states) (λ y. e (c .unit ∙ y))
+
+  pub choice-low : code % 2 ≡ 1 → code / 32 % 8 / 2 < length (operands (t p))
+  choice-low e = c .unit-literal (code-one e) .0
+
+  chosen-low : code % 2 ≡ 1 → chosen (t p) (code / 32 % 8) < 2 * n
+  chosen-low e = omega (arith, chosen-under p (t p) (T .earlier p i) (code / 32 % 8) (choice-low e), i)
+
+  module _ (e : code % 2 ≡ 1) {l : ℕ} (v : l ≡ chosen (t p) (code / 32 % 8)) where
+    pub code-low : (l + 4096 * (code / 8 % 4)) % 4096 < 2 * n
+    code-low = omega (arith, v, chosen-low e, few)
+
+    pub code-small : l < 4096
+    code-small = omega (arith, v, chosen-low e, few)
+
+    pub code-forces : Forces states (l + 4096 * (code / 8 % 4))
+    code-forces = record {
+      column = div ∙ c .unit-clause (code-one e);
+      literal = rem ∙ c .unit-literal (code-one e) .1;
+    }
+      where
+        div : (l + 4096 * (code / 8 % 4)) / 4096 ≡ code / 8 % 4
+        div = omega (arith, code-small)
+
+        rem : (l + 4096 * (code / 8 % 4)) % 4096 ≡ chosen (t p) (code / 32 % 8)
+        rem = omega (arith, v, code-small)
+
+-- ---- what `visit` does
+
+module _ (t : ℕ → Node) {n : ℕ} {w : List ℕ} {p : ℕ} (h : Ready n w) (b : p < n) where
+  abbrev r₀ : ℕ → ℕ
+  r₀ = tail w
+
   -- the position of a literal of the node, by its entry
-  only : (q : ℕ) → q < r 0 → litAt r q / 2 ≡ p → entryOf r p ≡ 2 * q + litAt r q % 2 + 1
-  only q i e = sym (ap (entryOf r) e) ∙ h .trail .place q i
+  only : (q : ℕ) → q < r₀ 0 → litAt r₀ q / 2 ≡ p → entryOf r₀ p ≡ 2 * q + litAt r₀ q % 2 + 1
+  only q i e = sym (ap (entryOf r₀) e) ∙ h .trail .place q i
 
   -- no literal of it is held
-  pub renewed-none : {m : List ℕ} → Units m → entryOf r p ≡ 0 → Renewed t w m p w m
-  renewed-none u z = record {
+  pub visited-none : {m : List ℕ} → Units m → entryOf r₀ p ≡ 0 → Visited t n w m p w m
+  visited-none u z = record {
     beside = beside-same w;
     units = u;
     lower = omega arith;
     closed = λ k. k;
     here = λ q i e. absurd (omega (arith, only q i e, z));
+    late = λ q i e. e;
     else = λ q i k. (refl, refl);
   }
 
-  module _ {e : ℕ} (entry : e ≡ entryOf r p) (some-e : 0 < e) where
+  module _ {e : ℕ} (entry : e ≡ entryOf r₀ p) (some-e : e ≡ 0 → ⊥) where
     abbrev at : ℕ
     at = (e - 1) / 2
 
-    pub at-low : at < r 0
+    pub at-low : at < r₀ 0
     at-low = omega (arith, entry, some-e, h .trail .low p b)
 
-    at-node : litAt r at / 2 ≡ p
-    at-node = subst (λ (k : ℕ). litAt r ((k - 1) / 2) / 2 ≡ p) (sym entry) (h .trail .from p b (λ z. omega (arith, entry, some-e, z)))
+    pub at-node : litAt r₀ at / 2 ≡ p
+    at-node = subst (λ (k : ℕ). litAt r₀ ((k - 1) / 2) / 2 ≡ p) (sym entry) (h .trail .from p b (λ z. omega (arith, entry, some-e, z)))
 
-    at-literal : litAt r at ≡ 2 * p + (e - 1) % 2
+    pub at-literal : litAt r₀ at ≡ 2 * p + (e - 1) % 2
     at-literal = omega (arith, at-node, only at at-low at-node, entry)
 
-    at-only : (q : ℕ) → q < r 0 → litAt r q / 2 ≡ p → q ≡ at
+    at-only : (q : ℕ) → q < r₀ 0 → litAt r₀ q / 2 ≡ p → q ≡ at
     at-only q i k = omega (arith, only q i k, entry)
 
-    module _ (few : n ≤ mostNodes) {code : ℕ} {m w′ m′ : List ℕ} (c : Coded (t p) (statesOf t (gOf w) (2 * p + (e - 1) % 2)) code) (k : Marked w m at code w′ m′) where
-      states : List State
-      states = statesAt t (gOf w) r at
-
-      c′ : Coded (t p) states code
-      unfolding states
-      c′ = subst (λ (l : ℕ). Coded (t p) (statesOf t (gOf w) l) code) (sym at-literal) c
-
-      states-still : statesAt t (gOf w′) (tail w′) at ≡ states
-      unfolding states
-      states-still = still-states few h (k .beside) t at at-low
-
-      entered : Entered t (gOf w′) (tail w′) (conflictOf w′) m′ at
-      entered = record {
-        unit = k .putted .here ∙ c′ .unit ∙ sym (ap (λ (ss : List State). bit (some isOne ss)) states-still);
-        code = λ y.
-            subst (λ (ss : List State). Coded (t (litAt (tail w′) at / 2)) ss (codeAt (tail w′) at)) (sym states-still)
-            (subst (λ (j : ℕ). Coded (t j) states (codeAt (tail w′) at)) (sym (ap (_/ 2) (still-literal few h (k .beside) at at-low) ∙ at-node))
-            (subst (Coded (t p) states) (sym (k .stored)) c′));
-        conflict = λ y. k .least (c′ .conflict ∙ ap bit (sym (ap (some isEmpty) states-still) ∙ y));
-      }
-
-      closed : Closed t (gOf w) r (conflictOf w) → Closed t (gOf w′) (tail w′) (conflictOf w′)
-      unfolding states
-      closed o = closed-still t (gOf w) (gOf w′) r (tail w′) (conflictOf w′) (still-at few h (k .beside) 0 (omega arith)) (still-states few h (k .beside) t) (go (k .from))
-        where
-          go : (conflictOf w′ ≡ conflictOf w) ⊎ ((conflictOf w′ ≡ at) × (code / 2 % 2 ≡ 1)) → Closed t (gOf w) r (conflictOf w′)
-          go (inl y) = subst (Closed t (gOf w) r) (sym y) o
-          go (inr y) = subst (Closed t (gOf w) r) (sym (y .0)) (λ i. (at-low, bit-true (some isEmpty (statesAt t (gOf w) r at)) (sym (c′ .conflict) ∙ y .1)))
-
-      pub renewed : Renewed t w m p w′ m′
-      renewed = record {
-        beside = k .beside;
-        units = k .putted .units;
-        lower = k .lower;
-        closed = closed;
-        here = λ q i y. subst (Entered t (gOf w′) (tail w′) (conflictOf w′) m′) (sym (at-only q i y)) entered;
-        else = λ q i y.
-            let d : q ≡ at → ⊥ = λ z. y (subst (λ (o : ℕ). o < r 0) (sym z) at-low) (subst (λ (o : ℕ). litAt r o / 2 ≡ p) (sym z) at-node) in
-            (k .putted .other q i d, k .codes q d);
-      }
+    pub visited : n ≤ mostNodes → {m w′ m′ : List ℕ} → Renewed t n w m at w′ m′ → Visited t n w m p w′ m′
+    visited few {m} {w′} {m′} k = record {
+      beside = k .beside;
+      units = k .units;
+      lower = k .lower;
+      closed = k .closed;
+      here = λ q i y. subst (Entered t (gOf w′) (tail w′) (conflictOf w′) m′) (sym (at-only q i y)) (k .here);
+      late = λ q i y. go q i y (ℕ-discrete q at);
+      else = λ q i y. k .else q i (λ z. y (subst (λ (o : ℕ). o < r₀ 0) (sym z) at-low) (subst (λ (o : ℕ). litAt r₀ o / 2 ≡ p) (sym z) at-node));
+    }
+      where
+        go : (q : ℕ) → q < r₀ 0 → Late t n (gOf w) r₀ (conflictOf w) m q → Dec (q ≡ at) → Late t n (gOf w′) (tail w′) (conflictOf w′) m′ q
+        go q i y (yes z) =
+            subst (Late t n (gOf w′) (tail w′) (conflictOf w′) m′) (sym z) (k .late (subst (Late t n (gOf w) r₀ (conflictOf w) m) z y))
+        go q i y (no z) =
+            late-still (still-states few h (k .beside) t q i) (k .lower) (k .else q (omega (arith, i, count-most h, few)) z) (still-list few h (k .beside)) y

@@ -11,7 +11,7 @@ use lib.ListN.{length, getD, set, length-set}
 use lib.Seq.{getD-set-same, getD-set-other}
 use Rattle.scope.specs.declared.Node.{Node}
 use Rattle.calculus.specs.Expansion.{neg}
-use Rattle.calculus.specs.Order.{Value, holds, fails, undecided, valueOf, isEmpty, isOne, some, bit}
+use Rattle.calculus.specs.Order.{Value, holds, fails, undecided, valueOf, isEmpty, isOne, some}
 use Rattle.units.specs.Units.{Units, Empty}
 use Rattle.trail.proofs.Trails.{trail-length}
 use Rattle.state.specs.Work.{tail, litAt, baseOf, cursorAt, gOf, trail, valueCode, cursorOf, waitingOf, held, Ready, Numbered, trailAt, literalsAt, basesAt, valuesAt, cursorsAt}
@@ -73,10 +73,14 @@ module _ {n : ℕ} {w w′ m′ : List ℕ} {c v : ℕ} (few : n ≤ mostNodes) 
       numbered = subst (Numbered t goals) (sym same) numbered;
       units = z .units .0;
       entered = λ q i. record {
-        unit = z .units .1 q (omega (arith, low′, i, few)) ∙ sym (ap bit (none′ q i .1));
-        code = λ y. absurd (omega (arith, y, z .units .1 q (omega (arith, low′, i, few))));
+        unit = λ f y. absurd (false≢true (sym (none′ q i .1) ∙ y));
         conflict = λ y. absurd (false≢true (sym (none′ q i .0) ∙ y));
       };
+      late = λ q i. record {
+        low = λ y. absurd (omega (arith, y, z .units .1 q (omega (arith, low′, i, few))));
+        live = λ f y u. absurd (omega (arith, y, z .units .1 q (omega (arith, low′, i, few))));
+      };
+      first = λ f q y. absurd (omega (arith, y .here, z .units .1 q (y .low)));
       clear = λ q i k. z .units .1 q k;
       closed = λ k. absurd (omega (arith, k, z .conflict));
       cursor = omega (arith, z .cursor, low, ap (λ (r : ℕ → ℕ). r 0) same);

@@ -1,101 +1,202 @@
 -- The walk along the parents of a node: which positions are entered. Assumes nothing.
-use mathlib.Core.Path.{_≡_, sym, ap, _∙_, subst}
+use mathlib.Core.Path.{_≡_, refl, sym, ap, _∙_, subst}
 use mathlib.Core.Logic.{_⊎_, inl, inr, ⊎-elim}
 use mathlib.Core.List.{List}
-use Prim.Native.Nat.{ℕ, _*_, _/_, _%_, _<_}
+use Prim.Native.Nat.{ℕ, _+_, _-_, _*_, _/_, _%_, _<_, _≤_}
 use native.Mathlib.Omega.{arith}
 use native.Mathlib.Decide.{ℕ-discrete}
 use Rattle.scope.specs.declared.Node.{Node}
-use Rattle.index.specs.Index.{indexNode, none, opNode, headOf, nextOf}
+use Rattle.calculus.specs.Order.{holds, valueOf}
+use Rattle.trail.proofs.Trails.{side-none, side-true}
+use Rattle.index.specs.Index.{mostNodes, indexNode}
+use Rattle.index.specs.Edges.{firstOf, midOf, endOf, PairAt, Parent, parentOf, edgeAt}
 use Rattle.index.specs.Indexed.{Indexed}
-use Rattle.state.specs.Work.{tail, litAt, gOf, conflictOf, Ready}
-use Rattle.state.specs.Holds.{Entered}
-use Rattle.state.proofs.Areas.{count-most}
-use Rattle.solver.specs.Changes.{Beside, Renewed, Pending, Walk, Touchable}
-use Rattle.solver.proofs.Marks.{still-at, still-ready, still-literal, still-states, entered-still}
+use Rattle.units.specs.Units.{Units}
+use Rattle.clause.specs.Classed.{Forces, keptBy, Says, Classed}
+use Rattle.state.specs.Work.{tail, litAt, entryOf, gOf, conflictOf, Ready}
+use Rattle.state.specs.Holds.{statesAt, Entered}
+use Rattle.state.proofs.Areas.{count-most, held-below}
+use Rattle.solver.specs.Changes.{Beside, Lowered, Flagged, Visited, Pending, PairFrom, ThreeFrom, Walk, Touchable, Touched}
+use Rattle.solver.proofs.Settles.{code-holds}
+use Rattle.solver.proofs.Lives.{code-undecided}
+use Rattle.solver.proofs.Marks.{beside-same, still-at, still-ready, still-literal, still-states, entered-still, renewed-empty, renewed-unit, renewed-same, at-low, at-node, visited}
 
 -- one change after another
 pub beside-on : {w₀ w w′ : List ℕ} → Beside w₀ w → Beside w w′ → Beside w₀ w′
 beside-on a b = record { size = b .size ∙ a .size; other = λ i e k. b .other i e k ∙ a .other i e k }
 
--- a link is 0 or a cell that names the node
-abbrev pub On : (ℕ → Node) → ℕ → ℕ → ℕ → Type 0
-On t n node s = (s ≡ 0 → ⊥) → (s < 4 * n) × (opNode t s ≡ node)
+-- what is to come may be said in another way
+pub walk-same : {t : ℕ → Node} {n : ℕ} {C D : ℕ → Type 0} {w₀ m₀ w m : List ℕ} → Walk t n C w₀ m₀ w m → ((p : ℕ) → C p → D p) → Walk t n D w₀ m₀ w m
+walk-same v f = record {
+  beside = v .beside;
+  units = v .units;
+  closed = v .closed;
+  waits = λ q i. ⊎-elim inl (λ y. inr (f _ y)) (v .waits q i);
+  late = v .late;
+  else = v .else;
+}
 
--- the first cell of a node names none
-no-operand : (t : ℕ → Node) (y : ℕ) → y % 4 ≡ 0 → opNode t y ≡ none
-unfolding opNode
-no-operand t y e = rw e
+-- a parent is visited, and others are still to come
+module _ {t : ℕ → Node} {n p : ℕ} {w₀ m₀ w m w′ m′ : List ℕ} {C D : ℕ → Type 0} (few : n ≤ mostNodes) (h : Ready n w₀) (v : Walk t n C w₀ m₀ w m) (k : Visited t n w m p w′ m′)
+    (f : (j : ℕ) → (j ≡ p → ⊥) → C j → D j) where
+  ready : Ready n w
+  ready = still-ready few h (v .beside)
+
+  count : tail w 0 ≡ tail w₀ 0
+  count = still-at few h (v .beside) 0 (omega arith)
+
+  literal : (q : ℕ) → q < tail w₀ 0 → litAt (tail w) q ≡ litAt (tail w₀) q
+  literal = still-literal few h (v .beside)
+
+  waits : (q : ℕ) → q < tail w₀ 0 → Dec (litAt (tail w₀) q / 2 ≡ p) → Entered t (gOf w) (tail w) (conflictOf w) m q ⊎ C (litAt (tail w₀) q / 2)
+      → Entered t (gOf w′) (tail w′) (conflictOf w′) m′ q ⊎ D (litAt (tail w₀) q / 2)
+  waits q i (yes e) u = inl (k .here q (omega (arith, i, count)) (ap (_/ 2) (literal q i) ∙ e))
+  waits q i (no e) (inl u) =
+      let d = k .else q (omega (arith, i, count-most h, few)) (λ a y. e (sym (ap (_/ 2) (literal q i)) ∙ y)) in
+      inl (entered-still (still-states few ready (k .beside) t q (omega (arith, i, count))) (k .lower) d u)
+  waits q i (no e) (inr y) = inr (f (litAt (tail w₀) q / 2) e y)
+
+  pub walk-visited : Walk t n D w₀ m₀ w′ m′
+  walk-visited = record {
+    beside = beside-on (v .beside) (k .beside);
+    units = k .units;
+    closed = k .closed (v .closed);
+    waits = λ q i. waits q i (ℕ-discrete (litAt (tail w₀) q / 2) p) (v .waits q i);
+    late = λ q i. k .late q (omega (arith, i, count)) (v .late q i);
+    else = λ q i a. k .else q a (λ y. absurd (omega (arith, count, y, i))) .0 ∙ v .else q i a;
+  }
+
+-- a walk from where another stopped, and both together
+module _ {t : ℕ → Node} {n : ℕ} {w₀ m₀ w m : List ℕ} {C : ℕ → Type 0} (few : n ≤ mostNodes) (h : Ready n w₀) (v : Walk t n C w₀ m₀ w m) where
+  held₀ : tail w 0 ≡ tail w₀ 0
+  held₀ = still-at few h (v .beside) 0 (omega arith)
+
+  pub walk-from : Walk t n C w m w m
+  walk-from = record {
+    beside = beside-same w;
+    units = v .units;
+    closed = v .closed;
+    waits = λ q i.
+        let b : q < tail w₀ 0 = omega (arith, i, held₀) in
+        subst (λ (l : ℕ). Entered t (gOf w) (tail w) (conflictOf w) m q ⊎ C (l / 2)) (sym (still-literal few h (v .beside) q b)) (v .waits q b);
+    late = λ q i. v .late q (omega (arith, i, held₀));
+    else = λ q i k. refl;
+  }
+
+  pub walk-both : {w′ m′ : List ℕ} {D : ℕ → Type 0} → Walk t n D w m w′ m′ → Walk t n D w₀ m₀ w′ m′
+  walk-both {w′} {m′} {D} k = record {
+    beside = beside-on (v .beside) (k .beside);
+    units = k .units;
+    closed = k .closed;
+    waits = λ q i.
+        subst (λ (l : ℕ). Entered t (gOf w′) (tail w′) (conflictOf w′) m′ q ⊎ D (l / 2)) (still-literal few h (v .beside) q i) (k .waits q (omega (arith, i, held₀)));
+    late = λ q i. k .late q (omega (arith, i, held₀));
+    else = λ q i a. k .else q (omega (arith, i, held₀)) a ∙ v .else q i a;
+  }
+
+-- ---- along the edges of a node
 
 module _ {x : List ℕ} {n node : ℕ} {w₀ : List ℕ} (I : Indexed x n) (h : Ready n w₀) (b : node < n) where
   abbrev t : ℕ → Node
   t = indexNode x
 
-  -- it starts at the node's last cell
-  pub walk-on : On t n node (headOf x node)
-  walk-on z = (I .links .head-low node b z, I .links .head-on node b z)
-
-  pub walk-starts : {m₀ : List ℕ} → Touchable t n node w₀ m₀ → Walk t n node (headOf x node) w₀ m₀ w₀ m₀
-  walk-starts v = record {
-    beside = v .beside;
-    units = v .units;
-    closed = v .closed;
-    waits = λ q i. ⊎-elim inl (λ y. inr (y .0, I .links .head-all node (y .0) b (low y) (y .2), y .2, y .3)) (v .waits q i);
-    else = v .else;
-  }
+  -- it starts at the node's first edge
+  pub pairs-start : {m₀ : List ℕ} → Touchable t n node w₀ m₀ → Walk t n (λ p. PairFrom x node (firstOf x node) p ⊎ ThreeFrom x node 0 p) w₀ m₀ w₀ m₀
+  pairs-start v = walk-same v go
     where
-      low : {p : ℕ} (y : Pending t node (4 * n) p) → y .0 < 4 * n
-      low y = go (ℕ-discrete (y .0) (4 * n))
-        where
-          go : Dec (y .0 ≡ 4 * n) → y .0 < 4 * n
-          go (yes e) = absurd (omega (arith, no-operand t (y .0) (omega (arith, e)), y .2, b, I .few))
-          go (no e) = omega (arith, e, y .1)
+      go : (p : ℕ) → Pending t n node p → PairFrom x node (firstOf x node) p ⊎ ThreeFrom x node 0 p
+      go p (y, i, e, k) =
+          ⊎-elim (λ (j, a, o). inl (j, a .0, a, o ∙ k)) (λ (j, a, o). inr (j, omega arith, a, o ∙ k))
+          (subst (λ (m : ℕ). Parent x m (y / 4)) e (I .edges .complete y i (subst (λ (m : ℕ). m < n) (sym e) b)))
 
-  -- it goes on to the cell before
-  module _ {s : ℕ} {m₀ w m : List ℕ} (v : Walk t n node s w₀ m₀ w m) (o : On t n node s) (z : s ≡ 0 → ⊥) where
-    pub parent-low : s / 4 < n
-    parent-low = omega (arith, o z .0)
+  -- an edge from a node of two operands is left behind
+  pub pairs-go : {k : ℕ} {m₀ w m w′ m′ : List ℕ} → PairAt x node k → Walk t n (λ p. PairFrom x node k p ⊎ ThreeFrom x node 0 p) w₀ m₀ w m
+      → Visited t n w m (parentOf x k) w′ m′ → Walk t n (λ p. PairFrom x node (k + 2) p ⊎ ThreeFrom x node 0 p) w₀ m₀ w′ m′
+  pairs-go {k} at v y = walk-visited (I .few) h v y go
+    where
+      go : (p : ℕ) → (p ≡ parentOf x k → ⊥) → PairFrom x node k p ⊎ ThreeFrom x node 0 p → PairFrom x node (k + 2) p ⊎ ThreeFrom x node 0 p
+      go p d (inr z) = inr z
+      go p d (inl (j, i, a, o)) =
+          let e : j ≡ k → ⊥ = λ z. d (sym o ∙ ap (parentOf x) z) in
+          inl (j, omega (arith, i, e, a .2, at .2), a, o)
 
-    named-low : opNode t s < n
-    named-low = subst (λ (k : ℕ). k < n) (sym (o z .1)) b
+  pub pairs-end : {k : ℕ} {m₀ w m : List ℕ} → midOf x node ≤ k → Walk t n (λ p. PairFrom x node k p ⊎ ThreeFrom x node 0 p) w₀ m₀ w m
+      → Walk t n (ThreeFrom x node 0) w₀ m₀ w m
+  pairs-end {k} e v = walk-same v (λ p. ⊎-elim (λ (j, i, a, o). absurd (omega (arith, i, e, a .1))) (λ z. z))
 
-    pub walk-less : nextOf x s < s
-    walk-less = I .links .next-low s (o z .0) named-low
+  -- then come those from nodes of three
+  pub threes-start : {m₀ w m : List ℕ} → Walk t n (ThreeFrom x node 0) w₀ m₀ w m → Walk t n (ThreeFrom x node (midOf x node)) w₀ m₀ w m
+  threes-start v = walk-same v (λ p (j, i, a, o). (j, a .0, a, o))
 
-    pub walk-on-next : On t n node (nextOf x s)
-    walk-on-next y = (omega (arith, walk-less, o z .0), I .links .next-on s (o z .0) named-low y ∙ o z .1)
+  threes-go : {k : ℕ} {m₀ w m w′ m′ : List ℕ} → Walk t n (ThreeFrom x node k) w₀ m₀ w m → Visited t n w m (edgeAt x k) w′ m′
+      → Walk t n (ThreeFrom x node (k + 1)) w₀ m₀ w′ m′
+  threes-go {k} v y = walk-visited (I .few) h v y go
+    where
+      go : (p : ℕ) → (p ≡ edgeAt x k → ⊥) → ThreeFrom x node k p → ThreeFrom x node (k + 1) p
+      go p d (j, i, a, o) =
+          let e : j ≡ k → ⊥ = λ z. d (sym o ∙ ap (edgeAt x) z) in
+          (j, omega (arith, i, e), a, o)
 
-    pub walk-goes : {w′ m′ : List ℕ} → Renewed t w m (s / 4) w′ m′ → Walk t n node (nextOf x s) w₀ m₀ w′ m′
-    walk-goes {w′} {m′} k = record {
-      beside = beside-on (v .beside) (k .beside);
-      units = k .units;
-      closed = k .closed (v .closed);
-      waits = λ q i. waits q i (ℕ-discrete (litAt (tail w₀) q / 2) (s / 4)) (v .waits q i);
-      else = λ q i a. k .else q a (λ y. absurd (omega (arith, count, y, i))) .0 ∙ v .else q i a;
-    }
-      where
-        ready : Ready n w
-        ready = still-ready (I .few) h (v .beside)
+  pub threes-seen : {k p : ℕ} {m₀ w m w′ m′ : List ℕ} → Walk t n (ThreeFrom x node k) w₀ m₀ w m → p ≡ edgeAt x k → Visited t n w m p w′ m′
+      → Walk t n (ThreeFrom x node (k + 1)) w₀ m₀ w′ m′
+  threes-seen {k} {p} {m₀} {w} {m} {w′} {m′} v e y = threes-go v (subst (λ (j : ℕ). Visited t n w m j w′ m′) e y)
 
-        count : tail w 0 ≡ tail w₀ 0
-        count = still-at (I .few) h (v .beside) 0 (omega arith)
+  pub threes-end : {k : ℕ} {m₀ w m : List ℕ} → endOf x node ≤ k → Walk t n (ThreeFrom x node k) w₀ m₀ w m → Touched t n w₀ m₀ w m
+  threes-end e v = walk-same v (λ p (j, i, a, o). absurd (omega (arith, i, e, a .1)))
 
-        literal : (q : ℕ) → q < tail w₀ 0 → litAt (tail w) q ≡ litAt (tail w₀) q
-        literal = still-literal (I .few) h (v .beside)
+-- ---- what an edge's class does to the position of its parent
 
-        waits : (q : ℕ) → q < tail w₀ 0 → Dec (litAt (tail w₀) q / 2 ≡ s / 4)
-            → Entered t (gOf w) (tail w) (conflictOf w) m q ⊎ Pending t node s (litAt (tail w₀) q / 2)
-            → Entered t (gOf w′) (tail w′) (conflictOf w′) m′ q ⊎ Pending t node (nextOf x s) (litAt (tail w₀) q / 2)
-        waits q i (yes e) u = inl (k .here q (omega (arith, i, count)) (ap (_/ 2) (literal q i) ∙ e))
-        waits q i (no e) (inl u) =
-            let b : q < tail w 0 = omega (arith, i, count) in
-            let d = k .else q (omega (arith, i, count-most h, I .few)) (λ a y. e (sym (ap (_/ 2) (literal q i)) ∙ y)) in
-            inl (entered-still u (still-states (I .few) ready (k .beside) t q b) (still-literal (I .few) ready (k .beside) q b) (k .lower) d)
-        waits q i (no e) (inr y) =
-            let d : y .0 ≡ s → ⊥ = λ a. e (sym (y .3) ∙ ap (_/ 4) a) in
-            inr (y .0, I .links .next-all s (y .0) (o z .0) named-low (omega (arith, y .1, d)) (y .2 ∙ sym (o z .1)), y .2, y .3)
+module _ {t : ℕ → Node} {n : ℕ} {w : List ℕ} {p o c : ℕ} (few : n ≤ mostNodes) (h : Ready n w) (b : p < n) (C : Classed t n (gOf w) p o c) where
+  -- a literal that is held is true
+  held-true : (q : ℕ) → q < tail w 0 → valueOf (gOf w) (litAt (tail w) q) ≡ holds
+  held-true q i =
+      let l = litAt (tail w) q in
+      let e = h .trail .place q i in
+      code-holds (valueOf (gOf w) l) (sym (side-true (entryOf (tail w) (l / 2)) (l % 2) (valueOf (gOf w) l) (λ z. omega (arith, z, e)) (omega (arith, e)) (h .trail .vals l (held-below h q i))))
 
-  -- at its end no position waits
-  pub walk-ends : {m₀ w m : List ℕ} → Walk t n node 0 w₀ m₀ w m → (q : ℕ) → q < tail w₀ 0 → Entered t (gOf w) (tail w) (conflictOf w) m q
-  walk-ends v q i =
-      ⊎-elim (λ e. e) (λ y. absurd (omega (arith, no-operand t (y .0) (omega (arith, y .1)), y .2, b, I .few))) (v .waits q i)
+  -- what the class says of the position of a literal of p
+  says : (q : ℕ) → q < tail w 0 → litAt (tail w) q / 2 ≡ p → Says n (statesAt t (gOf w) (tail w) q) o c
+  says q i e = C .held (litAt (tail w) q) e (held-true q i)
+
+  pub class-held : (c ≡ 0 → ⊥) → entryOf (tail w) p ≡ 0 → ⊥
+  class-held d z =
+      let k : 2 * p / 2 ≡ p = omega arith in
+      let e : entryOf (tail w) (2 * p / 2) ≡ 0 = rw k z in
+      d (C .idle (code-undecided (valueOf (gOf w) (2 * p)) (sym (side-none (entryOf (tail w) (2 * p / 2)) (2 * p % 2) (valueOf (gOf w) (2 * p)) e (h .trail .vals (2 * p) (omega (arith, b)))))))
+
+  -- nothing
+  pub looked-none : {m : List ℕ} → Units m → c ≡ 0 → Visited t n w m p w m
+  looked-none u z = record {
+    beside = beside-same w;
+    units = u;
+    lower = omega arith;
+    closed = λ k. k;
+    here = λ q i e. let s = says q i e .none z in renewed-same t few h i u (s .1) (s .0) .here;
+    late = λ q i e. e;
+    else = λ q i k. (refl, refl);
+  }
+
+  module _ {e : ℕ} (entry : e ≡ entryOf (tail w) p) (d : c ≡ 0 → ⊥) where
+    some-e : e ≡ 0 → ⊥
+    some-e z = class-held d (sym entry ∙ z)
+
+    abbrev at : ℕ
+    at = (e - 1) / 2
+
+    pub looked-low : at < tail w 0
+    looked-low = at-low t h b entry some-e
+
+    at-says : Says n (statesAt t (gOf w) (tail w) at) o c
+    at-says = says at looked-low (at-node t h b entry some-e)
+
+    pub looked-conflict : {m w′ : List ℕ} → Units m → c ≡ 1 → Lowered w at w′ → Visited t n w m p w′ m
+    looked-conflict u z k = visited t h b entry some-e few (renewed-empty t few h looked-low u (at-says .conflict z) k)
+
+    pub looked-kept : (c ≡ 1 → ⊥) → keptBy o c < 65536
+    looked-kept z = at-says .kept-low (omega (arith, d, z)) .0
+
+    pub looked-unit : {m w′ m′ : List ℕ} {k : ℕ} → (c ≡ 1 → ⊥) → k ≡ keptBy o c → Flagged w m at k w′ m′ → Visited t n w m p w′ m′
+    looked-unit {m} {w′} {m′} {k} z y g =
+        let i : 2 ≤ c = omega (arith, d, z) in
+        visited t h b entry some-e few
+        (renewed-unit t few h looked-low (at-says .free i) (at-says .unit i) (subst (Forces (statesAt t (gOf w) (tail w) at)) (sym y) (at-says .kept i)) (rw y (at-says .kept-low i .1)) g)

@@ -5,52 +5,132 @@ use mathlib.Core.List.{List}
 use Prim.Native.Nat.{ℕ, _+_, _-_, _*_, _/_, _%_, _<_, _≤_}
 use lib.ListN.{getD, length}
 use Rattle.scope.specs.declared.Node.{Node}
-use Rattle.calculus.specs.Expansion.{neg}
-use Rattle.calculus.specs.Order.{holds, valueOf}
+use Rattle.calculus.specs.Expansion.{neg, expand}
+use Rattle.calculus.specs.Model.{Goals}
+use Rattle.calculus.specs.Order.{holds, undecided, valueOf}
 use Rattle.index.specs.Index.{mostNodes, opNode}
-use Rattle.units.specs.Units.{positions, member, Units, Empty, Putted}
+use Rattle.index.specs.Edges.{PairAt, ThreeAt, parentOf, edgeAt}
+use Rattle.units.specs.Units.{positions, member, Units, Empty, Putted, First}
 use Rattle.state.specs.Work.{tail, litAt, baseOf, cursorAt, codeAt, gOf, cursorOf, conflictOf, waitingOf, Ready, trailAt, codesAt}
-use Rattle.state.specs.Holds.{Entered, Closed, Waiting, deniedAt, deniedOf}
+use Rattle.state.specs.Holds.{Entered, Late, FirstLive, Closed, Waiting, Holds, deniedAt, deniedOf}
+use Rattle.state.specs.Changes.{codeSet, Pushed, baseSet}
+use Rattle.state.specs.Picked.{noUnit}
 
 -- before the codes only the first conflict is changed
 pub record Beside (w w′ : List ℕ) : Type 0 where
   pub size : length w′ ≡ length w
   pub other : (i : ℕ) → (i ≡ 1 → ⊥) → i < trailAt + codesAt → getD w′ i 0 ≡ getD w i 0
 
--- position q is in the set as its code says, which is kept, and the first conflict is not after q if the code has one
-pub record Marked (w m : List ℕ) (q code : ℕ) (w′ m′ : List ℕ) : Type 0 where
-  pub beside : Beside w w′
-  pub putted : Putted m q (code % 2) m′
-  pub stored : codeAt (tail w′) q ≡ code
-  pub codes : (p : ℕ) → (p ≡ q → ⊥) → codeAt (tail w′) p ≡ codeAt (tail w) p
+-- a clause at position q is all false: the first conflict is not after q
+pub record Lowered (w : List ℕ) (q : ℕ) (w′ : List ℕ) : Type 0 where
+  pub size : length w′ ≡ length w
+  pub other : (i : ℕ) → (i ≡ 1 → ⊥) → getD w′ i 0 ≡ getD w i 0
   pub lower : conflictOf w′ ≤ conflictOf w
-  pub least : code / 2 % 2 ≡ 1 → conflictOf w′ ≤ q
-  pub from : (conflictOf w′ ≡ conflictOf w) ⊎ ((conflictOf w′ ≡ q) × (code / 2 % 2 ≡ 1))
+  pub least : conflictOf w′ ≤ q
+  pub from : (conflictOf w′ ≡ conflictOf w) ⊎ (conflictOf w′ ≡ q)
 
--- the position of node p's literal, if it is held, is entered, and no other is changed
-pub record Renewed (t : ℕ → Node) (w m : List ℕ) (p : ℕ) (w′ m′ : List ℕ) : Type 0 where
+-- position q is in the set, and k is kept of it
+pub record Flagged (w m : List ℕ) (q k : ℕ) (w′ m′ : List ℕ) : Type 0 where
+  pub stored : w′ ≡ codeSet w q k
+  pub putted : Putted m q 1 m′
+
+-- position q is entered, and no other is changed
+pub record Renewed (t : ℕ → Node) (n : ℕ) (w m : List ℕ) (q : ℕ) (w′ m′ : List ℕ) : Type 0 where
+  pub beside : Beside w w′
+  pub units : Units m′
+  pub lower : conflictOf w′ ≤ conflictOf w
+  pub closed : Closed t (gOf w) (tail w) (conflictOf w) → Closed t (gOf w′) (tail w′) (conflictOf w′)
+  pub here : Entered t (gOf w′) (tail w′) (conflictOf w′) m′ q
+  pub late : Late t n (gOf w) (tail w) (conflictOf w) m q → Late t n (gOf w′) (tail w′) (conflictOf w′) m′ q
+  pub else : (j : ℕ) → j < positions → (j ≡ q → ⊥) → (member m′ j ≡ member m j) × (codeAt (tail w′) j ≡ codeAt (tail w) j)
+
+-- so is the position of node p's literal, if that is held
+pub record Visited (t : ℕ → Node) (n : ℕ) (w m : List ℕ) (p : ℕ) (w′ m′ : List ℕ) : Type 0 where
   pub beside : Beside w w′
   pub units : Units m′
   pub lower : conflictOf w′ ≤ conflictOf w
   pub closed : Closed t (gOf w) (tail w) (conflictOf w) → Closed t (gOf w′) (tail w′) (conflictOf w′)
   pub here : (q : ℕ) → q < tail w 0 → litAt (tail w) q / 2 ≡ p → Entered t (gOf w′) (tail w′) (conflictOf w′) m′ q
+  pub late : (q : ℕ) → q < tail w 0 → Late t n (gOf w) (tail w) (conflictOf w) m q → Late t n (gOf w′) (tail w′) (conflictOf w′) m′ q
   pub else : (q : ℕ) → q < positions → (q < tail w 0 → litAt (tail w) q / 2 ≡ p → ⊥) → (member m′ q ≡ member m q) × (codeAt (tail w′) q ≡ codeAt (tail w) q)
 
--- an operand cell of node p, at or below s, names a node
+-- an operand cell of node p names a node
 abbrev pub Pending : (ℕ → Node) → ℕ → ℕ → ℕ → Type 0
-Pending t node s p = (y : ℕ) × (y ≤ s) × (opNode t y ≡ node) × (y / 4 ≡ p)
+Pending t n node p = (y : ℕ) × (y < 4 * n) × (opNode t y ≡ node) × (y / 4 ≡ p)
 
--- along the links of a node, at cell s: each position is entered, or waits for a cell that names the node
-pub record Walk (t : ℕ → Node) (n node s : ℕ) (w₀ m₀ w m : List ℕ) : Type 0 where
+-- from offset k on, node m has an edge from p, which has two operands; or three
+abbrev pub PairFrom : List ℕ → ℕ → ℕ → ℕ → Type 0
+PairFrom x m k p = (j : ℕ) × (k ≤ j) × PairAt x m j × (parentOf x j ≡ p)
+
+abbrev pub ThreeFrom : List ℕ → ℕ → ℕ → ℕ → Type 0
+ThreeFrom x m k p = (j : ℕ) × (k ≤ j) × ThreeAt x m j × (edgeAt x j ≡ p)
+
+-- along the parents of a node: each position is entered, or its node, one of them, is still to come
+pub record Walk (t : ℕ → Node) (n : ℕ) (to-come : ℕ → Type 0) (w₀ m₀ w m : List ℕ) : Type 0 where
   pub beside : Beside w₀ w
   pub units : Units m
   pub closed : Closed t (gOf w) (tail w) (conflictOf w)
-  pub waits : (q : ℕ) → q < tail w₀ 0 → Entered t (gOf w) (tail w) (conflictOf w) m q ⊎ Pending t node s (litAt (tail w₀) q / 2)
+  pub waits : (q : ℕ) → q < tail w₀ 0 → Entered t (gOf w) (tail w) (conflictOf w) m q ⊎ to-come (litAt (tail w₀) q / 2)
+  pub late : (q : ℕ) → q < tail w₀ 0 → Late t n (gOf w) (tail w) (conflictOf w) m q
   pub else : (q : ℕ) → tail w₀ 0 ≤ q → q < positions → member m q ≡ member m₀ q
 
 -- what the walk starts from: a position that is not entered is one of a parent of the node
 abbrev pub Touchable : (ℕ → Node) → ℕ → ℕ → List ℕ → List ℕ → Type 0
-Touchable t n node w m = Walk t n node (4 * n) w m w m
+Touchable t n node w m = Walk t n (Pending t n node) w m w m
+
+-- and what it ends with
+abbrev pub Touched : (ℕ → Node) → ℕ → List ℕ → List ℕ → List ℕ → List ℕ → Type 0
+Touched t n w₀ m₀ w m = Walk t n (λ _. ⊥) w₀ m₀ w m
+
+-- ---- the set of units
+
+-- m₀ is m, but that positions may be left out whose units force l
+pub record Taken (w m : List ℕ) (l : ℕ) (m₀ : List ℕ) : Type 0 where
+  pub units : Units m₀
+  pub same : (q : ℕ) → q < positions → (member m₀ q ≡ member m q) ⊎ ((member m₀ q ≡ 0) × (member m q ≡ 1) × (codeAt (tail w) q % 4096 ≡ l))
+
+-- what forces a literal that is undecided stays in the set, and nothing joins it
+pub record Dropped (w m m′ : List ℕ) : Type 0 where
+  pub units : Units m′
+  pub less : (q : ℕ) → q < positions → member m q ≡ 0 → member m′ q ≡ 0
+  pub from : (q : ℕ) → q < positions → member m′ q ≡ 1 → member m q ≡ 1
+  pub kept : (q : ℕ) → q < positions → member m q ≡ 1 → valueOf (gOf w) (codeAt (tail w) q % 4096) ≡ undecided → member m′ q ≡ 1
+
+-- what is kept of each position in the set forces a literal of the n nodes
+abbrev pub Forcing : ℕ → List ℕ → List ℕ → Type 0
+Forcing n w m = (q : ℕ) → q < positions → member m q ≡ 1 → (q < mostNodes) × (codeAt (tail w) q % 4096 < 2 * n)
+
+-- the first position of the set, if it has one, forces an undecided literal; u is its unit, or `noUnit`
+pub record Lived (w m m′ : List ℕ) (u : ℕ) : Type 0 where
+  pub dropped : Dropped w m m′
+  pub first : (q : ℕ) → First m′ q → valueOf (gOf w) (codeAt (tail w) q % 4096) ≡ undecided
+  pub next : (u ≡ noUnit → ⊥) → First m′ (u / 65536) × (codeAt (tail w) (u / 65536) ≡ u % 65536)
+
+-- the same where there is no conflict; behind one u is `noUnit`
+pub record Tidied (w m m′ : List ℕ) (u : ℕ) : Type 0 where
+  pub dropped : Dropped w m m′
+  pub first : FirstLive (gOf w) (tail w) (conflictOf w) m′
+  pub next : (u ≡ noUnit → ⊥) → (mostNodes ≤ conflictOf w) × First m′ (u / 65536) × (codeAt (tail w) (u / 65536) ≡ u % 65536)
+
+-- what a joining literal asks: the work area holds, for some goals, with the set as it was before a position was taken out of it
+abbrev pub Held : (ℕ → Node) → ℕ → List ℕ → ℕ → List ℕ → Type 0
+Held t n w l m₀ = (goals : List ℕ) × (m : List ℕ) × Goals n goals × Holds t n goals w m × Taken w m l m₀
+
+-- what it does, but for the goals that wait: it is pushed, its own position and those of its parents are entered, its clauses are counted,
+-- and the set is tidied
+pub record Attached (t : ℕ → Node) (n l : ℕ) (w m₀ w′ m′ : List ℕ) (u : ℕ) : Type 0 where
+  pub w₁ : List ℕ
+  pub w₂ : List ℕ
+  pub m₂ : List ℕ
+  pub w₃ : List ℕ
+  pub m₃ : List ℕ
+  pub more : ℕ
+  pub pushed : Pushed n l w w₁
+  pub own : Renewed t n w₁ m₀ (tail w 0) w₂ m₂
+  pub parents : Touched t n w₂ m₂ w₃ m₃
+  pub clauses : more ≡ length (expand t l)
+  pub based : w′ ≡ baseSet w₃ (tail w 0) more
+  pub tidied : Tidied w′ m₃ m′ u
 
 -- ---- the goals
 

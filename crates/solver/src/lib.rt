@@ -1,21 +1,24 @@
-// The solver's state changes: start, restart, assume, undo_to. A literal that joins changes what the clauses of its node's held parents come
+// The solver's state changes: start, restart, assume, join, undo_to. A literal that joins changes what the clauses of its node's held parents come
 // to, and nothing else. Nothing is noted for the way back: what undo_to goes back to had a split as its move, so no clause was a unit or all
 // false there.
 // The work area's layout is in crate state, specs/Work.antt, the index's in crate index.
 ghost use mathlib.Core.Path.{_≡_};
 ghost use mathlib.Core.Bool.{false};
 ghost use mathlib.Core.List.{[], _∷_};
-ghost use Prim.Native.Nat.{_+_, _-_, _*_, _%_, _≤_, _<_};
+ghost use Prim.Native.Nat.{ℕ, _+_, _-_, _*_, _/_, _%_, _≤_, _<_};
 ghost use lib.ListN.{length, set, drop};
 ghost use Rattle.calculus.specs.Expansion.{expand};
+ghost use Rattle.calculus.specs.Order.{holds, valueOf};
 ghost use Rattle.calculus.specs.Model.{Goals, Fresh};
 ghost use Rattle.index.specs.Index.{mostNodes, indexNode};
+ghost use Rattle.index.specs.Edges.{PairAt, parentOf};
 ghost use Rattle.index.specs.Indexed.{Indexed};
-ghost use Rattle.units.specs.Units.{words, Units, Empty};
-ghost use Rattle.clause.specs.Coded.{statesOf, Coded};
-ghost use Rattle.state.specs.Work.{area, tail, gOf, entryOf, Ready, trailAt, basesAt};
-ghost use Rattle.state.specs.Holds.{Holds, Splits, Waiting, deniedAt};
-ghost use Rattle.solver.specs.Changes.{Marked, Renewed, Walk, Touchable, Served, Awaited, Settled, Left, Apart};
+ghost use Rattle.units.specs.Units.{words, positions, member, Units, Empty};
+ghost use Rattle.clause.specs.Coded.{Coded};
+ghost use Rattle.state.specs.Work.{area, tail, litAt, gOf, Ready, trailAt, basesAt};
+ghost use Rattle.state.specs.Holds.{Holds, Splits, Waiting, statesAt, deniedAt};
+ghost use Rattle.state.specs.Picked.{Picked, Picks};
+ghost use Rattle.solver.specs.Changes.{Lowered, Flagged, Renewed, Visited, ThreeFrom, Walk, Touchable, Touched, Forcing, Lived, Tidied, Taken, Held, Attached, Served, Awaited, Settled, Left, Apart};
 
 // The cells of the work area.
 const CURSOR: usize = 0;
@@ -35,68 +38,165 @@ const BASES: usize = 4034;
 // No position.
 const NONE: u16 = 2016;
 
-// The index: each node's link to its last operand cell, and each cell's to the one before it.
-const HEADS: usize = 8064;
+// No unit.
+const NO_UNIT: u32 = 4294967295;
 
-const LINKS: usize = 10080;
+// The index: where each node's edges from parents of two operands start, where those from parents of three do, and where they end.
+const FIRST: usize = 8064;
 
-// What the clauses of position q come to is entered, and kept.
-fn enter(work: &mut [u16], masks: &mut [u64], q: usize, code: u16)
-    requires { ⌜ Units (now masks) ⌝ }
+const MID: usize = 10080;
+
+const END: usize = 12096;
+
+// A clause at position q is all false.
+fn conflict(work: &mut [u16], q: usize)
     requires { ⌜ (area ≤ length (now work)) × (q < mostNodes) ⌝ }
-    ensures { λ _. ⌜ Marked (now (work .entry)) (now (masks .entry)) q code (now (work .exit)) (now (masks .exit)) ⌝ }
+    ensures { λ _. ⌜ Lowered (now (work .entry)) q (now (work .exit)) ⌝ }
 {
-    state::put_code(work, q, code);
-    units::put(masks, q, (code % 2) as u64);
-    if (code / 2) % 2 == 1 {
-        if (q as u16) < work[CONFLICT] {
-            work[CONFLICT] = q as u16;
-        }
+    if (q as u16) < work[CONFLICT] {
+        work[CONFLICT] = q as u16;
     }
 }
 
-// So is what those of node p's literal come to, which is held by entry e. The answer is its code.
-fn renew(x: &[u16], n: usize, work: &mut [u16], masks: &mut [u64], p: usize, e: usize) -> u16
-    requires { ⌜ Indexed (now x) n ⌝ }
-    requires { ⌜ Ready n (now work) ⌝ }
+// Position q has a unit; what it forces is kept.
+fn unit(work: &mut [u16], masks: &mut [u64], q: usize, kept: u16)
     requires { ⌜ Units (now masks) ⌝ }
-    requires { ⌜ (p < n) × (e ≡ entryOf (tail (now work)) p) × (0 < e) ⌝ }
-    ensures { λ _. ⌜ Renewed (indexNode (now (x .entry))) (now (work .entry)) (now (masks .entry)) p (now (work .exit)) (now (masks .exit)) ⌝ }
-    ensures { λ r. ⌜ Coded (indexNode (now (x .entry)) p) (statesOf (indexNode (now (x .entry))) (gOf (now (work .entry))) (2 * p + (e - 1) % 2)) r ⌝ }
+    requires { ⌜ (area ≤ length (now work)) × (q < mostNodes) ⌝ }
+    ensures { λ _. ⌜ Flagged (now (work .entry)) (now (masks .entry)) q kept (now (work .exit)) (now (masks .exit)) ⌝ }
 {
-    let code = clause::code(x, n, work, p, (e - 1) % 2);
-    enter(work, masks, (e - 1) / 2, code);
+    state::put_code(work, q, kept);
+    units::add(masks, q);
+}
+
+// What the clauses of node p's literal, at position q, come to is entered, by its code.
+fn enter(x: &[u16], n: usize, work: &mut [u16], masks: &mut [u64], p: usize, q: usize, code: u16)
+    requires { ⌜ Indexed (now x) n ⌝ }
+    requires { ⌜ Ready n (now work) × Units (now masks) ⌝ }
+    requires { ⌜ (q < tail (now work) 0) × (litAt (tail (now work)) q / 2 ≡ p) × (p < n) ⌝ }
+    requires { ⌜ Coded (indexNode (now x) p) (statesAt (indexNode (now x)) (gOf (now work)) (tail (now work)) q) code ⌝ }
+    ensures { λ _. ⌜ Renewed (indexNode (now (x .entry))) n (now (work .entry)) (now (masks .entry)) q (now (work .exit)) (now (masks .exit)) ⌝ }
+{
+    if (code / 2) % 2 == 1 {
+        conflict(work, q);
+        return;
+    }
+    if code % 2 == 1 {
+        let l = clause::choose(x, n, p, ((code / 32) % 8) as usize);
+        unit(work, masks, q, l + 4096 * ((code / 8) % 4));
+    }
+}
+
+// So are they worked out and entered; the answer is the code.
+fn renew(
+    x: &[u16],
+    n: usize,
+    work: &mut [u16],
+    masks: &mut [u64],
+    p: usize,
+    q: usize,
+    sign: usize,
+) -> u16
+    requires { ⌜ Indexed (now x) n ⌝ }
+    requires { ⌜ Ready n (now work) × Units (now masks) ⌝ }
+    requires { ⌜ (q < tail (now work) 0) × (litAt (tail (now work)) q ≡ 2 * p + sign) × (p < n) × (sign < 2) ⌝ }
+    ensures { λ _. ⌜ Renewed (indexNode (now (x .entry))) n (now (work .entry)) (now (masks .entry)) q (now (work .exit)) (now (masks .exit)) ⌝ }
+    ensures { λ r. ⌜ Coded (indexNode (now (x .entry)) p) (statesAt (indexNode (now (x .entry))) (gOf (now (work .entry))) (tail (now (work .entry))) q) r ⌝ }
+{
+    let code = clause::code(x, n, work, p, sign);
+    enter(x, n, work, masks, p, q, code);
     code
 }
 
 // The same, if node p's literal is held.
 fn visit(x: &[u16], n: usize, work: &mut [u16], masks: &mut [u64], p: usize)
     requires { ⌜ Indexed (now x) n ⌝ }
-    requires { ⌜ Ready n (now work) ⌝ }
-    requires { ⌜ Units (now masks) ⌝ }
+    requires { ⌜ Ready n (now work) × Units (now masks) ⌝ }
     requires { ⌜ p < n ⌝ }
-    ensures { λ _. ⌜ Renewed (indexNode (now (x .entry))) (now (work .entry)) (now (masks .entry)) p (now (work .exit)) (now (masks .exit)) ⌝ }
+    ensures { λ _. ⌜ Visited (indexNode (now (x .entry))) n (now (work .entry)) (now (masks .entry)) p (now (work .exit)) (now (masks .exit)) ⌝ }
 {
-    let e = state::entry(work, p);
+    let e = state::entry(work, p) as usize;
     if e == 0 {
         return;
     }
-    renew(x, n, work, masks, p, e as usize);
+    renew(x, n, work, masks, p, (e - 1) / 2, (e - 1) % 2);
 }
 
-// So is what the clauses of the parents of a node come to.
-fn touch(x: &[u16], n: usize, work: &mut [u16], masks: &mut [u64], node: usize)
+// The edge of a node at offset k, as the node's literal of a sign has become true: so is what the clauses of its parent's literal come to,
+// if that is held.
+fn look(
+    x: &[u16],
+    n: usize,
+    work: &mut [u16],
+    masks: &mut [u64],
+    node: usize,
+    k: usize,
+    sign: usize,
+)
+    requires { ⌜ Indexed (now x) n ⌝ }
+    requires { ⌜ Ready n (now work) × Units (now masks) ⌝ }
+    requires { ⌜ (node < n) × PairAt (now x) node k × (sign < 2) ⌝ }
+    requires { ⌜ valueOf (gOf (now work)) (2 * node + sign) ≡ holds ⌝ }
+    ensures { λ _. ⌜ Visited (indexNode (now (x .entry))) n (now (work .entry)) (now (masks .entry)) (parentOf (now (x .entry)) k) (now (work .exit)) (now (masks .exit)) ⌝ }
+{
+    let class = clause::class(x, n, work, node, k, sign);
+    if class == 0 {
+        return;
+    }
+    let p = clause::parent(x, n, node, k);
+    let e = state::entry(work, p) as usize;
+    let q = (e - 1) / 2;
+    if class == 1 {
+        conflict(work, q);
+        return;
+    }
+    let other = clause::other(x, n, node, k);
+    let kept = clause::kept(other, class);
+    unit(work, masks, q, kept);
+}
+
+// So with all parents of two operands of a node.
+fn touch_pairs(x: &[u16], n: usize, work: &mut [u16], masks: &mut [u64], node: usize, sign: usize)
     requires { ⌜ Indexed (now x) n ⌝ }
     requires { ⌜ Ready n (now work) ⌝ }
     requires { ⌜ Touchable (indexNode (now x)) n node (now work) (now masks) ⌝ }
-    requires { ⌜ node < n ⌝ }
-    ensures { λ _. ⌜ Walk (indexNode (now (x .entry))) n node 0 (now (work .entry)) (now (masks .entry)) (now (work .exit)) (now (masks .exit)) ⌝ }
+    requires { ⌜ (node < n) × (sign < 2) × (valueOf (gOf (now work)) (2 * node + sign) ≡ holds) ⌝ }
+    ensures { λ _. ⌜ Walk (indexNode (now (x .entry))) n (ThreeFrom (now (x .entry)) node 0) (now (work .entry)) (now (masks .entry)) (now (work .exit)) (now (masks .exit)) ⌝ }
 {
-    let mut s = x[HEADS + node] as usize;
-    while s != 0 {
-        visit(x, n, work, masks, s / 4);
-        s = x[LINKS + s] as usize;
+    let mut k = x[FIRST + node] as usize;
+    let end = x[MID + node] as usize;
+    while k < end {
+        look(x, n, work, masks, node, k, sign);
+        k += 2;
     }
+}
+
+// So with those of three.
+fn touch_threes(x: &[u16], n: usize, work: &mut [u16], masks: &mut [u64], node: usize)
+    requires { ⌜ Indexed (now x) n ⌝ }
+    requires { ⌜ Ready n (now work) ⌝ }
+    requires { ⌜ Walk (indexNode (now x)) n (ThreeFrom (now x) node 0) (now work) (now masks) (now work) (now masks) ⌝ }
+    requires { ⌜ node < n ⌝ }
+    ensures { λ _. ⌜ Touched (indexNode (now (x .entry))) n (now (work .entry)) (now (masks .entry)) (now (work .exit)) (now (masks .exit)) ⌝ }
+{
+    let mut k = x[MID + node] as usize;
+    let end = x[END + node] as usize;
+    while k < end {
+        let p = clause::parent_of_three(x, n, node, k);
+        visit(x, n, work, masks, p);
+        k += 1;
+    }
+}
+
+// So with all parents of a node.
+fn touch(x: &[u16], n: usize, work: &mut [u16], masks: &mut [u64], node: usize, sign: usize)
+    requires { ⌜ Indexed (now x) n ⌝ }
+    requires { ⌜ Ready n (now work) ⌝ }
+    requires { ⌜ Touchable (indexNode (now x)) n node (now work) (now masks) ⌝ }
+    requires { ⌜ (node < n) × (sign < 2) × (valueOf (gOf (now work)) (2 * node + sign) ≡ holds) ⌝ }
+    ensures { λ _. ⌜ Touched (indexNode (now (x .entry))) n (now (work .entry)) (now (masks .entry)) (now (work .exit)) (now (masks .exit)) ⌝ }
+{
+    touch_pairs(x, n, work, masks, node, sign);
+    touch_threes(x, n, work, masks, node);
 }
 
 // How many goals wait: the first that is not true, and all behind it.
@@ -157,6 +257,66 @@ fn wait(n: usize, goals: &[u16], work: &mut [u16], l: u16)
     }
 }
 
+// The first position of the set that forces an undecided literal, with what is kept of it; positions before it leave the set.
+fn live(n: usize, work: &[u16], masks: &mut [u64]) -> u32
+    requires { ⌜ Ready n (now work) × (n ≤ mostNodes) ⌝ }
+    requires { ⌜ Units (now masks) × Forcing n (now work) (now masks) ⌝ }
+    ensures { λ r. ⌜ Lived (now (work .entry)) (now (masks .entry)) (now (masks .exit)) r ⌝ }
+{
+    while units::some(masks) {
+        let q = units::first(masks);
+        let kept = state::code(work, q);
+        if state::value(n, work, kept % 4096) == 0 {
+            return 65536 * (q as u32) + kept as u32;
+        }
+        units::leave(masks, q);
+    }
+    NO_UNIT
+}
+
+// The same where there is no conflict.
+fn next_unit(n: usize, work: &[u16], masks: &mut [u64]) -> u32
+    requires { ⌜ Ready n (now work) × (n ≤ mostNodes) ⌝ }
+    requires { ⌜ Units (now masks) × Forcing n (now work) (now masks) ⌝ }
+    ensures { λ r. ⌜ Tidied (now (work .entry)) (now (masks .entry)) (now (masks .exit)) r ⌝ }
+{
+    if work[CONFLICT] < NONE {
+        return NO_UNIT;
+    }
+    live(n, work, masks)
+}
+
+// A literal, which is undecided, joins those held; which goals wait is not looked at. The answer is the next unit of the set, or NO_UNIT.
+fn attach(x: &[u16], n: usize, work: &mut [u16], masks: &mut [u64], l: u16) -> u32
+    requires { ⌜ Indexed (now x) n ⌝ }
+    requires { ⌜ Held (indexNode (now x)) n (now work) l (now masks) ⌝ }
+    requires { ⌜ Fresh n (gOf (now work)) l ⌝ }
+    ensures { λ r. ⌜ Attached (indexNode (now (x .entry))) n l (now (work .entry)) (now (masks .entry)) (now (work .exit)) (now (masks .exit)) r ⌝ }
+{
+    let h = state::count(work);
+    let node = (l / 2) as usize;
+    let sign = (l % 2) as usize;
+    state::push(n, work, l);
+    let code = renew(x, n, work, masks, node, h as usize, sign);
+    touch(x, n, work, masks, node, sign);
+    state::number(work, h as usize, code / 8192);
+    next_unit(n, work, masks)
+}
+
+// Where the first position of the set forces l, it leaves the set.
+fn serve(work: &[u16], masks: &mut [u64], l: u16)
+    requires { ⌜ area ≤ length (now work) ⌝ }
+    requires { ⌜ Units (now masks) × ((q : ℕ) → q < positions → member (now masks) q ≡ 1 → q < mostNodes) ⌝ }
+    ensures { λ _. ⌜ Taken (now (work .entry)) (now (masks .entry)) l (now (masks .exit)) ⌝ }
+{
+    if units::some(masks) {
+        let q = units::first(masks);
+        if state::code(work, q) % 4096 == l {
+            units::leave(masks, q);
+        }
+    }
+}
+
 // A literal, which is undecided, is assumed true.
 pub fn assume(x: &[u16], n: usize, goals: &[u16], work: &mut [u16], masks: &mut [u64], l: u16)
     requires { ⌜ Indexed (now x) n ⌝ }
@@ -166,14 +326,23 @@ pub fn assume(x: &[u16], n: usize, goals: &[u16], work: &mut [u16], masks: &mut 
     ensures { λ _. ⌜ Holds (indexNode (now (x .entry))) n (now (goals .entry)) (now (work .exit)) (now (masks .exit)) ⌝ }
     ensures { λ _. ⌜ gOf (now (work .exit)) ≡ l ∷ gOf (now (work .entry)) ⌝ }
 {
-    let h = state::count(work);
-    let node = (l / 2) as usize;
-    state::push(n, work, l);
-    let e = state::entry(work, node);
-    let code = renew(x, n, work, masks, node, e as usize);
-    touch(x, n, work, masks, node);
-    state::number(work, h as usize, code / 8192);
+    serve(work, masks, l);
+    attach(x, n, work, masks, l);
     wait(n, goals, work, l);
+}
+
+// The unit that is the next move joins. The answer is the one behind it, or NO_UNIT, and then the next move is to be looked for.
+pub fn join(x: &[u16], n: usize, goals: &[u16], work: &mut [u16], masks: &mut [u64], u: u32) -> u32
+    requires { ⌜ Indexed (now x) n ⌝ }
+    requires { ⌜ Goals n (now goals) ⌝ }
+    requires { ⌜ Holds (indexNode (now x)) n (now goals) (now work) (now masks) ⌝ }
+    requires { ⌜ Picked (now work) (now masks) u ⌝ }
+    ensures { λ _. ⌜ Holds (indexNode (now (x .entry))) n (now (goals .entry)) (now (work .exit)) (now (masks .exit)) ⌝ }
+    ensures { λ _. ⌜ gOf (now (work .exit)) ≡ u % 4096 ∷ gOf (now (work .entry)) ⌝ }
+    ensures { λ r. ⌜ Picks (now (work .exit)) (now (masks .exit)) r ⌝ }
+{
+    units::leave(masks, (u / 65536) as usize);
+    attach(x, n, work, masks, (u % 4096) as u16)
 }
 
 // No clause is a unit.

@@ -19,7 +19,7 @@ entrySet u h l = set (set (set u (trailAt + (entriesAt + l / 2)) (2 * h + l % 2 
 abbrev pub baseSet : List ℕ → ℕ → ℕ → List ℕ
 baseSet w h more = set w (trailAt + (basesAt + (h + 1))) (baseOf (tail w) h + more)
 
--- the code of position q is kept
+-- what the first unit of position q forces is kept
 abbrev pub codeSet : List ℕ → ℕ → ℕ → List ℕ
 codeSet w q code = set w (trailAt + (codesAt + q)) code
 

@@ -2,26 +2,37 @@
 use mathlib.Core.Path.{_≡_}
 use mathlib.Core.Bool.{true}
 use mathlib.Core.List.{List}
-use Prim.Native.Nat.{ℕ, _-_, _/_, _<_, _≤_}
+use Prim.Native.Nat.{ℕ, _-_, _*_, _%_, _<_, _≤_}
 use lib.ListN.{getD, length}
 use Rattle.scope.specs.declared.Node.{Node}
-use Rattle.calculus.specs.Order.{State, met, holds, fails, valueOf, isEmpty, isOne, some, bit, move}
+use Rattle.calculus.specs.Order.{State, met, holds, fails, undecided, valueOf, isEmpty, isOne, some, move}
 use Rattle.calculus.specs.Model.{All}
 use Rattle.calculus.specs.declared.Move.the-variants.{Split}
 use Rattle.index.specs.Index.{mostNodes}
-use Rattle.units.specs.Units.{positions, member, Units}
-use Rattle.clause.specs.Coded.{statesOf, Coded}
+use Rattle.units.specs.Units.{positions, member, Units, First}
+use Rattle.clause.specs.Coded.{statesOf}
+pub use Rattle.clause.specs.Classed.{Forces}
 use Rattle.state.specs.Work.{tail, gOf, litAt, trail, cursorAt, codeAt, cursorOf, conflictOf, waitingOf, Ready, Numbered}
 
 -- what the clauses of the literal at position q are under G
 abbrev pub statesAt : (ℕ → Node) → List ℕ → (ℕ → ℕ) → ℕ → List State
 statesAt t G r q = statesOf t G (litAt r q)
 
--- position q is in the set exactly if a clause of its literal is a unit, and then its code is kept; it is not before c if one is all false
+-- where there is no conflict, position q is in the set if a clause of its literal is a unit, and what the first forces is kept; it is not
+-- before c if a clause is all false
 pub record Entered (t : ℕ → Node) (G : List ℕ) (r : ℕ → ℕ) (c : ℕ) (m : List ℕ) (q : ℕ) : Type 0 where
-  pub unit : member m q ≡ bit (some isOne (statesAt t G r q))
-  pub code : member m q ≡ 1 → Coded (t (litAt r q / 2)) (statesAt t G r q) (codeAt r q)
+  pub unit : mostNodes ≤ c → some isOne (statesAt t G r q) ≡ true → (member m q ≡ 1) × Forces (statesAt t G r q) (codeAt r q)
   pub conflict : some isEmpty (statesAt t G r q) ≡ true → c ≤ q
+
+-- where position q is in the set, what is kept of it forces a literal of the n nodes; where there is no conflict and that is undecided, a
+-- clause is a unit. So a position may stay in the set when its unit is met
+pub record Late (t : ℕ → Node) (n : ℕ) (G : List ℕ) (r : ℕ → ℕ) (c : ℕ) (m : List ℕ) (q : ℕ) : Type 0 where
+  pub low : member m q ≡ 1 → codeAt r q % 4096 < 2 * n
+  pub live : mostNodes ≤ c → member m q ≡ 1 → valueOf G (codeAt r q % 4096) ≡ undecided → some isOne (statesAt t G r q) ≡ true
+
+-- where there is no conflict, the first position of the set has a unit
+abbrev pub FirstLive : List ℕ → (ℕ → ℕ) → ℕ → List ℕ → Type 0
+FirstLive G r c m = mostNodes ≤ c → (q : ℕ) → First m q → valueOf G (codeAt r q % 4096) ≡ undecided
 
 -- c is no position, or one that has a clause that is all false
 abbrev pub Closed : (ℕ → Node) → List ℕ → (ℕ → ℕ) → ℕ → Type 0
@@ -52,6 +63,8 @@ pub record Holds (t : ℕ → Node) (n : ℕ) (goals w m : List ℕ) : Type 0 wh
   pub numbered : Numbered t goals (tail w)
   pub units : Units m
   pub entered : (q : ℕ) → q < tail w 0 → Entered t (gOf w) (tail w) (conflictOf w) m q
+  pub late : (q : ℕ) → q < tail w 0 → Late t n (gOf w) (tail w) (conflictOf w) m q
+  pub first : FirstLive (gOf w) (tail w) (conflictOf w) m
   pub clear : (q : ℕ) → tail w 0 ≤ q → q < positions → member m q ≡ 0
   pub closed : Closed t (gOf w) (tail w) (conflictOf w)
   pub cursor : cursorOf w ≤ tail w 0

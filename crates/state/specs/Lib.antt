@@ -2,3 +2,4 @@
 pub mod Work
 pub mod Holds
 pub mod Changes
+pub mod Picked

@@ -1,7 +1,7 @@
 -- The layout of the work area: four cells (the cursor, the first conflict, how many goals wait, the place of the last move), and from 4 on
 -- the trail: how many literals are held true, the literals in the order they joined, each node's entry, how many clauses stand before each
--- literal's, each literal's value, the cursor as each literal joined, a cell that is 0 only where no goal is false (specs/Holds), and the
--- code that was kept of each literal's clauses. Assumes nothing.
+-- literal's, each literal's value, the cursor as each literal joined, a cell that is 0 only where no goal is false (specs/Holds), and what
+-- is kept of the units among each literal's clauses: the literal that the first forces, and 4,096 times which clause it is. Assumes nothing.
 use mathlib.Core.Path.{_≡_}
 use mathlib.Core.List.{List}
 use Prim.Native.Nat.{ℕ, _+_, _≤_}
@@ -62,8 +62,8 @@ waitingOf w = getD w 2 0
 abbrev pub placeOf : List ℕ → ℕ
 placeOf w = getD w 3 0
 
--- of a trail r: how many clauses stand before those of position q, what the cursor was as the literal at q joined, and the code that was
--- kept of its clauses
+-- of a trail r: how many clauses stand before those of position q, what the cursor was as the literal at q joined, and what is kept of its
+-- units
 abbrev pub baseOf : (ℕ → ℕ) → ℕ → ℕ
 baseOf r q = r (basesAt + q)
 

@@ -12,7 +12,7 @@ ghost use Rattle.state.specs.Changes.{valuesSet, entrySet, baseSet, code
 const CURSOR: usize = 0;
 
 // The trail: the count of the literals held, the literals, each node's entry (2 * position + sign + 1, or 0), how many clauses stand before
-// each literal's, each literal's value, the cursor as each literal joined, the code that was kept of its clauses.
+// each literal's, each literal's value, the cursor as each literal joined, what is kept of its units.
 const TRAIL: usize = 4;
 
 const LITERALS: usize = 1;
@@ -67,7 +67,7 @@ pub fn cursor_at(work: &[u16], q: usize) -> u16
     work[TRAIL + (CURSORS + q)]
 }
 
-// The code that was kept for position q.
+// What is kept of the units of position q.
 pub fn code(work: &[u16], q: usize) -> u16
     requires { ⌜ (area ≤ length (now work)) × (q < mostNodes) ⌝ }
     ensures { λ r. ⌜ r ≡ codeAt (tail (now (work .entry))) q ⌝ }
@@ -75,7 +75,7 @@ pub fn code(work: &[u16], q: usize) -> u16
     work[TRAIL + (CODES + q)]
 }
 
-// The code of position q is kept.
+// It is kept.
 pub fn put_code(work: &mut [u16], q: usize, code: u16)
     requires { ⌜ (area ≤ length (now work)) × (q < mostNodes) ⌝ }
     ensures { λ _. ⌜ now (work .exit) ≡ codeSet (now (work .entry)) q code ⌝ }

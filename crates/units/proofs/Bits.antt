@@ -1,10 +1,13 @@
 -- Bits of a word: one is set or cleared and no other changes; the lowest that is set. Assumes nothing.
-use mathlib.Core.Path.{_≡_, refl, sym, ap, _∙_}
-use Prim.Native.Nat.{ℕ, zero, suc, _+_, _-_, _*_, _/_, _%_, _^_, _<_, _≤_}
-use native.Mathlib.Nat.{pow-suc, div-one}
+use mathlib.Core.Path.{_≡_, refl, sym, ap, ap₂, _∙_}
+use mathlib.Core.Bool.{_||_}
+use Prim.Native.Nat.{ℕ, zero, suc, _+_, _-_, _*_, _/_, _%_, _^_, _<_, _≤_, max}
+use native.Mathlib.Nat.{pow-suc, div-one, zero-add}
 use native.Mathlib.Numerals.{one-add}
 use native.Mathlib.Omega.{arith}
+use lib.Dec.{eqb}
 use lib.Pow.{shr-shr}
+use lib.Bits.{bitOr, or-step}
 use lib.Count.{under, trailingZeros}
 use Rattle.units.specs.Units.{bit}
 
@@ -68,13 +71,6 @@ clear-bit x (suc i) h =
     let q : (x - 2 ^ suc i) / 2 ≡ x / 2 - 2 ^ i = omega (arith, r .0) in
     (omega (arith, r .0), turned-suc x (x - 2 ^ suc i) i 0 (omega (arith, r .0)) (rw q (r .1)))
 
--- a word of n bits is one still when a bit is set
-pub set-fits : (n x i : ℕ) → i < n → x < 2 ^ n → bit x i ≡ 0 → x + 2 ^ i < 2 ^ n
-set-fits zero x i l f h = absurd (omega (arith, l))
-set-fits (suc n) x zero l f h = omega (arith, pow-suc 2 n, sym (bit-zero x) ∙ h)
-set-fits (suc n) x (suc i) l f h =
-    omega (arith, pow-suc 2 n, pow-suc 2 i, set-fits n (x / 2) i (omega arith) (omega (arith, pow-suc 2 n)) (sym (bit-suc x i) ∙ h))
-
 -- ---- no bit, the lowest bit
 
 pub bit-none : (j : ℕ) → bit 0 j ≡ 0
@@ -99,3 +95,47 @@ lowest (suc n) x h f = go (x % 2) refl (λ (e : x % 2 ≡ 0). lowest n (x / 2) (
         least zero l = bit-zero x ∙ e
         least (suc j) l = bit-suc x j ∙ r e .under j (omega arith)
     go (suc d) e r = record { low = omega arith; here = bit-zero x ∙ omega arith; under = λ j l. absurd (omega (arith, l)) }
+
+-- ---- the bits of `|`
+
+-- the greater of two digits
+max-low : (x y : ℕ) → x < 2 → y < 2 → (max x y < 2) × (eqb (max x y) 1 ≡ (eqb x 1 || eqb y 1))
+max-low zero zero p q = (omega arith, refl)
+max-low zero (suc zero) p q = (omega arith, refl)
+max-low zero (suc (suc y)) p q = absurd (omega arith)
+max-low (suc zero) zero p q = (omega arith, refl)
+max-low (suc zero) (suc zero) p q = (omega arith, refl)
+max-low (suc zero) (suc (suc y)) p q = absurd (omega arith)
+max-low (suc (suc x)) y p q = absurd (omega arith)
+
+bit-low : (x j : ℕ) → bit x j < 2
+unfolding bit
+bit-low x j = omega arith
+
+bit-max : (j a b : ℕ) → bit (bitOr a b) j ≡ max (bit a j) (bit b j)
+bit-max zero a b =
+    let m = max-low (a % 2) (b % 2) (omega arith) (omega arith) in
+    bit-zero (bitOr a b) ∙ omega (arith, or-step a b, m .0) ∙ sym (ap₂ max (bit-zero a) (bit-zero b))
+bit-max (suc j) a b =
+    let m = max-low (a % 2) (b % 2) (omega arith) (omega arith) in
+    let h : bitOr a b / 2 ≡ bitOr (a / 2) (b / 2) = omega (arith, or-step a b, m .0) in
+    bit-suc (bitOr a b) j ∙ ap (λ (x : ℕ). bit x j) h ∙ bit-max j (a / 2) (b / 2) ∙ sym (ap₂ max (bit-suc a j) (bit-suc b j))
+
+pub bit-or : (a b j : ℕ) → eqb (bit (bitOr a b) j) 1 ≡ (eqb (bit a j) 1 || eqb (bit b j) 1)
+bit-or a b j = rw (bit-max j a b) (max-low (bit a j) (bit b j) (bit-low a j) (bit-low b j) .1)
+
+-- the greater of a digit and 1, and of a digit and 0
+max-one : (x : ℕ) → x < 2 → (max x 1 ≡ 1) × (max x 0 ≡ x)
+max-one zero p = (refl, refl)
+max-one (suc zero) p = (refl, refl)
+max-one (suc (suc x)) p = absurd (omega arith)
+
+-- a word of one bit, and a word with that bit
+pub one-bit : (i : ℕ) → Turned 0 (2 ^ i) i 1
+one-bit i = rw zero-add at (set-bit 0 i (bit-none i))
+
+pub or-bit : (x i : ℕ) → Turned x (bitOr x (2 ^ i)) i 1
+or-bit x i = record {
+  here = bit-max i x (2 ^ i) ∙ ap (max (bit x i)) (one-bit i .here) ∙ max-one (bit x i) (bit-low x i) .0;
+  other = λ j n. bit-max j x (2 ^ i) ∙ ap (max (bit x j)) (one-bit i .other j n ∙ bit-none j) ∙ max-one (bit x j) (bit-low x j) .1;
+}

@@ -1,20 +1,21 @@
 -- A position joins the set or leaves it: its word and the sum change by one bit at most. Assumes nothing.
-use mathlib.Core.Path.{_≡_, refl, sym, ap, _∙_}
+use mathlib.Core.Path.{_≡_, sym, ap, _∙_}
 use mathlib.Core.Bool.{Bool, true, false, cond}
 use mathlib.Core.List.{List}
 use Prim.Native.Nat.{ℕ, _+_, _-_, _*_, _/_, _%_, _^_, _<_, _≤_}
-use native.Mathlib.Nat.{one-mul, zero-mul, add-zero, sub-zero}
+use native.Mathlib.Nat.{one-mul, zero-mul, sub-zero}
 use native.Mathlib.Omega.{arith}
 use native.Mathlib.Decide.{ℕ-discrete, decLt}
 use lib.Dec.{eqb}
 use lib.ListN.{length, getD, set, length-set}
 use lib.Seq.{getD-set-same, getD-set-other}
 use lib.Pow.{shl-exact}
+use lib.Bits.{bitOr}
 use mir.Val.{boolByte}
 use borrow.Author.Count.{below-more}
 use borrow.Author.Tests.{ne-eqb, lt-ltb, le-ltb}
 use Rattle.units.specs.Units.{positions, blocks, words, bit, member, someIn, Units, Empty, Putted}
-use Rattle.units.proofs.Bits.{Turned, turned-none, set-bit, clear-bit, set-fits, bit-none}
+use Rattle.units.proofs.Bits.{Turned, turned-none, clear-bit, bit-none, or-bit}
 
 -- ---- the sum's bit of a block
 
@@ -46,11 +47,6 @@ placed i = (1 * 2 ^ i) % 2 ^ 64
 
 placed-is : (i : ℕ) → i < 64 → placed i ≡ 2 ^ i
 placed-is i h = shl-exact 1 i 64 (omega arith) (omega arith) ∙ one-mul (2 ^ i)
-
--- a bit joins where a test holds; where it does not, it is there
-raised : (t : Bool) (y i : ℕ) → i < 64 → bit y i ≡ cond t 0 1 → (y < 2 ^ 64 → y + shifted t i < 2 ^ 64) × Turned y (y + shifted t i) i 1
-raised true y i h e = rw (placed-is i h) (λ f. set-fits 64 y i h f e, set-bit y i e)
-raised false y i h e = rw (zero-mul (2 ^ i), add-zero y) (λ f. f, turned-none y i 1 e)
 
 -- a bit that is there leaves where a test holds
 lowered : (t : Bool) (y i : ℕ) → i < 64 → bit y i ≡ 1 → (shifted t i ≤ y) × Turned y (y - shifted t i) i (cond t 0 1)
@@ -126,23 +122,14 @@ module _ (m : List ℕ) (q : ℕ) (U : Units m) (hq : q < positions) where
       other = λ j h n. member-now j h n (ℕ-discrete (j / 64) (q / 64));
     }
 
-  module _ (h : member m q ≡ 0) where
-    pub word-joins : (word m q < 2 ^ 64 → word m q + placed (q % 64) < 2 ^ 64) × Turned (word m q) (word m q + placed (q % 64)) (q % 64) 1
-    unfolding member
-    word-joins = raised true (word m q) (q % 64) (omega arith) h
-
-    pub sum-joins : (x : ℕ)
-        → (let y = getD (put-word m q x) blocks 0 in
-        let y′ = y + shifted (eqb (word m q) 0) (q / 64) in
-        (y < 2 ^ 64 → y′ < 2 ^ 64) × Turned (getD m blocks 0) y′ (q / 64) 1)
-    sum-joins x = rw (sum-kept x) (raised (eqb (word m q) 0) (getD m blocks 0) (q / 64) (omega arith) sum-bit)
-
-    pub joined : (let x = word m q + placed (q % 64) in
-        Putted m q 1 (set (put-word m q x) blocks (getD (put-word m q x) blocks 0 + shifted (eqb (word m q) 0) (q / 64))))
-    joined =
-        let x = word m q + placed (q % 64) in
-        let n : eqb x 0 ≡ false = ne-eqb x 0 (bit-some x (q % 64) (word-joins .1 .here)) in
-        changed x _ 1 (word-joins .1) (rw n (sum-joins x .1))
+  -- whether it was in the set or not
+  pub added : (let x = bitOr (word m q) (placed (q % 64)) in
+      Putted m q 1 (set (put-word m q x) blocks (bitOr (getD (put-word m q x) blocks 0) (placed (q / 64)))))
+  added =
+      let x = bitOr (word m q) (2 ^ (q % 64)) in
+      let n : eqb x 0 ≡ false = ne-eqb x 0 (bit-some x (q % 64) (or-bit (word m q) (q % 64) .here)) in
+      rw (placed-is (q % 64) (omega arith), placed-is (q / 64) (omega arith), sum-kept x)
+      (changed x _ 1 (or-bit (word m q) (q % 64)) (rw n (or-bit (getD m blocks 0) (q / 64))))
 
   module _ (h : member m q ≡ 1) where
     pub word-leaves : (placed (q % 64) ≤ word m q) × Turned (word m q) (word m q - placed (q % 64)) (q % 64) 0
@@ -163,10 +150,6 @@ module _ (m : List ℕ) (q : ℕ) (U : Units m) (hq : q < positions) where
     left =
         let x = word m q - placed (q % 64) in
         changed x _ 0 (word-leaves .1) (sum-leaves x .1)
-
--- nothing changes
-pub put-same : (m : List ℕ) (q v : ℕ) → Units m → member m q ≡ v → Putted m q v m
-put-same m q v U e = record { units = U; here = e; other = λ j h n. refl }
 
 -- ---- no position
 

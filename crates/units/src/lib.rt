@@ -12,21 +12,20 @@ const SUM: usize = 32;
 
 const WORDS: usize = 33;
 
-// Position q, which was not in the set, joins it.
-fn join(m: &mut [u64], q: usize)
+// Position q joins the set, if it is not in it.
+pub fn add(m: &mut [u64], q: usize)
     requires { ⌜ Units (now m) ⌝ }
-    requires { ⌜ (q < positions) × (member (now m) q ≡ 0) ⌝ }
+    requires { ⌜ q < positions ⌝ }
     ensures { λ _. ⌜ Putted (now (m .entry)) q 1 (now (m .exit)) ⌝ }
 {
     let b = q / SIZE;
-    let word = m[b];
-    m[b] = word + (1u64 << (q % SIZE));
-    let fresh = (word == 0) as u64;
-    m[SUM] = m[SUM] + (fresh << b);
+    let word = m[b] | (1u64 << (q % SIZE));
+    m[b] = word;
+    m[SUM] = m[SUM] | (1u64 << b);
 }
 
 // Position q, which was in the set, leaves it.
-fn leave(m: &mut [u64], q: usize)
+pub fn leave(m: &mut [u64], q: usize)
     requires { ⌜ Units (now m) ⌝ }
     requires { ⌜ (q < positions) × (member (now m) q ≡ 1) ⌝ }
     ensures { λ _. ⌜ Putted (now (m .entry)) q 0 (now (m .exit)) ⌝ }
@@ -36,23 +35,6 @@ fn leave(m: &mut [u64], q: usize)
     m[b] = word;
     let gone = (word == 0) as u64;
     m[SUM] = m[SUM] - (gone << b);
-}
-
-// Whether position q is in the set becomes v, 0 or 1.
-pub fn put(m: &mut [u64], q: usize, v: u64)
-    requires { ⌜ Units (now m) ⌝ }
-    requires { ⌜ (q < positions) × (v < 2) ⌝ }
-    ensures { λ _. ⌜ Putted (now (m .entry)) q v (now (m .exit)) ⌝ }
-{
-    let old = (m[q / SIZE] >> (q % SIZE)) % 2;
-    if old == v {
-        return;
-    }
-    if v == 1 {
-        join(m, q);
-    } else {
-        leave(m, q);
-    }
 }
 
 // Whether some position is in the set.

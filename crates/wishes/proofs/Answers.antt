@@ -3,27 +3,28 @@ use mathlib.Core.Path.{_≡_, refl, sym, ap, _∙_}
 use mathlib.Core.List.{List, _++_}
 use Prim.Native.Nat.{ℕ, _*_, _<_}
 use native.Mathlib.Omega.{arith}
-use lib.ListN.{length, getD, take}
+use lib.ListN.{length, take, drop}
 use Rattle.scope.specs.declared.Refusal.{Refusal}
 use Rattle.scope.specs.Outcome.{Outcome, answer, refused, _>>=_}
-use Rattle.scope.proofs.Tests.{refused-no, then-first, bound}
+use Rattle.scope.specs.Table.{listFrom}
+use Rattle.scope.proofs.Tests.{refused-no, bound}
 use Rattle.codec.specs.Valid.{Bytes}
-use Rattle.calculus.specs.Order.{Answer, possible, impossible, unfinished, answerOf}
-use Rattle.calculus.specs.Model.{questionSize, Below}
-use Rattle.calculus.specs.Decide.{listRow, _⇔_}
-use Rattle.calculus.proofs.Asked.{list-met}
-use Rattle.calculus.proofs.Lists.{all-append, all-left, all-right, all-getD, all-each, all-map}
+use Rattle.calculus.specs.Order.{Answer, possible, impossible, unfinished, answerOf, settingOf}
+use Rattle.calculus.specs.Model.{All, questionSize, Below}
+use Rattle.calculus.specs.Agree.{Alike}
+use Rattle.calculus.specs.Decide.{nodesOf, _⇔_}
+use Rattle.calculus.proofs.Lists.{all-append, all-left, all-right, all-imply}
 use Rattle.index.specs.Index.{indexNode}
-use Rattle.asking.specs.Asks.{Prepared}
-use Rattle.asking.proofs.Nodes.{searches-in, listed}
+use Rattle.asking.specs.Within.{Reached}
+use Rattle.asking.proofs.Nodes.{searches-within, settings-within}
 use Rattle.deciding.specs.Decides.{Room}
 use Rattle.granting.specs.declared.Grant.{Grant}
 use Rattle.questions.specs.Indices.{picked}
 use Rattle.questions.specs.Asking.{asks, answered}
-use Rattle.questions.proofs.Settings.{some-node}
+use Rattle.questions.proofs.Indices.{rising-below, picked-all}
 use Rattle.wishing.specs.Wish.{queries, Wished as Result, question, wished}
 use Rattle.wishing.specs.Call.{listsRow, wishesAsked, Granted, grant, grantedAfter}
-use Rattle.wishing.proofs.Spends.{spend-same}
+use Rattle.wishing.proofs.Spends.{Query, queries-fit, spend-same, stands}
 use Rattle.wishing.proofs.Calls.{made, none-granted, answers, within, stopped, not-sooner, larger, enough, wishes-met, wishes-most}
 use Rattle.wishes.specs.Wishes.{wishedOf, grantOf, settingsBy, Posed, Answered, Wishes}
 use Rattle.wishes.specs.declared.Wished.{Wished}
@@ -75,7 +76,7 @@ module _ (t goals wishes : List ℕ) (m : ℕ) (s w : List ℕ) (all : Bytes t) 
   unfolding grant
   refuses f q = wishes-told t goals wishes m s w all (Refused f) (rw q) (rw q) (λ number place e. refl)
 
-  module _ {x : List ℕ} {n : ℕ} (p : Prepared (listsRow goals wishes) t (goals ++ wishes) 1024 (length s) (length w) x n) where
+  module _ {x : List ℕ} {n : ℕ} (p : Reached (listsRow goals wishes) t (goals ++ wishes) 1024 (length s) (length w) x n) where
     pub roomy : Room x n s w
     roomy = record { points = p .points; settings = p .admitted .settings; work = p .admitted .work }
 
@@ -85,44 +86,74 @@ module _ (t goals wishes : List ℕ) (m : ℕ) (s w : List ℕ) (all : Bytes t) 
         record {
           size = size;
           first = e;
-          goalsFit = record { most = omega (arith, few .0); below = all-left (λ l. l < 2 * n) goals wishes (p .admitted .below) };
-          wishesFit = all-right (λ l. l < 2 * n) goals wishes (p .admitted .below);
+          goalsFit = record { most = omega (arith, few .0); below = all-left (λ l. l < 2 * n) goals wishes (p .below) };
+          wishesFit = all-right (λ l. l < 2 * n) goals wishes (p .below);
           room = omega (arith, few .0, few .1);
         }
 
-    -- each question over the index is that over the nodes
-    asked-in : (ls : List ℕ) → Below n ls → asks (indexNode x) n ls ≡ answered (p .nodes) ls
-    asked-in ls b = ap answerOf (searches-in p ls b)
+    -- both tables have a literal's node
+    abbrev Both : ℕ → Type 0
+    Both = Alike (indexNode x) (nodesOf (p .nodes))
 
-    goals-fit : Below n goals
-    goals-fit = all-left (λ l. l < 2 * n) goals wishes (p .admitted .below)
+    abbrev all-queries : List (List ℕ)
+    all-queries = queries (length wishes) (length wishes)
+
+    -- the literals of each question are goals and wishes
+    each : (P : ℕ → Type 0) → All P (goals ++ wishes) → (q : List ℕ) → Query (length wishes) (length wishes) q → All P (goals ++ picked wishes q)
+    each P a q r =
+        all-append P goals (picked wishes q) (all-left P goals wishes a)
+        (picked-all P wishes q (all-right P goals wishes a) (rising-below 0 (length wishes) q (r .rising)))
+
+    -- what lists of goals and wishes have, the questions have
+    asked : (P : List ℕ → Type 0) → ((ls : List ℕ) → Below n ls → All Both ls → P ls) → All (λ q. P (goals ++ picked wishes q)) all-queries
+    asked P f =
+        all-imply (Query (length wishes) (length wishes)) (λ q. P (goals ++ picked wishes q))
+        (λ q r. f (goals ++ picked wishes q) (each (λ l. l < 2 * n) (p .below) q r) (each Both (p .alike) q r)) all-queries (queries-fit (length wishes) (length wishes))
+
+    alone : (P : List ℕ → Type 0) → ((ls : List ℕ) → Below n ls → All Both ls → P ls) → P goals
+    alone P f = f goals (all-left (λ l. l < 2 * n) goals wishes (p .below)) (all-left Both goals wishes (p .alike))
+
+    -- each question over the index is that over the nodes
+    abbrev Same : List ℕ → Type 0
+    Same ls = asks (indexNode x) n ls ≡ answered (p .nodes) ls
+
+    same : (ls : List ℕ) → Below n ls → All Both ls → Same ls
+    same ls b a = ap answerOf (searches-within p ls b a)
 
     wished-in : wished (asks (indexNode x) n) goals wishes m (asks (indexNode x) n goals) ≡ wished (answered (p .nodes)) goals wishes m (answered (p .nodes) goals)
-    wished-in = rw (asked-in goals goals-fit) (go (answered (p .nodes) goals))
+    wished-in = rw (alone Same same) (go (answered (p .nodes) goals))
       where
-        some-nodes : 0 < n
-        some-nodes = some-node n goals goals-fit (list-met goals (then-first (listRow goals) _ (p .admitted .list)) .0)
-
-        fit : (q : List ℕ) → Below n (goals ++ picked wishes q)
-        fit q =
-            all-append (λ l. l < 2 * n) goals (picked wishes q) goals-fit
-            (all-map (λ l. l < 2 * n) (λ i. getD wishes i 0) q
-            (all-each (λ i. getD wishes i 0 < 2 * n) (λ i. all-getD (λ l. l < 2 * n) wishes i 0 (omega (arith, some-nodes)) (all-right (λ l. l < 2 * n) goals wishes (p .admitted .below))) q))
-
         go : (a : Answer) → wished (asks (indexNode x) n) goals wishes m a ≡ wished (answered (p .nodes)) goals wishes m a
         go (possible G) =
             ap answer
-            (spend-same (question (asks (indexNode x) n) goals wishes) (question (answered (p .nodes)) goals wishes) (λ q. asked-in (goals ++ picked wishes q) (fit q)) G m
-            (queries (length wishes) (length wishes)))
+            (spend-same (question (asks (indexNode x) n) goals wishes) (question (answered (p .nodes)) goals wishes) G m all-queries (asked Same same))
         go impossible = refl
         go unfinished = refl
+
+    -- .. and so is the setting of what stands
+    abbrev Sets : List ℕ → Type 0
+    Sets G = settingOf (listFrom (indexNode x) 0 n) G ≡ settingOf (p .nodes) G
+
+    abbrev Ends : List ℕ → Type 0
+    Ends ls = (G : List ℕ) → asks (indexNode x) n ls ≡ possible G → Sets G
+
+    sets : (ls : List ℕ) → Below n ls → All Both ls → Ends ls
+    sets ls b a G e = settings-within p ls b a e
+
+    set-in : (a : Answer) → asks (indexNode x) n goals ≡ a
+        → settingsBy (listFrom (indexNode x) 0 n) s (wished (asks (indexNode x) n) goals wishes m a) ≡ settingsBy (p .nodes) s (wished (asks (indexNode x) n) goals wishes m a)
+    set-in (possible G) e =
+        ap (_++ drop 1024 s)
+        (stands (question (asks (indexNode x) n) goals wishes) G (λ F size. Sets F) (alone Ends sets G e) all-queries (asked Ends sets) m)
+    set-in impossible e = refl
+    set-in unfinished e = refl
 
     pub ends : {s′ w′ : List ℕ} (r : Wished) → Answered x n goals wishes m s s′ r → Wishes t goals wishes m s w s′ w′ r
     unfolding grant
     ends {s′} r h =
         wishes-told t goals wishes m s w all r
         (h .answered ∙ rw (wished-in, p .answered) (numbers (wished (answered (p .nodes)) goals wishes m (answered (p .nodes) goals))))
-        (h .settings ∙ rw (wished-in, p .answered, listed p) (written (wished (answered (p .nodes)) goals wishes m (answered (p .nodes) goals))))
+        (h .settings ∙ set-in (asks (indexNode x) n goals) refl ∙ rw (wished-in, p .answered) (written (wished (answered (p .nodes)) goals wishes m (answered (p .nodes) goals))))
         (λ number place e. refused-no (sym e ∙ p .answered))
       where
         numbers : (o : Outcome Result) → (o >>= λ d. answer (grantOf d)) ≡ ((o >>= made t goals wishes s w (p .nodes)) >>= λ d. answer (grantOf (d .wished)))

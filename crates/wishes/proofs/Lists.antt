@@ -14,8 +14,8 @@ use Rattle.scope.proofs.Tests.{required, then-first, then-next}
 use Rattle.table.specs.declared.Counted.{Counted}
 use Rattle.calculus.specs.Decide.{listRow}
 use Rattle.calculus.proofs.Asked.{list-met}
-use Rattle.asking.specs.Asks.{Asks}
-use Rattle.asking.proofs.Answers.{asks-other}
+use Rattle.asking.specs.Within.{Within}
+use Rattle.asking.proofs.Answers.{within-other}
 use Rattle.wishing.specs.Call.{mostWishes, listsRow}
 use Rattle.wishes.specs.Wishes.{Copied, Gathers, WishesAsk}
 
@@ -81,12 +81,12 @@ module _ (goals wishes : List ℕ) where
       sym (take-take (length goals) r list (omega arith)) ∙ ap (take (length goals)) e ∙ take-append-seam goals wishes
 
   pub asked-both : (t : List ℕ) (points area : ℕ) (list x : List ℕ) (r : ℕ) (c : Counted) → Gathers goals wishes list r
-      → Asks (listsRow goals wishes) t (take (r - 0) list) 1024 points area x c → WishesAsk t goals wishes points area list x c
+      → Within (listsRow goals wishes) t (take (r - 0) list) 1024 points area x c → WishesAsk t goals wishes points area list x c
   asked-both t points area list x r c g a = record { asks = go (listsRow goals wishes) refl; gathered = λ e. gathered-goals list r (g .few) (g .both e) }
     where
       whole : r - 0 ≡ r
       whole = omega arith
 
-      go : (o : Outcome (Unit {0})) → listsRow goals wishes ≡ o → Asks (listsRow goals wishes) t (goals ++ wishes) 1024 points area x c
+      go : (o : Outcome (Unit {0})) → listsRow goals wishes ≡ o → Within (listsRow goals wishes) t (goals ++ wishes) 1024 points area x c
       go (answer tt) e = rw (whole, g .both e) at a
-      go (refused number place) e = asks-other (listsRow goals wishes) t (take (r - 0) list) (goals ++ wishes) 1024 points area e a
+      go (refused number place) e = within-other (listsRow goals wishes) t (take (r - 0) list) (goals ++ wishes) 1024 points area e a

@@ -16,7 +16,7 @@ use Rattle.calculus.specs.Model.{All, questionSize, Goals, Below}
 use Rattle.calculus.specs.Decide.{Unsatisfiable, _⇔_}
 use Rattle.table.specs.declared.Counted.{Counted}
 use Rattle.index.specs.Index.{indexNode}
-use Rattle.asking.specs.Asks.{Asks}
+use Rattle.asking.specs.Within.{Within}
 use Rattle.questions.specs.Asking.{asks}
 use Rattle.granting.specs.declared.Grant.{Grant}
 use Rattle.wishing.specs.Wish.{Wished as Result, wished, count}
@@ -44,7 +44,7 @@ pub record Gathers (goals wishes list′ : List ℕ) (r : ℕ) : Type 0 where
 
 -- rows 10 to 17, 62, 66, 20, 21 and 23; where none refuses, the list begins with the goals
 pub record WishesAsk (t goals wishes : List ℕ) (points area : ℕ) (list′ x : List ℕ) (r : Counted) : Type 0 where
-  pub asks : Asks (listsRow goals wishes) t (goals ++ wishes) 1024 points area x r
+  pub asks : Within (listsRow goals wishes) t (goals ++ wishes) 1024 points area x r
   pub gathered : listsRow goals wishes ≡ fine → take (length goals) list′ ≡ goals
 
 -- the settings, where a wish was met: those of the literals that the work area holds

@@ -11,6 +11,7 @@ ghost use Rattle.scope.specs.Outcome.{verdictOf};
 ghost use Rattle.calculus.specs.Model.{questionSize};
 ghost use Rattle.index.specs.Index.{indexNode, indexSize};
 ghost use Rattle.index.specs.Indexed.{Indexed};
+ghost use Rattle.index.specs.Marks.{Zeros};
 ghost use Rattle.state.specs.Work.{gOf};
 ghost use Rattle.deciding.specs.Setting.{Points};
 ghost use Rattle.deciding.specs.Decides.{Room};
@@ -70,7 +71,8 @@ fn gather(goals: &[u16], wishes: &[u16], list: &mut [u16]) -> usize
     goals.len() + wishes.len()
 }
 
-// The rows before the search: the node count and the index of the nodes, or the first row's refusal.
+// The rows before the search: the index of the nodes below the goals and the wishes, and how many nodes it goes up to, or the first row's
+// refusal. x is zeros.
 fn ask(
     t: &[u8],
     goals: &[u16],
@@ -81,12 +83,12 @@ fn ask(
     x: &mut [u16],
 ) -> Counted
     requires { ⌜ length (now list) ≡ questionSize ⌝ }
-    requires { ⌜ length (now x) ≡ indexSize ⌝ }
+    requires { ⌜ (length (now x) ≡ indexSize) × Zeros (now x) ⌝ }
     ensures { λ r. ⌜ WishesAsk (now (t .entry)) (now (goals .entry)) (now (wishes .entry)) points area (now (list .exit)) (now (x .exit)) r ⌝ }
 {
     let listed = list_rows(goals, wishes);
     let count = gather(goals, wishes, list);
-    asking::ask_by(listed, t, &list[0..count], 1024, points, area, x)
+    asking::ask_within_by(listed, t, &list[0..count], 1024, points, area, x)
 }
 
 // Where a wish was met, the setting of the question that met it.
@@ -146,7 +148,7 @@ pub fn grant(
     ensures { λ r. ⌜ Wishes (now (t .entry)) (now (goals .entry)) (now (wishes .entry)) allowance (now (settings .entry)) (now (work .entry)) (now (settings .exit)) (now (work .exit)) r ⌝ }
 {
     let mut list = [0u16; 80];
-    let mut x = [0u16; 18378];
+    let mut x = [0u16; 22626];
     let a = ask(
         t,
         goals,

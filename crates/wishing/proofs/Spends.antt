@@ -228,9 +228,9 @@ module _ (ask : List ℕ → Answer) (first : List ℕ) where
       go unfinished r = r
 
 -- questions that are answered alike come to the same
-pub spend-same : (ask other : List ℕ → Answer) → ((q : List ℕ) → ask q ≡ other q) → (first : List ℕ) (m : ℕ) (qs : List (List ℕ))
+pub spend-same : (ask other : List ℕ → Answer) (first : List ℕ) (m : ℕ) (qs : List (List ℕ)) → All (λ q. ask q ≡ other q) qs
     → spend ask first m qs ≡ spend other first m qs
 unfolding spend
-spend-same ask other same first m [] = refl
-spend-same ask other same first zero (q ∷ qs) = refl
-spend-same ask other same first (suc m) (q ∷ qs) = rw (same q, spend-same ask other same first m qs)
+spend-same ask other first m [] same = refl
+spend-same ask other first zero (q ∷ qs) same = refl
+spend-same ask other first (suc m) (q ∷ qs) same = rw (same .0, spend-same ask other first m qs (same .1))

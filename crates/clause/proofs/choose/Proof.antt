@@ -1,5 +1,6 @@
 -- `clause::choose` meets its contract. The number that is read is a literal of the table, and a choice's parity its sign. Assumes nothing.
-use Rattle.clause.proofs.Rows.{six, operand-few, operand-chosen}
+use Rattle.clause.proofs.Rows.{six, operand-chosen}
+use Rattle.clause.proofs.Signs.{xor-choice}
 use native.Mathlib.Omega.{arith}
 use borrow.Author.Needs.{needs}
 use Rattle.clause.proofs.choose.Statement.{statement}
@@ -24,40 +25,13 @@ shared-slice-read-l c =
     let s = c .before in
     omega (arith, s .pre .0 .few, s .pre .0 .size, six (s .pre .0) (s .args .node) (s .pre .1 .0) (s .args .c) (s .pre .1 .1))
 
-sub-result : tie.Need-sub-result
-sub-result c = search needs
-
 cast-result : tie.Need-cast-result
-cast-result c =
-    let s = c .before in
-    omega (arith, six (s .pre .0) (s .args .node) (s .pre .1 .0) (s .args .c) (s .pre .1 .1))
-
-add-result : tie.Need-add-result
-add-result c =
-    let s = c .before in
-    omega (arith, six (s .pre .0) (s .args .node) (s .pre .1 .0) (s .args .c) (s .pre .1 .1), operand-few (s .pre .0) (s .args .node) (s .pre .1 .0) (s .args .c) (s .pre .1 .1))
-
-add-result-2 : tie.Need-add-result-2
-add-result-2 c =
-    let s = c .before in
-    omega (arith, six (s .pre .0) (s .args .node) (s .pre .1 .0) (s .args .c) (s .pre .1 .1), operand-few (s .pre .0) (s .args .node) (s .pre .1 .0) (s .args .c) (s .pre .1 .1))
+cast-result c = search needs
 
 returns : tie.Need-returns
 returns c =
     let s = c .before in
-    operand-chosen (s .pre .0) (s .args .node) (s .pre .1 .0) (s .args .c) (s .pre .1 .1)
+    xor-choice _ (s .args .c) (operand-chosen (s .pre .0) (s .args .node) (s .pre .1 .0) (s .args .c) (s .pre .1 .1))
 
 pub choose-spec : {M : Type 1} → statement M
-choose-spec =
-    tie.close
-    (tie.spec
-    mul-l
-    add-l
-    add-l-2
-    mul-l-2
-    shared-slice-read-l
-    sub-result
-    cast-result
-    add-result
-    add-result-2
-    returns)
+choose-spec = tie.close (tie.spec mul-l add-l add-l-2 mul-l-2 shared-slice-read-l cast-result returns)

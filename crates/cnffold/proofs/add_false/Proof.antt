@@ -3,7 +3,6 @@ use Rattle.scope.specs.Outcome.{answer}
 use Rattle.cnf.specs.Fold.{at, opposite}
 use Rattle.cnffold.proofs.Built.{grows-as, grows-stops, grows-false}
 use Rattle.cnffold.proofs.Folds.{false-is}
-use native.Mathlib.Omega.{arith}
 use borrow.Author.Needs.{needs}
 use Rattle.cnffold.proofs.add_false.Statement.{statement}
 use Rattle.cnffold.proofs.add_false.Tie as tie

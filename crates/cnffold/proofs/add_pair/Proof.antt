@@ -1,6 +1,5 @@
 -- `cnffold::add_pair` meets its contract: rows 15 and 16, then the node of the number. Assumes nothing.
 use mathlib.Core.Path.{refl}
-use Prim.Native.Nat.{_+_, _*_}
 use Rattle.growing.specs.Growing.{keyOf}
 use Rattle.cnf.specs.Fold.{node}
 use Rattle.cnffold.proofs.Built.{key-reads, grows-put, grows-refused, put-refused}

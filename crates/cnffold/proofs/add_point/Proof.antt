@@ -4,7 +4,6 @@ use Rattle.cnf.specs.Fold.{node}
 use Rattle.cnf.proofs.Records.{point-reads}
 use Rattle.cnffold.proofs.Built.{key-reads, grows-put}
 use Rattle.cnffold.proofs.Pairs.{point-node}
-use native.Mathlib.Omega.{arith}
 use borrow.Author.Needs.{needs}
 use Rattle.cnffold.proofs.add_point.Statement.{statement}
 use Rattle.cnffold.proofs.add_point.Tie as tie

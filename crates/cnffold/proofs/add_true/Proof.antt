@@ -1,6 +1,4 @@
 -- `cnffold::add_true` meets its contract: the node of a number, as its record. Assumes nothing.
-use mathlib.Core.Path.{refl}
-use Rattle.growing.specs.Growing.{nodeIn}
 use Rattle.cnf.specs.Fold.{node}
 use Rattle.cnf.proofs.Records.{true-reads}
 use Rattle.cnffold.proofs.Built.{key-reads, grows-put}

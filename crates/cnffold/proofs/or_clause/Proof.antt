@@ -1,6 +1,6 @@
 -- `cnffold::or_clause` meets its contract: the literals from i on are left to join. Assumes nothing.
-use mathlib.Core.Path.{_≡_, _∙_, ap, sym, refl}
-use Prim.Native.Nat.{_≤_, _<_, _-_, _+_}
+use mathlib.Core.Path.{_≡_, _∙_, sym, refl}
+use Prim.Native.Nat.{_≤_, _<_, _-_}
 use lib.ListN.{length, take, drop}
 use Rattle.growing.specs.Growing.{state, Under}
 use Rattle.cnf.specs.Fold.{orAll, orClause}

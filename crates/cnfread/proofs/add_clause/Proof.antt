@@ -1,10 +1,8 @@
 -- `cnfread::add_clause` meets its contract: TRUE or the OR. Assumes nothing.
-use mathlib.Core.Path.{sym}
 use lib.ListN.{take}
 use Rattle.growing.specs.Growing.{state}
 use Rattle.cnffold.proofs.Built.{grows-as}
 use Rattle.cnfread.proofs.Joining.{folded-true, folded-or}
-use native.Mathlib.Omega.{arith}
 use borrow.Author.Needs.{needs}
 use Rattle.cnfread.proofs.add_clause.Statement.{statement}
 use Rattle.cnfread.proofs.add_clause.Tie as tie

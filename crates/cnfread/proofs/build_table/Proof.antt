@@ -2,7 +2,6 @@
 use lib.ListN.{length}
 use Rattle.cnfread.proofs.Joining.{none-under}
 use Rattle.cnfread.proofs.Reading.{body-unread, body-told, turned-away}
-use native.Mathlib.Omega.{arith}
 use borrow.Author.Needs.{needs}
 use Rattle.cnfread.proofs.build_table.Statement.{statement}
 use Rattle.cnfread.proofs.build_table.Tie as tie

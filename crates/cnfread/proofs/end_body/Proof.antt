@@ -2,7 +2,6 @@
 use Rattle.growing.specs.Growing.{state}
 use Rattle.cnffold.proofs.Built.{grows-as, grows-answer}
 use Rattle.cnfread.proofs.Joining.{ended-none, ended-some}
-use native.Mathlib.Omega.{arith}
 use borrow.Author.Needs.{needs}
 use Rattle.cnfread.proofs.end_body.Statement.{statement}
 use Rattle.cnfread.proofs.end_body.Tie as tie

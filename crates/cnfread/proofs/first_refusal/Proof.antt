@@ -1,6 +1,5 @@
 -- `cnfread::first_refusal` meets its contract: the text's own refusal, or the one given. Assumes nothing.
 use Rattle.cnfread.proofs.Reading.{first-own, first-given}
-use native.Mathlib.Omega.{arith}
 use borrow.Author.Needs.{needs}
 use Rattle.cnfread.proofs.first_refusal.Statement.{statement}
 use Rattle.cnfread.proofs.first_refusal.Tie as tie

@@ -1,7 +1,6 @@
 -- `cnfread::fold_body` meets its contract: k clauses have been joined. Assumes nothing.
 use mathlib.Core.Path.{_≡_, refl}
-use mathlib.Core.List.{List}
-use Prim.Native.Nat.{ℕ, _-_}
+use Prim.Native.Nat.{_-_}
 use lib.ListN.{length}
 use Rattle.growing.specs.Growing.{state}
 use Rattle.cnfread.specs.Clauses.{Kept}

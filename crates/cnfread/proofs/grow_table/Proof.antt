@@ -3,7 +3,6 @@ use Prim.Native.Nat.{ℕ}
 use lib.ListN.{replicate, length-replicate}
 use Rattle.cnfread.proofs.Keeping.{kept-none}
 use Rattle.cnfread.proofs.Joining.{points-refused, points-folded}
-use native.Mathlib.Omega.{arith}
 use borrow.Author.Needs.{needs}
 use Rattle.cnfread.proofs.grow_table.Statement.{statement}
 use Rattle.cnfread.proofs.grow_table.Tie as tie

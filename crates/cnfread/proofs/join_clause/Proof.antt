@@ -5,7 +5,6 @@ use Rattle.growing.specs.Growing.{state}
 use Rattle.cnffold.proofs.Built.{grows-as, grows-next, grows-stops}
 use Rattle.cnfread.specs.Clauses.{joined}
 use Rattle.cnfread.proofs.Joining.{joined-first, joined-other}
-use native.Mathlib.Omega.{arith}
 use borrow.Author.Needs.{needs}
 use Rattle.cnfread.proofs.join_clause.Statement.{statement}
 use Rattle.cnfread.proofs.join_clause.Tie as tie

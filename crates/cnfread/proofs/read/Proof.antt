@@ -1,6 +1,5 @@
 -- `cnfread::read` meets its contract: the heading, then the table. Assumes nothing.
 use Rattle.cnfread.proofs.Reading.{no-heading, heading-starts, turned-away}
-use native.Mathlib.Omega.{arith}
 use borrow.Author.Needs.{needs}
 use Rattle.cnfread.proofs.read.Statement.{statement}
 use Rattle.cnfread.proofs.read.Tie as tie

@@ -1,6 +1,5 @@
 -- `cnfread::settle` meets its contract: a table is written, and a refusal is the first one. Assumes nothing.
 use Rattle.cnfread.proofs.Reading.{settled-at, settled-refused}
-use native.Mathlib.Omega.{arith}
 use borrow.Author.Needs.{needs}
 use Rattle.cnfread.proofs.settle.Statement.{statement}
 use Rattle.cnfread.proofs.settle.Tie as tie

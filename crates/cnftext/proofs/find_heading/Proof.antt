@@ -1,7 +1,6 @@
 -- `cnftext::find_heading` meets its contract: the heading at the end of the comments. Assumes nothing.
 use mathlib.Core.Path.{_∙_, ap, sym}
 use Rattle.cnf.specs.Text.{heading}
-use native.Mathlib.Omega.{arith}
 use borrow.Author.Needs.{needs}
 use Rattle.cnftext.proofs.find_heading.Statement.{statement}
 use Rattle.cnftext.proofs.find_heading.Tie as tie

@@ -1,11 +1,8 @@
 -- `cnfwords::next_token` meets its contract: separators are passed, then a sign and a run of digits, or any word. Assumes nothing.
-use mathlib.Core.Path.{_≡_, _∙_, ap, sym}
-use mathlib.Core.Bool.{true, false}
-use Prim.Native.Nat.{ℕ}
+use mathlib.Core.Path.{_∙_, sym}
 use borrow.Author.Tests.{not-false}
 use Rattle.cnfwords.proofs.Words.{no-words}
 use Rattle.cnfwords.proofs.Runs.{signed-within, run-token}
-use native.Mathlib.Omega.{arith}
 use borrow.Author.Needs.{needs}
 use Rattle.cnfwords.proofs.next_token.Statement.{statement}
 use Rattle.cnfwords.proofs.next_token.Tie as tie

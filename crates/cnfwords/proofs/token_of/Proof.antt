@@ -1,5 +1,4 @@
 -- `cnfwords::token_of` meets its contract: each return is one of the cases. Assumes nothing.
-use native.Mathlib.Omega.{arith}
 use borrow.Author.Needs.{needs}
 use Rattle.cnfwords.proofs.token_of.Statement.{statement}
 use Rattle.cnfwords.proofs.token_of.Tie as tie

@@ -1,8 +1,9 @@
 -- `deriving::derive` meets its contract: a refusal is the first row's that refuses, and else the search decides. Assumes nothing.
+use lib.ListN.{getD-replicate}
 use borrow.Author.Needs.{needs}
+use Rattle.index.specs.Index.{indexSize}
 use Rattle.codec.specs.Valid.{Bytes}
-use Rattle.asking.proofs.Answers.{ask-refused}
-use Rattle.asking.proofs.Nodes.{goals-in}
+use Rattle.asking.proofs.Nodes.{goals-within}
 use Rattle.deriving.proofs.Answers.{refuses, ends}
 use Rattle.deriving.proofs.derive.Statement.{statement}
 use Rattle.deriving.proofs.derive.Tie as tie
@@ -11,11 +12,11 @@ use Rattle.deriving.proofs.derive.Tie as tie
 bytes : (c : tie.After-shared-slice-known) → Bytes (c .before .args .t .now)
 bytes c i = c .shared-slice-known .given i .fits
 
-slice-aggregate-ask : tie.Need-slice-aggregate-ask
-slice-aggregate-ask c = search needs
+slice-aggregate-ask-within : tie.Need-slice-aggregate-ask-within
+slice-aggregate-ask-within c = search needs
 
-ask-requires : tie.Need-ask-requires
-ask-requires c κs = search needs
+ask-within-requires : tie.Need-ask-within-requires
+ask-within-requires c κs = (search needs, λ i h. getD-replicate indexSize i 0 0 h)
 
 enum-known-a : tie.Need-enum-known-a
 enum-known-a c = search needs
@@ -28,13 +29,13 @@ slice-aggregate-produce c = search needs
 
 produce-requires : tie.Need-produce-requires
 produce-requires c κs =
-    let p = c .before .before .before .before .before .before .before .ask .ensures .prepared _ (c .before .before .before .before .a2 .given .1) in
-    (p .indexed, (goals-in p, p .admitted .work))
+    let p = c .before .before .before .before .before .before .before .ask-within .ensures .reached _ (c .before .before .before .before .a2 .given .1) in
+    (p .indexed, (goals-within p, p .admitted .work))
 
 returns : tie.Need-returns
 returns c =
     let k = c .before .before .before .before in
-    refuses _ _ _ _ _ (bytes (k .before .before .before .before .before)) _ (ask-refused _ _ _ _ _ _ _ (k .ask .ensures) (c .before .a .given .1))
+    refuses _ _ _ _ _ (bytes (k .before .before .before .before .before)) _ (k .ask-within .ensures .refuses _ (c .before .a .given .1))
 
 same-length : tie.Need-same-length
 same-length c = search needs
@@ -45,14 +46,14 @@ same-length-2 c = search needs
 returns-2 : tie.Need-returns-2
 returns-2 c =
     let k = c .before .before .before .before .before .before .before .before .before .before .before .before in
-    ends _ _ _ _ _ (bytes (k .before .before .before .before .before)) (k .ask .ensures .prepared _ (c .before .before .before .before .before .before .before .before .before .a2 .given .1)) _ (c .before .before .before .before .produce .ensures)
+    ends _ _ _ _ _ (bytes (k .before .before .before .before .before)) (k .ask-within .ensures .reached _ (c .before .before .before .before .before .before .before .before .before .a2 .given .1)) _ (c .before .before .before .before .produce .ensures)
 
 pub derive-spec : {M : Type 1} → statement M
 derive-spec =
     tie.close
     (tie.spec
-    slice-aggregate-ask
-    ask-requires
+    slice-aggregate-ask-within
+    ask-within-requires
     enum-known-a
     enum-known-a-2
     slice-aggregate-produce

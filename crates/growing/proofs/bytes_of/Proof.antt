@@ -2,7 +2,6 @@
 use mathlib.Core.Path.{refl}
 use Rattle.scope.specs.Table.{nodeBytes}
 use Rattle.growing.specs.Growing.{nodeIn}
-use native.Mathlib.Omega.{arith}
 use borrow.Author.Needs.{needs}
 use Rattle.growing.proofs.bytes_of.Statement.{statement}
 use Rattle.growing.proofs.bytes_of.Tie as tie

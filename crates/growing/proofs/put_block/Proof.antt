@@ -1,8 +1,8 @@
 -- `growing::put_block` meets its contract: the records, then the block of them. Assumes nothing.
-use mathlib.Core.Path.{_≡_, _∙_, ap, sym}
+use mathlib.Core.Path.{_∙_, ap, sym}
 use mathlib.Core.List.{List, _++_}
 use Prim.Native.Nat.{ℕ}
-use lib.ListN.{length, drop, length-take}
+use lib.ListN.{drop, length-take}
 use lib.Seq.{length-take-le}
 use Rattle.scope.specs.Block.{blockOf}
 use native.Mathlib.Omega.{arith}

@@ -1,8 +1,6 @@
 -- `growing::room_of` meets its contract: by whether the buffer is shorter than the longest table. Assumes nothing.
-use lib.Dec.{ltb}
 use borrow.Author.Tests.{lt-ltb, le-ltb}
 use Rattle.growing.specs.Growing.{roomOf}
-use native.Mathlib.Omega.{arith}
 use borrow.Author.Needs.{needs}
 use Rattle.growing.proofs.room_of.Statement.{statement}
 use Rattle.growing.proofs.room_of.Tie as tie

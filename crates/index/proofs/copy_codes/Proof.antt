@@ -1,4 +1,4 @@
--- `index::copy_codes` meets its contract. The loop's invariant: the codes passed stand behind the links. That CODES are the codes is computed. Assumes nothing.
+-- `index::copy_codes` meets its contract. The loop's invariant: the codes passed stand behind the edges. That CODES are the codes is computed. Assumes nothing.
 use mathlib.Core.Path.{_≡_, _∙_, sym, ap}
 use Prim.Native.Nat.{_≤_, _-_}
 use native.Mathlib.Nat.{zero-add}
@@ -7,8 +7,8 @@ use Rattle.scope.proofs.Lists.{getD-listFrom}
 use Rattle.calculus.specs.Expansion.{templates}
 use Rattle.calculus.specs.Order.{some, firstOf}
 use Rattle.index.specs.Codes.{choiceValue, stateBy, codeOf, codeAt, codesSize}
-use Rattle.index.specs.Index.{Copied}
-use Rattle.index.proofs.Cells.{copied-none, copied-more}
+use Rattle.index.specs.Built.{Copied}
+use Rattle.index.proofs.Copies.{copied-none, copied-more}
 use native.Mathlib.Omega.{arith}
 use borrow.Author.Needs.{needs}
 use Rattle.index.proofs.copy_codes.Statement.{statement}

@@ -2,7 +2,7 @@
 -- Assumes nothing.
 use Prim.Native.Nat.{_-_, _%_, _<_, _≤_}
 use mathlib.Core.Path.{_≡_, _∙_, sym}
-use Rattle.index.specs.Index.{Loaded}
+use Rattle.index.specs.Built.{Loaded}
 use Rattle.index.proofs.Nodes.{loaded-none}
 use native.Mathlib.Omega.{arith}
 use Rattle.index.proofs.load.Statement.{statement}

@@ -3,7 +3,7 @@
 use Prim.Native.Nat.{_+_, _-_, _*_, _≤_}
 use mathlib.Core.Path.{_≡_, _∙_, sym}
 use Rattle.record.specs.Place.{placeOf}
-use Rattle.index.specs.Index.{Loaded}
+use Rattle.index.specs.Built.{Loaded}
 use native.Mathlib.Omega.{arith}
 use borrow.Author.Needs.{needs}
 use Rattle.index.proofs.load_block.Statement.{statement}

@@ -1,34 +1,17 @@
--- `index::load_node` meets its contract: the five stores write the node that the record holds. Assumes nothing.
-use mathlib.Core.Path.{_∙_, ap}
-use lib.ListN.{length-set}
-use Rattle.scope.specs.Table.{tables, nodeOf}
-use Rattle.scope.proofs.Records.{part-record}
+-- `index::load_node` meets its contract: the node that the record holds is stored, and two counts. Assumes nothing.
+use mathlib.Core.Path.{refl, ap}
+use lib.ListN.{length, length-set}
 use Rattle.index.proofs.Nodes.{loaded-more}
 use native.Mathlib.Omega.{arith}
 use borrow.Author.Needs.{needs}
 use Rattle.index.proofs.load_node.Statement.{statement}
 use Rattle.index.proofs.load_node.Tie as tie
 
-add-end : tie.Need-add-end
-add-end c = search needs
+store-node-requires : tie.Need-store-node-requires
+store-node-requires c κs = search needs
 
-sub-fields : tie.Need-sub-fields
-sub-fields c = search needs
-
-part-fields-start : tie.Need-part-fields-start
-part-fields-start c = search needs
-
-part-fields-end : tie.Need-part-fields-end
-part-fields-end c = search needs
-
-fields-requires : tie.Need-fields-requires
-fields-requires c κs = search needs
-
-mul-s : tie.Need-mul-s
-mul-s c = search needs
-
-cast-x : tie.Need-cast-x
-cast-x c = search needs
+add-x : tie.Need-add-x
+add-x c = search needs
 
 mul-x : tie.Need-mul-x
 mul-x c = search needs
@@ -36,75 +19,37 @@ mul-x c = search needs
 slice-write-x : tie.Need-slice-write-x
 slice-write-x c = search needs
 
-add-x : tie.Need-add-x
-add-x c = search needs
+add-x-2 : tie.Need-add-x-2
+add-x-2 c = search needs
 
 mul-x-2 : tie.Need-mul-x-2
 mul-x-2 c = search needs
 
 slice-write-x-2 : tie.Need-slice-write-x-2
-slice-write-x-2 c = simp length-set (omega (arith, c .before .before .before .before .before .pre .0 .0, c .before .before .before .before .before .pre .1 .size))
-
-add-x-2 : tie.Need-add-x-2
-add-x-2 c = search needs
-
-mul-x-3 : tie.Need-mul-x-3
-mul-x-3 c = search needs
-
-slice-write-x-3 : tie.Need-slice-write-x-3
-slice-write-x-3 c = simp length-set (omega (arith, c .before .before .before .before .before .pre .0 .0, c .before .before .before .before .before .pre .1 .size))
-
-add-x-3 : tie.Need-add-x-3
-add-x-3 c = search needs
-
-mul-x-4 : tie.Need-mul-x-4
-mul-x-4 c = search needs
-
-slice-write-x-4 : tie.Need-slice-write-x-4
-slice-write-x-4 c = simp length-set (omega (arith, c .before .before .before .before .before .pre .0 .0, c .before .before .before .before .before .pre .1 .size))
-
-add-x-4 : tie.Need-add-x-4
-add-x-4 c = search needs
-
-mul-x-5 : tie.Need-mul-x-5
-mul-x-5 c = search needs
-
-slice-write-x-5 : tie.Need-slice-write-x-5
-slice-write-x-5 c = simp length-set (omega (arith, c .before .before .before .before .before .pre .0 .0, c .before .before .before .before .before .pre .1 .size))
+slice-write-x-2 c =
+    let k = c .before .before in
+    let s = k .before .before .before .before in
+    simp length-set (omega (arith, simp length-set at (ap length (k .store-node .ensures)), s .pre .0 .0, s .pre .1 .size))
 
 same-length : tie.Need-same-length
 same-length c = search needs
 
 returns : tie.Need-returns
 returns c =
-    let s = c .before .before .before .before .before in
-    let e = c .before .fields .ensures ∙ ap nodeOf (part-record tables _ _ _ (s .pre .0 .1)) in
-    loaded-more (s .args .t .now) (s .args .x .now) (s .args .m) (c .before .fields .result) (s .pre .0 .0) e (s .pre .1)
+    let k = c .before .before in
+    let s = k .before .before .before .before in
+    rw (k .store-node .ensures) (loaded-more (s .args .t .now) (s .args .x .now) (s .args .m) _ (s .pre .0 .0) refl (s .pre .1))
 
 pub load-node-spec : {M : Type 1} → statement M
 load-node-spec =
     tie.close
     (tie.spec
-    add-end
-    sub-fields
-    part-fields-start
-    part-fields-end
-    fields-requires
-    mul-s
-    cast-x
+    store-node-requires
+    add-x
     mul-x
     slice-write-x
-    add-x
+    add-x-2
     mul-x-2
     slice-write-x-2
-    add-x-2
-    mul-x-3
-    slice-write-x-3
-    add-x-3
-    mul-x-4
-    slice-write-x-4
-    add-x-4
-    mul-x-5
-    slice-write-x-5
     same-length
     returns)

@@ -39,26 +39,26 @@ returns-2 c =
     let m = c .before .before .conflict-at .ensures in
     (m .is, (m .holds-on, (m .list, m .kept)))
 
-some-requires : tie.Need-some-requires
-some-requires c κs = search needs
+pick-requires : tie.Need-pick-requires
+pick-requires c κs = search needs
 
-first-unit-requires : tie.Need-first-unit-requires
-first-unit-requires c κs =
-    let s = c .before .before .before .before .before .before .before .before .before .before .before in
-    (s .pre .0, (s .pre .1 .0, (s .pre .1 .1, (c .before .before .before .before .before .if1 .left, c .before .before .before .if2 .left, c .before .before .some .ensures .0 (c .before .if3 .taken)))))
+unit-move-requires : tie.Need-unit-move-requires
+unit-move-requires c κs =
+    let s = c .before .before .before .before .before .before .before .before .before .before .before .before in
+    (s .pre .0, (s .pre .1 .0, (s .pre .1 .1, c .before .before .pick .ensures .0 (c .before .if3 .taken))))
 
 same-length-3 : tie.Need-same-length-3
 same-length-3 c = search needs
 
 returns-3 : tie.Need-returns-3
 returns-3 c =
-    let m = c .before .before .first-unit .ensures in
+    let m = c .before .before .unit-move .ensures .0 in
     (m .is, (m .holds-on, (m .list, m .kept)))
 
 split-move-requires : tie.Need-split-move-requires
 split-move-requires c κs =
-    let s = c .before .before .before .before .before .before .before .before .before .before .before in
-    (s .pre .0, (s .pre .1 .0, (s .pre .1 .1, (c .before .before .before .before .before .if1 .left, c .before .before .before .if2 .left, c .before .before .some .ensures .1 (c .before .if3 .left)))))
+    let s = c .before .before .before .before .before .before .before .before .before .before .before .before in
+    (s .pre .0, (s .pre .1 .0, (s .pre .1 .1, (c .before .before .before .before .before .before .if1 .left, c .before .before .before .before .if2 .left, c .before .before .pick .ensures .1 (c .before .if3 .left) (c .before .before .before .before .before .before .if1 .left) (c .before .before .before .before .if2 .left)))))
 
 same-length-4 : tie.Need-same-length-4
 same-length-4 c = search needs
@@ -81,8 +81,8 @@ next-move-spec =
     conflict-at-requires
     same-length-2
     returns-2
-    some-requires
-    first-unit-requires
+    pick-requires
+    unit-move-requires
     same-length-3
     returns-3
     split-move-requires

@@ -1,8 +1,9 @@
 -- `overview::overview` meets its contract: a refusal is the first row's that refuses, and else each goal has its byte. Assumes nothing.
 use Rattle.codec.specs.Valid.{Bytes}
-use Rattle.asking.proofs.Answers.{ask-refused}
 use Rattle.overview.proofs.Answers.{by-row, refuses, room, ends}
+use lib.ListN.{getD-replicate}
 use borrow.Author.Needs.{needs}
+use Rattle.index.specs.Index.{indexSize}
 use Rattle.overview.proofs.overview.Statement.{statement}
 use Rattle.overview.proofs.overview.Tie as tie
 
@@ -13,11 +14,11 @@ bytes c i = c .shared-slice-known .given i .fits
 list-row-requires : tie.Need-list-row-requires
 list-row-requires c κs = search needs
 
-slice-aggregate-ask-by : tie.Need-slice-aggregate-ask-by
-slice-aggregate-ask-by c = search needs
+slice-aggregate-ask-within-by : tie.Need-slice-aggregate-ask-within-by
+slice-aggregate-ask-within-by c = search needs
 
-ask-by-requires : tie.Need-ask-by-requires
-ask-by-requires c κs = search needs
+ask-within-by-requires : tie.Need-ask-within-by-requires
+ask-within-by-requires c κs = (search needs, λ i h. getD-replicate indexSize i 0 0 h)
 
 enum-known-a : tie.Need-enum-known-a
 enum-known-a c = search needs
@@ -33,15 +34,15 @@ put-requires c κs =
     let k = c .before .before .before .before .before .before .before in
     let y = bytes (k .before .before .before .before .before .before) in
     let a = k .before .before .before .before .before .before .before .args in
-    let p = by-row _ _ (a .answers .now) (a .work .now) y (k .before .before .list-row .ensures) (k .ask-by .ensures) .prepared _ (c .before .before .before .before .a2 .given .1) in
-    (p .indexed, (p .admitted .below, (p .admitted .work, room _ _ (a .answers .now) (a .work .now) y p)))
+    let p = by-row _ _ (a .answers .now) (a .work .now) y (k .before .before .list-row .ensures) (k .ask-within-by .ensures) .reached _ (c .before .before .before .before .a2 .given .1) in
+    (p .indexed, (p .below, (p .admitted .work, room _ _ (a .answers .now) (a .work .now) y p)))
 
 returns : tie.Need-returns
 returns c =
     let k = c .before .before .before .before in
     let y = bytes (k .before .before .before .before .before .before) in
     let a = k .before .before .before .before .before .before .before .args in
-    refuses _ _ (a .answers .now) (a .work .now) y _ (ask-refused _ _ _ _ _ _ _ (by-row _ _ (a .answers .now) (a .work .now) y (k .before .before .list-row .ensures) (k .ask-by .ensures)) (c .before .a .given .1))
+    refuses _ _ (a .answers .now) (a .work .now) y _ (by-row _ _ (a .answers .now) (a .work .now) y (k .before .before .list-row .ensures) (k .ask-within-by .ensures) .refuses _ (c .before .a .given .1))
 
 same-length : tie.Need-same-length
 same-length c = search needs
@@ -55,15 +56,15 @@ returns-2 c =
     let k = v .before .before .before .before .before .before .before .before in
     let y = bytes (k .before .before .before .before .before .before) in
     let a = k .before .before .before .before .before .before .before .args in
-    ends _ _ (a .answers .now) (a .work .now) y (by-row _ _ (a .answers .now) (a .work .now) y (k .before .before .list-row .ensures) (k .ask-by .ensures) .prepared _ (v .before .before .before .before .before .a2 .given .1)) (v .put .ensures)
+    ends _ _ (a .answers .now) (a .work .now) y (by-row _ _ (a .answers .now) (a .work .now) y (k .before .before .list-row .ensures) (k .ask-within-by .ensures) .reached _ (v .before .before .before .before .before .a2 .given .1)) (v .put .ensures)
 
 pub overview-spec : {M : Type 1} → statement M
 overview-spec =
     tie.close
     (tie.spec
     list-row-requires
-    slice-aggregate-ask-by
-    ask-by-requires
+    slice-aggregate-ask-within-by
+    ask-within-by-requires
     enum-known-a
     enum-known-a-2
     slice-aggregate-put

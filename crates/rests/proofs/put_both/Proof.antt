@@ -1,5 +1,5 @@
 -- `rests::put_both` meets its contract. Assumes nothing.
-use Rattle.rests.proofs.Words.{put-both as law}
+use Rattle.rests.proofs.Words.{slot-spells, or-spells, put-spelled}
 use borrow.Author.Needs.{needs}
 use Rattle.rests.proofs.put_both.Statement.{statement}
 use Rattle.rests.proofs.put_both.Tie as tie
@@ -73,7 +73,8 @@ same-length c = search needs
 returns : tie.Need-returns
 returns c =
     let start = c .before .before .before .before in
-    law (start .args .m .now) (start .args .q) (start .pre .0) (start .args .p) (start .args .r)
+    let m = start .args .m .now in
+    put-spelled m (start .args .q) (start .pre .0) (or-spells (slot-spells m (start .args .p)) (slot-spells m (start .args .r)))
 
 pub put-both-spec : {M : Type 1} → statement M
 put-both-spec =

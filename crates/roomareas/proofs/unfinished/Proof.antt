@@ -1,6 +1,5 @@
 -- `roomareas::unfinished` meets its contract: no more are counted than were passed. Assumes nothing.
 use Prim.Native.Nat.{_≤_, _-_}
-use native.Mathlib.Omega.{arith}
 use borrow.Author.Needs.{needs}
 use Rattle.roomareas.proofs.unfinished.Statement.{statement}
 use Rattle.roomareas.proofs.unfinished.Tie as tie

@@ -1,6 +1,5 @@
 -- `rooms::spend_all` meets its contract: there is room for eight. Assumes nothing.
 use mathlib.Core.Path.{refl}
-use native.Mathlib.Omega.{arith}
 use borrow.Author.Needs.{needs}
 use Rattle.rooms.proofs.Goes.{rooms-for}
 use Rattle.rooms.proofs.spend_all.Statement.{statement}

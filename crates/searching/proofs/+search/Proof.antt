@@ -27,14 +27,14 @@ use Rattle.state.proofs.count.Reads as count-reads
 use Rattle.searching.proofs.+search.{statement}
 use Rattle.searching.proofs.+search.Tie.{close}
 
-abbrev μ-search : Measures 6 search-kinds.ps ℕ
-μ-search κs a = a .1 .1 .0 - length (gOf (a .1 .1 .1 .1 .0 .now))
+abbrev μ-search : Measures 5 search-kinds.ps ℕ
+μ-search κs a = a .1 .0 - length (gOf (a .1 .1 .1 .0 .now))
 
-abbrev search-at : ℕ → In 6 search-kinds.ps
-search-at t = and 6 search-kinds.ps (is 6 search-kinds.ps μ-search t) search′.Pre
+abbrev search-at : ℕ → In 5 search-kinds.ps
+search-at t = and 5 search-kinds.ps (is 5 search-kinds.ps μ-search t) search′.Pre
 
-abbrev search-below : ℕ → In 6 search-kinds.ps
-search-below t = and 6 search-kinds.ps (falls 6 search-kinds.ps _<_ μ-search t) search′.Pre
+abbrev search-below : ℕ → In 5 search-kinds.ps
+search-below t = and 5 search-kinds.ps (falls 5 search-kinds.ps _<_ μ-search t) search′.Pre
 
 abbrev search-claims : ℕ → search-lts.Claims
 search-claims t = (
@@ -66,7 +66,7 @@ search-propagate-requires : (t : ℕ) → search-lts.Need-propagate-requires (se
 search-propagate-requires t c κs =
     let s = c .before .before .before .before .before .before .before .before in
     let p = s .pre .1 in
-    (p .0, (p .1 .0, (p .1 .1 .0, (p .1 .1 .1 .0, p .1 .1 .1 .1 .0))))
+    (p .0, (p .1 .0, (p .1 .1 .0, p .1 .1 .1 .0)))
 
 search-enum-told : (t : ℕ) → search-lts.Need-enum-told (search-claims t) (search-at t) search′.Post
 search-enum-told t c = search needs
@@ -95,9 +95,9 @@ search-put-only-requires t c κs =
     let at-propagate = at-stop .before .before .before .before .before .before .before .before in
     let s = at-propagate .before .before .before .before .before .before .before .before .before in
     let p = s .pre .1 in
-    let f = jump-forked (at-propagate .propagate .ensures) (s .args .d) (p .1 .0 .table) (p .1 .1 .0 .below) (at-stop .stop .given .1) in
+    let f = jump-forked (at-propagate .propagate .ensures) (s .args .d) (p .0 .table) (p .1 .0 .below) (at-stop .stop .given .1) in
     let h = add-one (at-count .count .result) ∙ ap suc (at-count .count .ensures) in
-    slot-there f (p .1 .0 .few) (at-propagate .propagate .ensures .sets) h
+    slot-there f (p .0 .few) (at-propagate .propagate .ensures .sets) h
 
 search-assume-requires : (t : ℕ) → search-lts.Need-assume-requires (search-claims t) (search-at t) search′.Post
 search-assume-requires t c κs =
@@ -105,8 +105,8 @@ search-assume-requires t c κs =
     let at-propagate = at-stop .before .before .before .before .before .before .before .before in
     let s = at-propagate .before .before .before .before .before .before .before .before .before in
     let p = s .pre .1 in
-    let f = jump-forked (at-propagate .propagate .ensures) (s .args .d) (p .1 .0 .table) (p .1 .1 .0 .below) (at-stop .stop .given .1) in
-    (p .1 .0, (p .1 .1 .0, (at-propagate .propagate .ensures .holds, fork-fresh f)))
+    let f = jump-forked (at-propagate .propagate .ensures) (s .args .d) (p .0 .table) (p .1 .0 .below) (at-stop .stop .given .1) in
+    (p .0, (p .1 .0, (at-propagate .propagate .ensures .holds, fork-fresh f)))
 
 search-add-search : (t : ℕ) → search-lts.Need-add-search (search-claims t) (search-at t) search′.Post
 search-add-search t c =
@@ -114,8 +114,8 @@ search-add-search t c =
     let at-propagate = at-stop .before .before .before .before .before .before .before .before in
     let s = at-propagate .before .before .before .before .before .before .before .before .before in
     let p = s .pre .1 in
-    let f = jump-forked (at-propagate .propagate .ensures) (s .args .d) (p .1 .0 .table) (p .1 .1 .0 .below) (at-stop .stop .given .1) in
-    omega (arith, p .1 .1 .1 .1 .1, f .grows .more, fork-room f, p .1 .0 .few)
+    let f = jump-forked (at-propagate .propagate .ensures) (s .args .d) (p .0 .table) (p .1 .0 .below) (at-stop .stop .given .1) in
+    omega (arith, p .1 .1 .1 .1, f .grows .more, fork-room f, p .0 .few)
 
 search-search-requires : (t : ℕ) → search-lts.Need-search-requires (search-claims t) (search-at t) search′.Post
 search-search-requires t c κs =
@@ -126,11 +126,11 @@ search-search-requires t c κs =
     let at-propagate = at-stop .before .before .before .before .before .before .before .before in
     let s = at-propagate .before .before .before .before .before .before .before .before .before in
     let p = s .pre .1 in
-    let f = jump-forked (at-propagate .propagate .ensures) (s .args .d) (p .1 .0 .table) (p .1 .1 .0 .below) (at-stop .stop .given .1) in
+    let f = jump-forked (at-propagate .propagate .ensures) (s .args .d) (p .0 .table) (p .1 .0 .below) (at-stop .stop .given .1) in
     let h = add-one (at-count .count .result) ∙ ap suc (at-count .count .ensures) in
     let q = at-assume .assume .ensures .1 in
     let m = left-sets (at-propagate .propagate .ensures) (s .args .d) f h (at-put-only .put-only .ensures) in
-    (omega (arith, s .pre .0, fork-less f q), (p .0, (p .1 .0, (p .1 .1 .0, (at-assume .assume .ensures .0, (m, omega (arith, p .1 .1 .1 .1 .1, f .grows .more, ap length q)))))))
+    (omega (arith, s .pre .0, fork-less f q), (p .0, (p .1 .0, (at-assume .assume .ensures .0, (m, omega (arith, p .1 .1 .1 .1, f .grows .more, ap length q))))))
 
 search-enum-known-left : (t : ℕ) → search-lts.Need-enum-known-left (search-claims t) (search-at t) search′.Post
 search-enum-known-left t c = search needs
@@ -154,21 +154,21 @@ search-same-length t c =
     let at-search = c .before .before .before .before .before .before .before .before .before .before .before .before .before in
     let at-assume = at-search .before .before .before .before .before .before .before .before in
     let at-propagate = at-assume .before .before .before .before .before .before .before .before .before .before .before .before .before .before .before .before .before .before in
-    omega (arith, at-search .search .kept .1 .1 .1 .1 .0, at-assume .assume .kept .1 .1 .1 .0, at-propagate .propagate .kept .1 .1 .1 .1 .0)
+    omega (arith, at-search .search .kept .1 .1 .1 .0, at-assume .assume .kept .1 .1 .1 .0, at-propagate .propagate .kept .1 .1 .1 .0)
 
 search-same-length-2 : (t : ℕ) → search-lts.Need-same-length-2 (search-claims t) (search-at t) search′.Post
 search-same-length-2 t c =
     let at-search = c .before .before .before .before .before .before .before .before .before .before .before .before .before in
     let at-assume = at-search .before .before .before .before .before .before .before .before in
     let at-propagate = at-assume .before .before .before .before .before .before .before .before .before .before .before .before .before .before .before .before .before .before in
-    omega (arith, at-search .search .kept .1 .1 .1 .1 .1 .0, at-assume .assume .kept .1 .1 .1 .1 .0, at-propagate .propagate .kept .1 .1 .1 .1 .1 .0)
+    omega (arith, at-search .search .kept .1 .1 .1 .1 .0, at-assume .assume .kept .1 .1 .1 .1 .0, at-propagate .propagate .kept .1 .1 .1 .1 .0)
 
 search-same-length-3 : (t : ℕ) → search-lts.Need-same-length-3 (search-claims t) (search-at t) search′.Post
 search-same-length-3 t c =
     let at-search = c .before .before .before .before .before .before .before .before .before .before .before .before .before in
     let far-1 = at-search .before .before .before .before .before .before .before .before .before .before .before .before .before .before .before .before .before .before .before .before in
     let s = far-1 .before .before .before .before .before .before .before .before .before .before .before .before .before .before .before in
-    at-search .search .ensures .sets .size ∙ sym (s .pre .1 .1 .1 .1 .1 .0 .size)
+    at-search .search .ensures .sets .size ∙ sym (s .pre .1 .1 .1 .1 .0 .size)
 
 search-returns : (t : ℕ) → search-lts.Need-returns (search-claims t) (search-at t) search′.Post
 search-returns t c =
@@ -184,7 +184,7 @@ search-returns t c =
     let at-propagate = at-stop .before .before .before .before .before .before .before .before in
     let s = at-propagate .before .before .before .before .before .before .before .before .before in
     let p = s .pre .1 in
-    let f = jump-forked (at-propagate .propagate .ensures) (s .args .d) (p .1 .0 .table) (p .1 .1 .0 .below) (at-stop .stop .given .1) in
+    let f = jump-forked (at-propagate .propagate .ensures) (s .args .d) (p .0 .table) (p .1 .0 .below) (at-stop .stop .given .1) in
     let h = add-one (at-count .count .result) ∙ ap suc (at-count .count .ensures) in
     left-skips (at-propagate .propagate .ensures) (s .args .d) f h (at-put-only .put-only .ensures) (add-one (s .args .d)) (at-assume .assume .ensures .1) (at-search .search .ensures)
     (at-left2 .left2 .given .1) (sym (at-without .without .ensures) ∙ at-if1 .if1 .taken) (at-one-more2 .one-more2 .ensures)
@@ -198,10 +198,10 @@ search-undo-to-requires t c κs =
     let at-propagate = at-stop .before .before .before .before .before .before .before .before in
     let s = at-propagate .before .before .before .before .before .before .before .before .before in
     let p = s .pre .1 in
-    let f = jump-forked (at-propagate .propagate .ensures) (s .args .d) (p .1 .0 .table) (p .1 .1 .0 .below) (at-stop .stop .given .1) in
+    let f = jump-forked (at-propagate .propagate .ensures) (s .args .d) (p .0 .table) (p .1 .0 .below) (at-stop .stop .given .1) in
     let a = at-search .search .ensures in
     let q = at-assume .assume .ensures .1 in
-    (p .1 .0, (p .1 .1 .0, (a .holds, (undo-less f (at-count .count .ensures) q (a .grows), undo-splits f (at-count .count .ensures) q (a .grows)))))
+    (p .0, (p .1 .0, (a .holds, (undo-less f (at-count .count .ensures) q (a .grows), undo-splits f (at-count .count .ensures) q (a .grows)))))
 
 search-put-less-requires : (t : ℕ) → search-lts.Need-put-less-requires (search-claims t) (search-at t) search′.Post
 search-put-less-requires t c κs =
@@ -213,10 +213,10 @@ search-put-less-requires t c κs =
     let at-propagate = at-stop .before .before .before .before .before .before .before .before in
     let s = at-propagate .before .before .before .before .before .before .before .before .before in
     let p = s .pre .1 in
-    let f = jump-forked (at-propagate .propagate .ensures) (s .args .d) (p .1 .0 .table) (p .1 .1 .0 .below) (at-stop .stop .given .1) in
+    let f = jump-forked (at-propagate .propagate .ensures) (s .args .d) (p .0 .table) (p .1 .0 .below) (at-stop .stop .given .1) in
     let h = add-one (at-count .count .result) ∙ ap suc (at-count .count .ensures) in
     let a = at-search .search .ensures in
-    ((slot-there f (p .1 .0 .few) (a .sets) h, omega (arith, a .sets .size)), rests-on (s .args .d) _ (sym (at-without .without .ensures) ∙ at-if1 .if1 .left))
+    ((slot-there f (p .0 .few) (a .sets) h, omega (arith, a .sets .size)), rests-on (s .args .d) _ (sym (at-without .without .ensures) ∙ at-if1 .if1 .left))
 
 search-negated-requires : (t : ℕ) → search-lts.Need-negated-requires (search-claims t) (search-at t) search′.Post
 search-negated-requires t c κs =
@@ -226,8 +226,8 @@ search-negated-requires t c κs =
     let at-propagate = at-stop .before .before .before .before .before .before .before .before in
     let s = at-propagate .before .before .before .before .before .before .before .before .before in
     let p = s .pre .1 in
-    let f = jump-forked (at-propagate .propagate .ensures) (s .args .d) (p .1 .0 .table) (p .1 .1 .0 .below) (at-stop .stop .given .1) in
-    omega (arith, fork-fresh f .0, p .1 .0 .few)
+    let f = jump-forked (at-propagate .propagate .ensures) (s .args .d) (p .0 .table) (p .1 .0 .below) (at-stop .stop .given .1) in
+    omega (arith, fork-fresh f .0, p .0 .few)
 
 search-assume-requires-2 : (t : ℕ) → search-lts.Need-assume-requires-2 (search-claims t) (search-at t) search′.Post
 search-assume-requires-2 t c κs =
@@ -240,9 +240,9 @@ search-assume-requires-2 t c κs =
     let at-propagate = at-stop .before .before .before .before .before .before .before .before in
     let s = at-propagate .before .before .before .before .before .before .before .before .before in
     let p = s .pre .1 in
-    let f = jump-forked (at-propagate .propagate .ensures) (s .args .d) (p .1 .0 .table) (p .1 .1 .0 .below) (at-stop .stop .given .1) in
+    let f = jump-forked (at-propagate .propagate .ensures) (s .args .d) (p .0 .table) (p .1 .0 .below) (at-stop .stop .given .1) in
     let u = at-undo-to .undo-to .ensures in
-    (p .1 .0, (p .1 .1 .0, (u .0, right-fresh f (at-count .count .ensures) (at-assume .assume .ensures .1) (at-search .search .ensures .grows) (u .1) (at-negated .negated .ensures))))
+    (p .0, (p .1 .0, (u .0, right-fresh f (at-count .count .ensures) (at-assume .assume .ensures .1) (at-search .search .ensures .grows) (u .1) (at-negated .negated .ensures))))
 
 search-add-search-2 : (t : ℕ) → search-lts.Need-add-search-2 (search-claims t) (search-at t) search′.Post
 search-add-search-2 t c =
@@ -252,8 +252,8 @@ search-add-search-2 t c =
     let at-propagate = at-stop .before .before .before .before .before .before .before .before in
     let s = at-propagate .before .before .before .before .before .before .before .before .before in
     let p = s .pre .1 in
-    let f = jump-forked (at-propagate .propagate .ensures) (s .args .d) (p .1 .0 .table) (p .1 .1 .0 .below) (at-stop .stop .given .1) in
-    omega (arith, p .1 .1 .1 .1 .1, f .grows .more, fork-room f, p .1 .0 .few)
+    let f = jump-forked (at-propagate .propagate .ensures) (s .args .d) (p .0 .table) (p .1 .0 .below) (at-stop .stop .given .1) in
+    omega (arith, p .1 .1 .1 .1, f .grows .more, fork-room f, p .0 .few)
 
 search-search-requires-2 : (t : ℕ) → search-lts.Need-search-requires-2 (search-claims t) (search-at t) search′.Post
 search-search-requires-2 t c κs =
@@ -272,14 +272,14 @@ search-search-requires-2 t c κs =
     let at-propagate = at-stop .before .before .before .before .before .before .before .before in
     let s = at-propagate .before .before .before .before .before .before .before .before .before in
     let p = s .pre .1 in
-    let f = jump-forked (at-propagate .propagate .ensures) (s .args .d) (p .1 .0 .table) (p .1 .1 .0 .below) (at-stop .stop .given .1) in
+    let f = jump-forked (at-propagate .propagate .ensures) (s .args .d) (p .0 .table) (p .1 .0 .below) (at-stop .stop .given .1) in
     let h = add-one (at-count .count .result) ∙ ap suc (at-count .count .ensures) in
     let a = at-search .search .ensures in
     let q = at-assume .assume .ensures .1 in
     let b = right-list f (at-count .count .ensures) q (a .grows) (at-undo-to .undo-to .ensures .1) (at-negated .negated .ensures) (at-assume2 .assume2 .ensures .1) in
     let z = sym (at-without .without .ensures) ∙ at-if1 .if1 .left in
     let m = right-sets (at-propagate .propagate .ensures) (s .args .d) f h (at-put-only .put-only .ensures) (add-one (s .args .d)) q a (at-left2 .left2 .given .1) z (at-put-less .put-less .ensures) in
-    (omega (arith, s .pre .0, fork-less f b), (p .0, (p .1 .0, (p .1 .1 .0, (at-assume2 .assume2 .ensures .0, (m, omega (arith, p .1 .1 .1 .1 .1, f .grows .more, ap length b)))))))
+    (omega (arith, s .pre .0, fork-less f b), (p .0, (p .1 .0, (at-assume2 .assume2 .ensures .0, (m, omega (arith, p .1 .1 .1 .1, f .grows .more, ap length b))))))
 
 search-with-left-requires : (t : ℕ) → search-lts.Need-with-left-requires (search-claims t) (search-at t) search′.Post
 search-with-left-requires t c κs = search needs
@@ -287,18 +287,18 @@ search-with-left-requires t c κs = search needs
 search-same-length-4 : (t : ℕ) → search-lts.Need-same-length-4 (search-claims t) (search-at t) search′.Post
 search-same-length-4 t c =
     let at-propagate = c .before .before .before .before .before .before .before .before in
-    omega (arith, at-propagate .propagate .kept .1 .1 .1 .1 .0)
+    omega (arith, at-propagate .propagate .kept .1 .1 .1 .0)
 
 search-same-length-5 : (t : ℕ) → search-lts.Need-same-length-5 (search-claims t) (search-at t) search′.Post
 search-same-length-5 t c =
     let at-propagate = c .before .before .before .before .before .before .before .before in
-    omega (arith, at-propagate .propagate .kept .1 .1 .1 .1 .1 .0)
+    omega (arith, at-propagate .propagate .kept .1 .1 .1 .1 .0)
 
 search-same-length-6 : (t : ℕ) → search-lts.Need-same-length-6 (search-claims t) (search-at t) search′.Post
 search-same-length-6 t c =
     let at-propagate = c .before .before .before .before .before .before .before .before in
     let s = at-propagate .before .before .before .before .before .before .before .before .before in
-    at-propagate .propagate .ensures .sets .size ∙ sym (s .pre .1 .1 .1 .1 .1 .0 .size)
+    at-propagate .propagate .ensures .sets .size ∙ sym (s .pre .1 .1 .1 .1 .0 .size)
 
 search-returns-2 : (t : ℕ) → search-lts.Need-returns-2 (search-claims t) (search-at t) search′.Post
 search-returns-2 t c =
@@ -310,18 +310,18 @@ search-returns-2 t c =
 search-same-length-7 : (t : ℕ) → search-lts.Need-same-length-7 (search-claims t) (search-at t) search′.Post
 search-same-length-7 t c =
     let at-propagate = c .before .before .before .before .before .before .before .before in
-    omega (arith, at-propagate .propagate .kept .1 .1 .1 .1 .0)
+    omega (arith, at-propagate .propagate .kept .1 .1 .1 .0)
 
 search-same-length-8 : (t : ℕ) → search-lts.Need-same-length-8 (search-claims t) (search-at t) search′.Post
 search-same-length-8 t c =
     let at-propagate = c .before .before .before .before .before .before .before .before in
-    omega (arith, at-propagate .propagate .kept .1 .1 .1 .1 .1 .0)
+    omega (arith, at-propagate .propagate .kept .1 .1 .1 .1 .0)
 
 search-same-length-9 : (t : ℕ) → search-lts.Need-same-length-9 (search-claims t) (search-at t) search′.Post
 search-same-length-9 t c =
     let at-propagate = c .before .before .before .before .before .before .before .before in
     let s = at-propagate .before .before .before .before .before .before .before .before .before in
-    at-propagate .propagate .ensures .sets .size ∙ sym (s .pre .1 .1 .1 .1 .1 .0 .size)
+    at-propagate .propagate .ensures .sets .size ∙ sym (s .pre .1 .1 .1 .1 .0 .size)
 
 search-returns-3 : (t : ℕ) → search-lts.Need-returns-3 (search-claims t) (search-at t) search′.Post
 search-returns-3 t c =
@@ -335,21 +335,21 @@ search-same-length-10 t c =
     let at-search = c .before .before .before .before .before .before .before .before .before .before in
     let at-assume = at-search .before .before .before .before .before .before .before .before in
     let at-propagate = at-assume .before .before .before .before .before .before .before .before .before .before .before .before .before .before .before .before .before .before in
-    omega (arith, at-search .search .kept .1 .1 .1 .1 .0, at-assume .assume .kept .1 .1 .1 .0, at-propagate .propagate .kept .1 .1 .1 .1 .0)
+    omega (arith, at-search .search .kept .1 .1 .1 .0, at-assume .assume .kept .1 .1 .1 .0, at-propagate .propagate .kept .1 .1 .1 .0)
 
 search-same-length-11 : (t : ℕ) → search-lts.Need-same-length-11 (search-claims t) (search-at t) search′.Post
 search-same-length-11 t c =
     let at-search = c .before .before .before .before .before .before .before .before .before .before in
     let at-assume = at-search .before .before .before .before .before .before .before .before in
     let at-propagate = at-assume .before .before .before .before .before .before .before .before .before .before .before .before .before .before .before .before .before .before in
-    omega (arith, at-search .search .kept .1 .1 .1 .1 .1 .0, at-assume .assume .kept .1 .1 .1 .1 .0, at-propagate .propagate .kept .1 .1 .1 .1 .1 .0)
+    omega (arith, at-search .search .kept .1 .1 .1 .1 .0, at-assume .assume .kept .1 .1 .1 .1 .0, at-propagate .propagate .kept .1 .1 .1 .1 .0)
 
 search-same-length-12 : (t : ℕ) → search-lts.Need-same-length-12 (search-claims t) (search-at t) search′.Post
 search-same-length-12 t c =
     let at-search = c .before .before .before .before .before .before .before .before .before .before in
     let far-1 = at-search .before .before .before .before .before .before .before .before .before .before .before .before .before .before .before .before .before .before .before .before in
     let s = far-1 .before .before .before .before .before .before .before .before .before .before .before .before .before .before .before in
-    at-search .search .ensures .sets .size ∙ sym (s .pre .1 .1 .1 .1 .1 .0 .size)
+    at-search .search .ensures .sets .size ∙ sym (s .pre .1 .1 .1 .1 .0 .size)
 
 search-returns-4 : (t : ℕ) → search-lts.Need-returns-4 (search-claims t) (search-at t) search′.Post
 search-returns-4 t c =
@@ -363,7 +363,7 @@ search-returns-4 t c =
     let at-propagate = at-stop .before .before .before .before .before .before .before .before in
     let s = at-propagate .before .before .before .before .before .before .before .before .before in
     let p = s .pre .1 in
-    let f = jump-forked (at-propagate .propagate .ensures) (s .args .d) (p .1 .0 .table) (p .1 .1 .0 .below) (at-stop .stop .given .1) in
+    let f = jump-forked (at-propagate .propagate .ensures) (s .args .d) (p .0 .table) (p .1 .0 .below) (at-stop .stop .given .1) in
     let h = add-one (at-count .count .result) ∙ ap suc (at-count .count .ensures) in
     left-found (at-propagate .propagate .ensures) (s .args .d) f h (at-put-only .put-only .ensures) (add-one (s .args .d)) (at-assume .assume .ensures .1) (at-search .search .ensures)
     (at-left .left .given .1) (at-one-more .one-more .ensures)
@@ -376,7 +376,7 @@ search-same-length-13 t c =
     let at-search = at-undo-to .before .before .before .before .before .before .before .before .before .before .before .before .before .before .before in
     let at-assume = at-search .before .before .before .before .before .before .before .before in
     let at-propagate = at-assume .before .before .before .before .before .before .before .before .before .before .before .before .before .before .before .before .before .before in
-    omega (arith, at-search2 .search2 .kept .1 .1 .1 .1 .0, at-assume2 .assume2 .kept .1 .1 .1 .0, at-undo-to .undo-to .kept .1 .1 .1 .0, at-search .search .kept .1 .1 .1 .1 .0, at-assume .assume .kept .1 .1 .1 .0, at-propagate .propagate .kept .1 .1 .1 .1 .0)
+    omega (arith, at-search2 .search2 .kept .1 .1 .1 .0, at-assume2 .assume2 .kept .1 .1 .1 .0, at-undo-to .undo-to .kept .1 .1 .1 .0, at-search .search .kept .1 .1 .1 .0, at-assume .assume .kept .1 .1 .1 .0, at-propagate .propagate .kept .1 .1 .1 .0)
 
 search-same-length-14 : (t : ℕ) → search-lts.Need-same-length-14 (search-claims t) (search-at t) search′.Post
 search-same-length-14 t c =
@@ -386,7 +386,7 @@ search-same-length-14 t c =
     let at-search = at-undo-to .before .before .before .before .before .before .before .before .before .before .before .before .before .before .before in
     let at-assume = at-search .before .before .before .before .before .before .before .before in
     let at-propagate = at-assume .before .before .before .before .before .before .before .before .before .before .before .before .before .before .before .before .before .before in
-    omega (arith, at-search2 .search2 .kept .1 .1 .1 .1 .1 .0, at-assume2 .assume2 .kept .1 .1 .1 .1 .0, at-undo-to .undo-to .kept .1 .1 .1 .1 .0, at-search .search .kept .1 .1 .1 .1 .1 .0, at-assume .assume .kept .1 .1 .1 .1 .0, at-propagate .propagate .kept .1 .1 .1 .1 .1 .0)
+    omega (arith, at-search2 .search2 .kept .1 .1 .1 .1 .0, at-assume2 .assume2 .kept .1 .1 .1 .1 .0, at-undo-to .undo-to .kept .1 .1 .1 .1 .0, at-search .search .kept .1 .1 .1 .1 .0, at-assume .assume .kept .1 .1 .1 .1 .0, at-propagate .propagate .kept .1 .1 .1 .1 .0)
 
 search-same-length-15 : (t : ℕ) → search-lts.Need-same-length-15 (search-claims t) (search-at t) search′.Post
 search-same-length-15 t c =
@@ -395,7 +395,7 @@ search-same-length-15 t c =
     let far-2 = far-1 .before .before .before .before .before .before .before .before .before .before .before .before .before .before .before .before .before .before .before .before in
     let far-3 = far-2 .before .before .before .before .before .before .before .before .before .before .before .before .before .before .before .before .before .before .before .before in
     let s = far-3 .before .before .before .before .before .before .before .before .before .before in
-    at-search2 .search2 .ensures .sets .size ∙ sym (s .pre .1 .1 .1 .1 .1 .0 .size)
+    at-search2 .search2 .ensures .sets .size ∙ sym (s .pre .1 .1 .1 .1 .0 .size)
 
 search-returns-5 : (t : ℕ) → search-lts.Need-returns-5 (search-claims t) (search-at t) search′.Post
 search-returns-5 t c =
@@ -416,7 +416,7 @@ search-returns-5 t c =
     let at-propagate = at-stop .before .before .before .before .before .before .before .before in
     let s = at-propagate .before .before .before .before .before .before .before .before .before in
     let p = s .pre .1 in
-    let f = jump-forked (at-propagate .propagate .ensures) (s .args .d) (p .1 .0 .table) (p .1 .1 .0 .below) (at-stop .stop .given .1) in
+    let f = jump-forked (at-propagate .propagate .ensures) (s .args .d) (p .0 .table) (p .1 .0 .below) (at-stop .stop .given .1) in
     let h = add-one (at-count .count .result) ∙ ap suc (at-count .count .ensures) in
     let a = at-search .search .ensures in
     let q = at-assume .assume .ensures .1 in

@@ -19,9 +19,6 @@ enum-told-2 c = search needs
 enum-told-3 : tie.Need-enum-told-3
 enum-told-3 c = search needs
 
-templates-requires : tie.Need-templates-requires
-templates-requires c κs = search needs
-
 count-requires : tie.Need-count-requires
 count-requires c κs = search needs
 
@@ -30,15 +27,15 @@ cast-held c = search needs
 
 clear-requires : tie.Need-clear-requires
 clear-requires c κs =
-    let p = c .before .before .before .before .before .before .before .before .before .before .before .before .before .before .before .before .before .before .pre in
-    let low = held-low (c .before .before .before .before .before .before .before .before .before .before .first-units .ensures .holds) (p .0 .few) in
+    let p = c .before .before .before .before .before .before .before .before .before .before .before .before .before .before .before .before .before .pre in
+    let low = held-low (c .before .before .before .before .before .before .before .before .before .first-units .ensures .holds) (p .0 .few) in
     omega (arith, low, c .before .count .ensures, p .1 .1 .1 .size)
 
 search-requires : tie.Need-search-requires
 search-requires c κs =
-    let p = c .before .before .before .before .before .before .before .before .before .before .before .before .before .before .before .before .before .before .before .before .before .before .before .before .before .pre in
-    let sets = cleared-sets (c .before .before .before .before .before .before .before .before .count .result) (p .1 .1 .1) (c .before .before .before .before .before .before .clear .ensures) in
-    (c .before .before .before .before .before .before .before .before .before .before .templates .ensures, (p .0, (p .1 .0, (c .before .before .before .before .before .before .before .before .before .before .before .before .before .before .before .before .before .first-units .ensures .holds, (sets, omega arith)))))
+    let p = c .before .before .before .before .before .before .before .before .before .before .before .before .before .before .before .before .before .before .before .before .before .before .before .pre in
+    let sets = cleared-sets (c .before .before .before .before .before .before .before .count .result) (p .1 .1 .1) (c .before .before .before .before .before .clear .ensures) in
+    (p .0, (p .1 .0, (c .before .before .before .before .before .before .before .before .before .before .before .before .before .before .before .first-units .ensures .holds, (sets, omega arith))))
 
 same-length : tie.Need-same-length
 same-length c = search needs
@@ -73,12 +70,12 @@ same-length-7 c = search needs
 
 returns-3 : tie.Need-returns-3
 returns-3 c =
-    let p = c .before .before .before .before .before .before .before .before .before .before .before .before .before .before .before .before .before .before .before .before .before .before .before .before .before .before .before .before .before .before .before .before .pre in
-    let units = c .before .before .before .before .before .before .before .before .before .before .before .before .before .before .before .before .before .before .before .before .before .before .before .before .first-units .ensures in
+    let p = c .before .before .before .before .before .before .before .before .before .before .before .before .before .before .before .before .before .before .before .before .before .before .before .before .before .before .before .before .before .before .pre in
+    let units = c .before .before .before .before .before .before .before .before .before .before .before .before .before .before .before .before .before .before .before .before .before .before .first-units .ensures in
     let low = held-low (units .holds) (p .0 .few) in
-    let cleared = cleared-same (c .before .before .before .before .before .before .before .before .before .before .before .before .before .before .before .count .result) (omega (arith, low, c .before .before .before .before .before .before .before .before .before .before .before .before .before .before .before .count .ensures)) (c .before .before .before .before .before .before .before .before .before .before .before .before .before .clear .ensures) in
+    let cleared = cleared-same (c .before .before .before .before .before .before .before .before .before .before .before .before .before .before .count .result) (omega (arith, low, c .before .before .before .before .before .before .before .before .before .before .before .before .before .before .count .ensures)) (c .before .before .before .before .before .before .before .before .before .before .before .before .clear .ensures) in
     let done = c .before .before .before .before .before .before .search .ensures in
-    (counted-whole (p .1 .1 .0 .1) (jumps-on units (jumps-from (λ q h. cleared q (omega (arith, h, c .before .before .before .before .before .before .before .before .before .before .before .before .before .before .before .count .ensures))) done)), done .sets)
+    (counted-whole (p .1 .1 .0 .1) (jumps-on units (jumps-from (λ q h. cleared q (omega (arith, h, c .before .before .before .before .before .before .before .before .before .before .before .before .before .before .count .ensures))) done)), done .sets)
 
 pub from-start-spec : {M : Type 1} → statement M
 from-start-spec =
@@ -88,7 +85,6 @@ from-start-spec =
     enum-told
     enum-told-2
     enum-told-3
-    templates-requires
     count-requires
     cast-held
     clear-requires

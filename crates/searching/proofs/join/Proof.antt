@@ -20,17 +20,17 @@ add-slot c = search needs
 put-clause-requires : tie.Need-put-clause-requires
 put-clause-requires c κs =
     let p = c .before .before .before .before .before .before .before .before .before .pre in
-    let H = p .1 .1 .1 .0 in
-    let D = p .1 .1 .1 .1 .1 in
+    let H = p .1 .1 .0 in
+    let D = p .1 .1 .1 .1 in
     let h = add-one (c .before .before .count .result) ∙ ap suc (c .before .before .count .ensures) in
-    let g = unit-grounded (rested-starts H (p .1 .1 .1 .1 .0)) (p .1 .0 .few) refl (p .1 .0 .table) (p .1 .1 .0 .below) (D .next) h in
-    (p .0, (p .1 .0, (p .1 .1 .0, ((H .ready, H .numbered), (D .placed, g)))))
+    let g = unit-grounded (rested-starts H (p .1 .1 .1 .0)) (p .0 .few) refl (p .0 .table) (p .1 .0 .below) (D .next) h in
+    (p .0, (p .1 .0, ((H .ready, H .numbered), (D .placed, g))))
 
 assume-requires : tie.Need-assume-requires
 assume-requires c κs =
     let p = c .before .before .before .before .before .before .before .before .before .before .before .before .before .before .pre in
-    let H = p .1 .1 .1 .0 in
-    (p .1 .0, (p .1 .1 .0, (H, run-fresh (run-starts H) (p .1 .0 .table) (p .1 .1 .0 .below) (p .1 .1 .1 .1 .1 .next))))
+    let H = p .1 .1 .0 in
+    (p .0, (p .1 .0, (H, run-fresh (run-starts H) (p .0 .table) (p .1 .0 .below) (p .1 .1 .1 .1 .next))))
 
 same-length : tie.Need-same-length
 same-length c = search needs

@@ -1,84 +1,61 @@
 -- `solver::enter` meets its contract. Assumes nothing.
-use Rattle.solver.proofs.Marks.{marked-lower, marked-kept}
+use Rattle.index.specs.Index.{indexNode}
+use Rattle.state.proofs.Areas.{count-most}
+use Rattle.solver.proofs.Marks.{renewed-empty, renewed-unit, renewed-same, code-empty, code-fine, code-one, code-none, choice-low, code-low, code-small, code-forces}
 use native.Mathlib.Omega.{arith}
 use borrow.Author.Needs.{needs}
 use Rattle.solver.proofs.enter.Statement.{statement}
 use Rattle.solver.proofs.enter.Tie as tie
 
-put-code-requires : tie.Need-put-code-requires
-put-code-requires c κs = search needs
-
-cast-put : tie.Need-cast-put
-cast-put c = search needs
-
-put-requires : tie.Need-put-requires
-put-requires c κs = search needs
-
-cast-if2 : tie.Need-cast-if2
-cast-if2 c = search needs
-
-slice-read-if2 : tie.Need-slice-read-if2
-slice-read-if2 c = search needs
-
-cast-work : tie.Need-cast-work
-cast-work c = search needs
-
-slice-write-work : tie.Need-slice-write-work
-slice-write-work c = search needs
+conflict-requires : tie.Need-conflict-requires
+conflict-requires c κs = (c .before .before .before .before .before .pre .1 .0 .0 .size, omega (arith, c .before .before .before .before .before .pre .1 .1 .0 .0, count-most (c .before .before .before .before .before .pre .1 .0 .0), c .before .before .before .before .before .pre .0 .few))
 
 same-length : tie.Need-same-length
 same-length c = search needs
 
+returns : tie.Need-returns
+returns c = renewed-empty (indexNode (c .before .before .before .before .before .before .before .before .args .x .now)) (c .before .before .before .before .before .before .before .before .pre .0 .few) (c .before .before .before .before .before .before .before .before .pre .1 .0 .0) (c .before .before .before .before .before .before .before .before .pre .1 .1 .0 .0) (c .before .before .before .before .before .before .before .before .pre .1 .0 .1) (code-empty (indexNode (c .before .before .before .before .before .before .before .before .args .x .now)) (c .before .before .before .before .before .before .before .before .pre .0 .table) (c .before .before .before .before .before .before .before .before .pre .0 .few) (c .before .before .before .before .before .before .before .before .pre .1 .0 .0) (c .before .before .before .before .before .before .before .before .pre .1 .1 .0 .0) (c .before .before .before .before .before .before .before .before .pre .1 .1 .0 .2) (c .before .before .before .before .before .before .before .before .pre .1 .1 .1) (c .before .before .before .before .if1 .taken)) (c .before .before .conflict .ensures)
+
+cast-choose : tie.Need-cast-choose
+cast-choose c = search needs
+
+choose-requires : tie.Need-choose-requires
+choose-requires c κs = (c .before .before .before .before .before .pre .0, (c .before .before .before .before .before .pre .1 .1 .0 .2, choice-low (indexNode (c .before .before .before .before .before .args .x .now)) (c .before .before .before .before .before .pre .0 .table) (c .before .before .before .before .before .pre .0 .few) (c .before .before .before .before .before .pre .1 .0 .0) (c .before .before .before .before .before .pre .1 .1 .0 .0) (c .before .before .before .before .before .pre .1 .1 .0 .2) (c .before .before .before .before .before .pre .1 .1 .1) (c .if2 .taken)))
+
+mul-unit : tie.Need-mul-unit
+mul-unit c = search needs
+
+add-unit : tie.Need-add-unit
+add-unit c = omega (arith, code-small (indexNode (c .before .before .before .before .before .before .before .before .args .x .now)) (c .before .before .before .before .before .before .before .before .pre .0 .table) (c .before .before .before .before .before .before .before .before .pre .0 .few) (c .before .before .before .before .before .before .before .before .pre .1 .0 .0) (c .before .before .before .before .before .before .before .before .pre .1 .1 .0 .0) (c .before .before .before .before .before .before .before .before .pre .1 .1 .0 .2) (c .before .before .before .before .before .before .before .before .pre .1 .1 .1) (c .before .before .before .if2 .taken) (c .before .before .choose .ensures))
+
+unit-requires : tie.Need-unit-requires
+unit-requires c κs = (c .before .before .before .before .before .before .before .before .pre .1 .0 .1, (c .before .before .before .before .before .before .before .before .pre .1 .0 .0 .size, omega (arith, c .before .before .before .before .before .before .before .before .pre .1 .1 .0 .0, count-most (c .before .before .before .before .before .before .before .before .pre .1 .0 .0), c .before .before .before .before .before .before .before .before .pre .0 .few)))
+
 same-length-2 : tie.Need-same-length-2
 same-length-2 c = search needs
-
-returns : tie.Need-returns
-returns c =
-    let s = c .before .before .before .before .before .before .before .before .before .before .before .before .before in
-    let k = c .before .before .before .before .before .before .before .before .before .put-code in
-    marked-lower (s .args .work .now) (k .last .0) (s .args .q) (s .args .code) (s .pre .1 .0) (s .pre .1 .1) (k .ensures) (c .before .before .before .before .before .put .ensures) (c .before .before .if1 .taken) (c .if2 .taken)
 
 same-length-3 : tie.Need-same-length-3
 same-length-3 c = search needs
 
-same-length-4 : tie.Need-same-length-4
-same-length-4 c = search needs
-
 returns-2 : tie.Need-returns-2
-returns-2 c =
-    let s = c .before .before .before .before .before .before .before .before .before .before .before .before .before in
-    let k = c .before .before .before .before .before .before .before .before .before .put-code in
-    marked-kept (s .args .work .now) (k .last .0) (s .args .q) (s .args .code) (s .pre .1 .0) (s .pre .1 .1) (k .ensures) (c .before .before .before .before .before .put .ensures) (λ e. omega (arith, c .if2 .left))
-
-same-length-5 : tie.Need-same-length-5
-same-length-5 c = search needs
-
-same-length-6 : tie.Need-same-length-6
-same-length-6 c = search needs
+returns-2 c = renewed-unit (indexNode (c .before .before .before .before .before .before .before .before .before .before .before .before .before .args .x .now)) (c .before .before .before .before .before .before .before .before .before .before .before .before .before .pre .0 .few) (c .before .before .before .before .before .before .before .before .before .before .before .before .before .pre .1 .0 .0) (c .before .before .before .before .before .before .before .before .before .before .before .before .before .pre .1 .1 .0 .0) (code-fine (indexNode (c .before .before .before .before .before .before .before .before .before .before .before .before .before .args .x .now)) (c .before .before .before .before .before .before .before .before .before .before .before .before .before .pre .0 .table) (c .before .before .before .before .before .before .before .before .before .before .before .before .before .pre .0 .few) (c .before .before .before .before .before .before .before .before .before .before .before .before .before .pre .1 .0 .0) (c .before .before .before .before .before .before .before .before .before .before .before .before .before .pre .1 .1 .0 .0) (c .before .before .before .before .before .before .before .before .before .before .before .before .before .pre .1 .1 .0 .2) (c .before .before .before .before .before .before .before .before .before .before .before .before .before .pre .1 .1 .1) (c .before .before .before .before .before .before .before .before .before .if1 .left)) (code-one (indexNode (c .before .before .before .before .before .before .before .before .before .before .before .before .before .args .x .now)) (c .before .before .before .before .before .before .before .before .before .before .before .before .before .pre .0 .table) (c .before .before .before .before .before .before .before .before .before .before .before .before .before .pre .0 .few) (c .before .before .before .before .before .before .before .before .before .before .before .before .before .pre .1 .0 .0) (c .before .before .before .before .before .before .before .before .before .before .before .before .before .pre .1 .1 .0 .0) (c .before .before .before .before .before .before .before .before .before .before .before .before .before .pre .1 .1 .0 .2) (c .before .before .before .before .before .before .before .before .before .before .before .before .before .pre .1 .1 .1) (c .before .before .before .before .before .before .before .before .if2 .taken)) (code-forces (indexNode (c .before .before .before .before .before .before .before .before .before .before .before .before .before .args .x .now)) (c .before .before .before .before .before .before .before .before .before .before .before .before .before .pre .0 .table) (c .before .before .before .before .before .before .before .before .before .before .before .before .before .pre .0 .few) (c .before .before .before .before .before .before .before .before .before .before .before .before .before .pre .1 .0 .0) (c .before .before .before .before .before .before .before .before .before .before .before .before .before .pre .1 .1 .0 .0) (c .before .before .before .before .before .before .before .before .before .before .before .before .before .pre .1 .1 .0 .2) (c .before .before .before .before .before .before .before .before .before .before .before .before .before .pre .1 .1 .1) (c .before .before .before .before .before .before .before .before .if2 .taken) (c .before .before .before .before .before .before .before .choose .ensures)) (code-low (indexNode (c .before .before .before .before .before .before .before .before .before .before .before .before .before .args .x .now)) (c .before .before .before .before .before .before .before .before .before .before .before .before .before .pre .0 .table) (c .before .before .before .before .before .before .before .before .before .before .before .before .before .pre .0 .few) (c .before .before .before .before .before .before .before .before .before .before .before .before .before .pre .1 .0 .0) (c .before .before .before .before .before .before .before .before .before .before .before .before .before .pre .1 .1 .0 .0) (c .before .before .before .before .before .before .before .before .before .before .before .before .before .pre .1 .1 .0 .2) (c .before .before .before .before .before .before .before .before .before .before .before .before .before .pre .1 .1 .1) (c .before .before .before .before .before .before .before .before .if2 .taken) (c .before .before .before .before .before .before .before .choose .ensures)) (c .before .before .before .before .unit .ensures)
 
 returns-3 : tie.Need-returns-3
-returns-3 c =
-    let s = c .before .before .before .before .before .before .before .before .before .before .before in
-    let k = c .before .before .before .before .before .before .before .put-code in
-    marked-kept (s .args .work .now) (k .last .0) (s .args .q) (s .args .code) (s .pre .1 .0) (s .pre .1 .1) (k .ensures) (c .before .before .before .put .ensures) (λ e. absurd (c .if1 .left e))
+returns-3 c = renewed-same (indexNode (c .before .before .before .before .before .args .x .now)) (c .before .before .before .before .before .pre .0 .few) (c .before .before .before .before .before .pre .1 .0 .0) (c .before .before .before .before .before .pre .1 .1 .0 .0) (c .before .before .before .before .before .pre .1 .0 .1) (code-fine (indexNode (c .before .before .before .before .before .args .x .now)) (c .before .before .before .before .before .pre .0 .table) (c .before .before .before .before .before .pre .0 .few) (c .before .before .before .before .before .pre .1 .0 .0) (c .before .before .before .before .before .pre .1 .1 .0 .0) (c .before .before .before .before .before .pre .1 .1 .0 .2) (c .before .before .before .before .before .pre .1 .1 .1) (c .before .if1 .left)) (code-none (indexNode (c .before .before .before .before .before .args .x .now)) (c .before .before .before .before .before .pre .0 .table) (c .before .before .before .before .before .pre .0 .few) (c .before .before .before .before .before .pre .1 .0 .0) (c .before .before .before .before .before .pre .1 .1 .0 .0) (c .before .before .before .before .before .pre .1 .1 .0 .2) (c .before .before .before .before .before .pre .1 .1 .1) (c .if2 .left))
 
 pub enter-spec : {M : Type 1} → statement M
 enter-spec =
     tie.close
     (tie.spec
-    put-code-requires
-    cast-put
-    put-requires
-    cast-if2
-    slice-read-if2
-    cast-work
-    slice-write-work
+    conflict-requires
     same-length
-    same-length-2
     returns
+    cast-choose
+    choose-requires
+    mul-unit
+    add-unit
+    unit-requires
+    same-length-2
     same-length-3
-    same-length-4
     returns-2
-    same-length-5
-    same-length-6
     returns-3)

@@ -10,17 +10,17 @@ list-rows-requires c κs = search needs
 gather-requires : tie.Need-gather-requires
 gather-requires c κs = search needs
 
-sub-ask-by : tie.Need-sub-ask-by
-sub-ask-by c = search needs
+sub-ask-within-by : tie.Need-sub-ask-within-by
+sub-ask-within-by c = search needs
 
-part-ask-by-start : tie.Need-part-ask-by-start
-part-ask-by-start c = search needs
+part-ask-within-by-start : tie.Need-part-ask-within-by-start
+part-ask-within-by-start c = search needs
 
-part-ask-by-end : tie.Need-part-ask-by-end
-part-ask-by-end c = search needs
+part-ask-within-by-end : tie.Need-part-ask-within-by-end
+part-ask-within-by-end c = search needs
 
-ask-by-requires : tie.Need-ask-by-requires
-ask-by-requires c κs = search needs
+ask-within-by-requires : tie.Need-ask-within-by-requires
+ask-within-by-requires c κs = search needs
 
 same-length : tie.Need-same-length
 same-length c = search needs
@@ -29,7 +29,7 @@ same-length-2 : tie.Need-same-length-2
 same-length-2 c = search needs
 
 returns : tie.Need-returns
-returns c = asked-both _ _ _ _ _ _ _ _ _ (c .before .before .before .before .before .before .before .before .gather .ensures) (rw (c .before .before .before .before .before .before .before .before .before .before .list-rows .ensures) at (c .before .before .ask-by .ensures))
+returns c = asked-both _ _ _ _ _ _ _ _ _ (c .before .before .before .before .before .before .before .before .gather .ensures) (rw (c .before .before .before .before .before .before .before .before .before .before .list-rows .ensures) at (c .before .before .ask-within-by .ensures))
 
 pub ask-spec : {M : Type 1} → statement M
 ask-spec =
@@ -37,10 +37,10 @@ ask-spec =
     (tie.spec
     list-rows-requires
     gather-requires
-    sub-ask-by
-    part-ask-by-start
-    part-ask-by-end
-    ask-by-requires
+    sub-ask-within-by
+    part-ask-within-by-start
+    part-ask-within-by-end
+    ask-within-by-requires
     same-length
     same-length-2
     returns)

@@ -1,7 +1,8 @@
 -- `wishes::grant` meets its contract: a refusal is the first row's that refuses, and else the questions decide. Assumes nothing.
+use lib.ListN.{getD-replicate}
 use borrow.Author.Needs.{needs}
 use Rattle.codec.specs.Valid.{Bytes}
-use Rattle.asking.proofs.Answers.{ask-refused}
+use Rattle.index.specs.Index.{indexSize}
 use Rattle.wishes.proofs.Answers.{refuses, roomy, posed, ends}
 use Rattle.wishes.proofs.grant.Statement.{statement}
 use Rattle.wishes.proofs.grant.Tie as tie
@@ -17,7 +18,7 @@ slice-aggregate-ask-2 : tie.Need-slice-aggregate-ask-2
 slice-aggregate-ask-2 c = search needs
 
 ask-requires : tie.Need-ask-requires
-ask-requires c κs = search needs
+ask-requires c κs = (search needs, (search needs, λ i h. getD-replicate indexSize i 0 0 h))
 
 enum-known-a : tie.Need-enum-known-a
 enum-known-a c = search needs
@@ -34,7 +35,7 @@ slice-aggregate-questions-2 c = search needs
 questions-requires : tie.Need-questions-requires
 questions-requires c κs =
     let k = c .before .before .before .before .before .before .before .before .before .ask in
-    let p = k .ensures .asks .prepared _ (c .before .before .before .before .before .a2 .given .1) in
+    let p = k .ensures .asks .reached _ (c .before .before .before .before .before .a2 .given .1) in
     let b = bytes (c .before .before .before .before .before .before .before .before .before .before .before .before .before .before .before .before) in
     let a = c .before .before .before .before .before .before .before .before .before .before .before .before .before .before .before .before .before .args in (
       p .indexed,
@@ -45,7 +46,7 @@ questions-requires c κs =
     )
 
 returns : tie.Need-returns
-returns c = refuses _ _ _ _ _ _ (bytes (c .before .before .before .before .before .before .before .before .before .before .before .before)) _ (ask-refused _ _ _ _ _ _ _ (c .before .before .before .before .before .ask .ensures .asks) (c .before .a .given .1))
+returns c = refuses _ _ _ _ _ _ (bytes (c .before .before .before .before .before .before .before .before .before .before .before .before)) _ (c .before .before .before .before .before .ask .ensures .asks .refuses _ (c .before .a .given .1))
 
 same-length : tie.Need-same-length
 same-length c = search needs
@@ -55,7 +56,7 @@ same-length-2 c = search needs
 
 returns-2 : tie.Need-returns-2
 returns-2 c =
-    ends _ _ _ _ _ _ (bytes (c .before .before .before .before .before .before .before .before .before .before .before .before .before .before .before .before .before .before .before .before .before .before)) (c .before .before .before .before .before .before .before .before .before .before .before .before .before .before .before .ask .ensures .asks .prepared _ (c .before .before .before .before .before .before .before .before .before .before .before .a2 .given .1)) _ (c .before .before .before .before .before .questions .ensures)
+    ends _ _ _ _ _ _ (bytes (c .before .before .before .before .before .before .before .before .before .before .before .before .before .before .before .before .before .before .before .before .before .before)) (c .before .before .before .before .before .before .before .before .before .before .before .before .before .before .before .ask .ensures .asks .reached _ (c .before .before .before .before .before .before .before .before .before .before .before .a2 .given .1)) _ (c .before .before .before .before .before .questions .ensures)
 
 pub grant-spec : {M : Type 1} → statement M
 grant-spec =
