@@ -17,7 +17,13 @@ same-length : tie.Need-same-length
 same-length c = search needs
 
 returns : tie.Need-returns
-returns c = looked-none (c .before .before .before .before .before .before .pre .0 .few) (c .before .before .before .before .before .before .pre .1 .0 .0) (c .before .before .before .before .before .before .pre .0 .edges .pairs (c .before .before .before .before .before .before .args .node) (c .before .before .before .before .before .before .args .k) (c .before .before .before .before .before .before .pre .1 .1 .0 .0) (c .before .before .before .before .before .before .pre .1 .1 .0 .1) .low) (c .before .class .ensures) (c .before .before .before .before .before .before .pre .1 .0 .1) (c .if1 .taken)
+returns c =
+    let s = c .before .before .before .before .before .before in
+    let I = s .pre .0 in
+    let h = s .pre .1 .0 .0 in
+    let b = I .edges .pairs (s .args .node) (s .args .k) (s .pre .1 .1 .0 .0) (s .pre .1 .1 .0 .1) .low in
+    let C = c .before .class .ensures in
+    looked-none (I .few) h b C (s .pre .1 .0 .1) (c .if1 .taken)
 
 parent-requires : tie.Need-parent-requires
 parent-requires c κs = (c .before .before .before .before .before .before .pre .0, (c .before .before .before .before .before .before .pre .1 .1 .0 .0, c .before .before .before .before .before .before .pre .1 .1 .0 .1))
@@ -30,26 +36,64 @@ cast-e c = search needs
 
 sub-q : tie.Need-sub-q
 sub-q c =
-    let z = class-held (c .before .before .before .before .before .before .before .before .before .pre .0 .few) (c .before .before .before .before .before .before .before .before .before .pre .1 .0 .0) (c .before .before .before .before .before .before .before .before .before .pre .0 .edges .pairs (c .before .before .before .before .before .before .before .before .before .args .node) (c .before .before .before .before .before .before .before .before .before .args .k) (c .before .before .before .before .before .before .before .before .before .pre .1 .1 .0 .0) (c .before .before .before .before .before .before .before .before .before .pre .1 .1 .0 .1) .low) (c .before .before .before .before .class .ensures) (c .before .before .before .if1 .left) in
-    omega (arith, c .entry .ensures ∙ ap (entryOf (tail (c .before .before .before .before .before .before .before .before .before .args .work .now))) (c .before .before .parent .ensures .0), z)
+    let s = c .before .before .before .before .before .before .before .before .before in
+    let I = s .pre .0 in
+    let h = s .pre .1 .0 .0 in
+    let b = I .edges .pairs (s .args .node) (s .args .k) (s .pre .1 .1 .0 .0) (s .pre .1 .1 .0 .1) .low in
+    let C = c .before .before .before .before .class .ensures in
+    let e = c .entry .ensures ∙ ap (entryOf (tail (s .args .work .now))) (c .before .before .parent .ensures .0) in
+    let d = c .before .before .before .if1 .left in
+    omega (arith, e, class-held (I .few) h b C d)
 
 conflict-requires : tie.Need-conflict-requires
-conflict-requires c κs = (c .before .before .before .before .before .before .before .before .before .before .before .pre .1 .0 .0 .size, omega (arith, looked-low (c .before .before .before .before .before .before .before .before .before .before .before .pre .0 .few) (c .before .before .before .before .before .before .before .before .before .before .before .pre .1 .0 .0) (c .before .before .before .before .before .before .before .before .before .before .before .pre .0 .edges .pairs (c .before .before .before .before .before .before .before .before .before .before .before .args .node) (c .before .before .before .before .before .before .before .before .before .before .before .args .k) (c .before .before .before .before .before .before .before .before .before .before .before .pre .1 .1 .0 .0) (c .before .before .before .before .before .before .before .before .before .before .before .pre .1 .1 .0 .1) .low) (c .before .before .before .before .before .before .class .ensures) (c .before .before .entry .ensures ∙ ap (entryOf (tail (c .before .before .before .before .before .before .before .before .before .before .before .args .work .now))) (c .before .before .before .before .parent .ensures .0)) (c .before .before .before .before .before .if1 .left), count-most (c .before .before .before .before .before .before .before .before .before .before .before .pre .1 .0 .0), c .before .before .before .before .before .before .before .before .before .before .before .pre .0 .few))
+conflict-requires c κs =
+    let s = c .before .before .before .before .before .before .before .before .before .before .before in
+    let I = s .pre .0 in
+    let h = s .pre .1 .0 .0 in
+    let b = I .edges .pairs (s .args .node) (s .args .k) (s .pre .1 .1 .0 .0) (s .pre .1 .1 .0 .1) .low in
+    let C = c .before .before .before .before .before .before .class .ensures in
+    let e = c .before .before .entry .ensures ∙ ap (entryOf (tail (s .args .work .now))) (c .before .before .before .before .parent .ensures .0) in
+    let d = c .before .before .before .before .before .if1 .left in
+    (h .size, omega (arith, looked-low (I .few) h b C e d, count-most h, I .few))
 
 same-length-2 : tie.Need-same-length-2
 same-length-2 c = search needs
 
 returns-2 : tie.Need-returns-2
-returns-2 c = looked-conflict (c .before .before .before .before .before .before .before .before .before .before .before .before .before .before .pre .0 .few) (c .before .before .before .before .before .before .before .before .before .before .before .before .before .before .pre .1 .0 .0) (c .before .before .before .before .before .before .before .before .before .before .before .before .before .before .pre .0 .edges .pairs (c .before .before .before .before .before .before .before .before .before .before .before .before .before .before .args .node) (c .before .before .before .before .before .before .before .before .before .before .before .before .before .before .args .k) (c .before .before .before .before .before .before .before .before .before .before .before .before .before .before .pre .1 .1 .0 .0) (c .before .before .before .before .before .before .before .before .before .before .before .before .before .before .pre .1 .1 .0 .1) .low) (c .before .before .before .before .before .before .before .before .before .class .ensures) (c .before .before .before .before .before .entry .ensures ∙ ap (entryOf (tail (c .before .before .before .before .before .before .before .before .before .before .before .before .before .before .args .work .now))) (c .before .before .before .before .before .before .before .parent .ensures .0)) (c .before .before .before .before .before .before .before .before .if1 .left) (c .before .before .before .before .before .before .before .before .before .before .before .before .before .before .pre .1 .0 .1) (c .before .before .before .before .if2 .taken) (c .before .before .conflict .ensures)
+returns-2 c =
+    let s = c .before .before .before .before .before .before .before .before .before .before .before .before .before .before in
+    let I = s .pre .0 in
+    let h = s .pre .1 .0 .0 in
+    let b = I .edges .pairs (s .args .node) (s .args .k) (s .pre .1 .1 .0 .0) (s .pre .1 .1 .0 .1) .low in
+    let C = c .before .before .before .before .before .before .before .before .before .class .ensures in
+    let e = c .before .before .before .before .before .entry .ensures ∙ ap (entryOf (tail (s .args .work .now))) (c .before .before .before .before .before .before .before .parent .ensures .0) in
+    let d = c .before .before .before .before .before .before .before .before .if1 .left in
+    looked-conflict (I .few) h b C e d (s .pre .1 .0 .1) (c .before .before .before .before .if2 .taken) (c .before .before .conflict .ensures)
 
 other-requires : tie.Need-other-requires
 other-requires c κs = (c .before .before .before .before .before .before .before .before .before .before .pre .0, (c .before .before .before .before .before .before .before .before .before .before .pre .1 .1 .0 .0, c .before .before .before .before .before .before .before .before .before .before .pre .1 .1 .0 .1))
 
 kept-requires : tie.Need-kept-requires
-kept-requires c κs = (omega (arith, c .other .ensures .1, c .before .before .before .before .before .before .before .before .before .before .before .pre .0 .few), rw (c .other .ensures .0) (looked-kept (c .before .before .before .before .before .before .before .before .before .before .before .pre .0 .few) (c .before .before .before .before .before .before .before .before .before .before .before .pre .1 .0 .0) (c .before .before .before .before .before .before .before .before .before .before .before .pre .0 .edges .pairs (c .before .before .before .before .before .before .before .before .before .before .before .args .node) (c .before .before .before .before .before .before .before .before .before .before .before .args .k) (c .before .before .before .before .before .before .before .before .before .before .before .pre .1 .1 .0 .0) (c .before .before .before .before .before .before .before .before .before .before .before .pre .1 .1 .0 .1) .low) (c .before .before .before .before .before .before .class .ensures) (c .before .before .entry .ensures ∙ ap (entryOf (tail (c .before .before .before .before .before .before .before .before .before .before .before .args .work .now))) (c .before .before .before .before .parent .ensures .0)) (c .before .before .before .before .before .if1 .left) (c .before .if2 .left)))
+kept-requires c κs =
+    let s = c .before .before .before .before .before .before .before .before .before .before .before in
+    let I = s .pre .0 in
+    let h = s .pre .1 .0 .0 in
+    let b = I .edges .pairs (s .args .node) (s .args .k) (s .pre .1 .1 .0 .0) (s .pre .1 .1 .0 .1) .low in
+    let C = c .before .before .before .before .before .before .class .ensures in
+    let e = c .before .before .entry .ensures ∙ ap (entryOf (tail (s .args .work .now))) (c .before .before .before .before .parent .ensures .0) in
+    let d = c .before .before .before .before .before .if1 .left in
+    (omega (arith, c .other .ensures .1, I .few), rw (c .other .ensures .0) (looked-kept (I .few) h b C e d (c .before .if2 .left)))
 
 unit-requires : tie.Need-unit-requires
-unit-requires c κs = (c .before .before .before .before .before .before .before .before .before .before .before .before .before .before .pre .1 .0 .1, (c .before .before .before .before .before .before .before .before .before .before .before .before .before .before .pre .1 .0 .0 .size, omega (arith, looked-low (c .before .before .before .before .before .before .before .before .before .before .before .before .before .before .pre .0 .few) (c .before .before .before .before .before .before .before .before .before .before .before .before .before .before .pre .1 .0 .0) (c .before .before .before .before .before .before .before .before .before .before .before .before .before .before .pre .0 .edges .pairs (c .before .before .before .before .before .before .before .before .before .before .before .before .before .before .args .node) (c .before .before .before .before .before .before .before .before .before .before .before .before .before .before .args .k) (c .before .before .before .before .before .before .before .before .before .before .before .before .before .before .pre .1 .1 .0 .0) (c .before .before .before .before .before .before .before .before .before .before .before .before .before .before .pre .1 .1 .0 .1) .low) (c .before .before .before .before .before .before .before .before .before .class .ensures) (c .before .before .before .before .before .entry .ensures ∙ ap (entryOf (tail (c .before .before .before .before .before .before .before .before .before .before .before .before .before .before .args .work .now))) (c .before .before .before .before .before .before .before .parent .ensures .0)) (c .before .before .before .before .before .before .before .before .if1 .left), count-most (c .before .before .before .before .before .before .before .before .before .before .before .before .before .before .pre .1 .0 .0), c .before .before .before .before .before .before .before .before .before .before .before .before .before .before .pre .0 .few)))
+unit-requires c κs =
+    let s = c .before .before .before .before .before .before .before .before .before .before .before .before .before .before in
+    let I = s .pre .0 in
+    let h = s .pre .1 .0 .0 in
+    let b = I .edges .pairs (s .args .node) (s .args .k) (s .pre .1 .1 .0 .0) (s .pre .1 .1 .0 .1) .low in
+    let C = c .before .before .before .before .before .before .before .before .before .class .ensures in
+    let e = c .before .before .before .before .before .entry .ensures ∙ ap (entryOf (tail (s .args .work .now))) (c .before .before .before .before .before .before .before .parent .ensures .0) in
+    let d = c .before .before .before .before .before .before .before .before .if1 .left in
+    (s .pre .1 .0 .1, (h .size, omega (arith, looked-low (I .few) h b C e d, count-most h, I .few)))
 
 same-length-3 : tie.Need-same-length-3
 same-length-3 c = search needs
@@ -58,7 +102,15 @@ same-length-4 : tie.Need-same-length-4
 same-length-4 c = search needs
 
 returns-3 : tie.Need-returns-3
-returns-3 c = looked-unit (c .before .before .before .before .before .before .before .before .before .before .before .before .before .before .before .before .before .before .before .pre .0 .few) (c .before .before .before .before .before .before .before .before .before .before .before .before .before .before .before .before .before .before .before .pre .1 .0 .0) (c .before .before .before .before .before .before .before .before .before .before .before .before .before .before .before .before .before .before .before .pre .0 .edges .pairs (c .before .before .before .before .before .before .before .before .before .before .before .before .before .before .before .before .before .before .before .args .node) (c .before .before .before .before .before .before .before .before .before .before .before .before .before .before .before .before .before .before .before .args .k) (c .before .before .before .before .before .before .before .before .before .before .before .before .before .before .before .before .before .before .before .pre .1 .1 .0 .0) (c .before .before .before .before .before .before .before .before .before .before .before .before .before .before .before .before .before .before .before .pre .1 .1 .0 .1) .low) (c .before .before .before .before .before .before .before .before .before .before .before .before .before .before .class .ensures) (c .before .before .before .before .before .before .before .before .before .before .entry .ensures ∙ ap (entryOf (tail (c .before .before .before .before .before .before .before .before .before .before .before .before .before .before .before .before .before .before .before .args .work .now))) (c .before .before .before .before .before .before .before .before .before .before .before .before .parent .ensures .0)) (c .before .before .before .before .before .before .before .before .before .before .before .before .before .if1 .left) (c .before .before .before .before .before .before .before .before .before .if2 .left) (c .before .before .before .before .before .before .before .kept .ensures ∙ ap (λ (o : ℕ). keptBy o (c .before .before .before .before .before .before .before .before .before .before .before .before .before .before .class .result)) (c .before .before .before .before .before .before .before .before .other .ensures .0)) (c .before .before .before .before .unit .ensures)
+returns-3 c =
+    let s = c .before .before .before .before .before .before .before .before .before .before .before .before .before .before .before .before .before .before .before in
+    let I = s .pre .0 in
+    let h = s .pre .1 .0 .0 in
+    let b = I .edges .pairs (s .args .node) (s .args .k) (s .pre .1 .1 .0 .0) (s .pre .1 .1 .0 .1) .low in
+    let C = c .before .before .before .before .before .before .before .before .before .before .before .before .before .before .class .ensures in
+    let e = c .before .before .before .before .before .before .before .before .before .before .entry .ensures ∙ ap (entryOf (tail (s .args .work .now))) (c .before .before .before .before .before .before .before .before .before .before .before .before .parent .ensures .0) in
+    let d = c .before .before .before .before .before .before .before .before .before .before .before .before .before .if1 .left in
+    looked-unit (I .few) h b C e d (c .before .before .before .before .before .before .before .before .before .if2 .left) (c .before .before .before .before .before .before .before .kept .ensures ∙ ap (λ (o : ℕ). keptBy o (c .before .before .before .before .before .before .before .before .before .before .before .before .before .before .class .result)) (c .before .before .before .before .before .before .before .before .other .ensures .0)) (c .before .before .before .before .unit .ensures)
 
 pub look-spec : {M : Type 1} → statement M
 look-spec =
