@@ -31,7 +31,7 @@ opened-met l empty e = cc
 opened-met l (one m) e = cc
 opened-met l (many m) e = cc
 
-joined-met : (w : Value) (l : ℕ) (s : State) → joined w l s ≡ met → (w ≡ holds) ⊎ (s ≡ met)
+pub joined-met : (w : Value) (l : ℕ) (s : State) → joined w l s ≡ met → (w ≡ holds) ⊎ (s ≡ met)
 joined-met holds l s e = inl refl
 joined-met fails l s e = inr e
 joined-met undecided l s e = inr (opened-met l s e)

@@ -22,7 +22,7 @@ use Rattle.calculus.proofs.Rows.{rowOf, Within, row-within}
 
 module _ (P : ℕ → Type 0) (negates : (l : ℕ) → P l → P (neg l)) where
   -- what the operands have, their choices have
-  chosen-all : (x : Node) → All P (operands x) → (c : ℕ) → c / 2 < length (operands x) → P (chosen x c)
+  pub chosen-all : (x : Node) → All P (operands x) → (c : ℕ) → c / 2 < length (operands x) → P (chosen x c)
   unfolding chosen
   chosen-all x h c k = go (eqb (c % 2) 0) (all-at P (operands x) (c / 2) 0 h k)
     where

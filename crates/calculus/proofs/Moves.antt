@@ -13,7 +13,7 @@ use Rattle.calculus.specs.declared.Move.the-variants.{Conflict, Unit as 
 use Rattle.calculus.proofs.Lists.{map-all, getD-map}
 
 -- the first state that passes a test stands in the list and passes
-first-found : (p : State → Bool) (ss : List State) → some p ss ≡ true → (firstOf p ss < length ss) × (p (getD ss (firstOf p ss) met) ≡ true)
+pub first-found : (p : State → Bool) (ss : List State) → some p ss ≡ true → (firstOf p ss < length ss) × (p (getD ss (firstOf p ss) met) ≡ true)
 unfolding some firstOf
 first-found p [] e = absurd (false≢true e)
 first-found p (s ∷ ss) e = go (p s) refl e (first-found p ss)
@@ -25,13 +25,13 @@ first-found p (s ∷ ss) e = go (p s) refl e (first-found p ss)
     go false q e r = (omega (arith, r e .0), r e .1)
 
 -- what the tests say
-empty-state : (s : State) → isEmpty s ≡ true → s ≡ empty
+pub empty-state : (s : State) → isEmpty s ≡ true → s ≡ empty
 empty-state met e = absurd (false≢true e)
 empty-state empty e = refl
 empty-state (one l) e = absurd (false≢true e)
 empty-state (many l) e = absurd (false≢true e)
 
-one-state : (s : State) → isOne s ≡ true → s ≡ one (literalOf s)
+pub one-state : (s : State) → isOne s ≡ true → s ≡ one (literalOf s)
 one-state met e = absurd (false≢true e)
 one-state empty e = absurd (false≢true e)
 one-state (one l) e = refl

@@ -65,6 +65,17 @@ module _ {y : Node} {ss : List State} (q n s o : ℕ) (C : Coded y ss q) (few : 
   choice-low true = low
   choice-low false = neg-below n o low
 
+  -- a class below 2 says nothing of a unit
+  no-unit : (r : ℕ) → r < 2 → (r ≡ 0 → (some isOne ss ≡ false) × (some isEmpty ss ≡ false)) → (r ≡ 1 → some isEmpty ss ≡ true) → Says n ss o r
+  no-unit r b none conflict = record {
+    none = none;
+    conflict = conflict;
+    free = λ h. absurd (omega (arith, b, h));
+    unit = λ h. absurd (omega (arith, b, h));
+    kept = λ h. absurd (omega (arith, b, h));
+    kept-low = λ h. absurd (omega (arith, b, h));
+  }
+
   unit-says : q / 2 % 2 ≡ 0 → q % 2 ≡ 1 → some isOne ss ≡ true → some isEmpty ss ≡ false → Says n ss o (classOf q)
   unit-says c u e f =
       let l : ℕ = cond (eqb (q / 32 % 8 % 2) 0) o (neg o) in
@@ -84,23 +95,10 @@ module _ {y : Node} {ss : List State} (q n s o : ℕ) (C : Coded y ss q) (few : 
   says = go (some isOne ss) (some isEmpty ss) refl refl
     where
       go : (u c : Bool) → some isOne ss ≡ u → some isEmpty ss ≡ c → Says n ss o (classOf q)
-      go u true e f = rw (class-conflict q (C .conflict ∙ ap bit f)) record {
-        none = λ h. absurd (omega (arith, h));
-        conflict = λ h. f;
-        free = λ h. absurd (omega (arith, h));
-        unit = λ h. absurd (omega (arith, h));
-        kept = λ h. absurd (omega (arith, h));
-        kept-low = λ h. absurd (omega (arith, h));
-      }
+      go u true e f = rw (class-conflict q (C .conflict ∙ ap bit f)) (no-unit 1 (omega arith) (λ h. absurd (omega (arith, h))) (λ h. f))
       go true false e f = unit-says (C .conflict ∙ ap bit f) (C .unit ∙ ap bit e) e f
-      go false false e f = rw (class-none q (C .conflict ∙ ap bit f) (C .unit ∙ ap bit e)) record {
-        none = λ h. (e, f);
-        conflict = λ h. absurd (omega (arith, h));
-        free = λ h. absurd (omega (arith, h));
-        unit = λ h. absurd (omega (arith, h));
-        kept = λ h. absurd (omega (arith, h));
-        kept-low = λ h. absurd (omega (arith, h));
-      }
+      go false false e f =
+          rw (class-none q (C .conflict ∙ ap bit f) (C .unit ∙ ap bit e)) (no-unit 0 (omega arith) (λ h. (e, f)) (λ h. absurd (omega (arith, h))))
 
 -- ---- the code that a class goes by
 
@@ -145,6 +143,16 @@ module _ {x : List ℕ} {n : ℕ} (I : Indexed x n) (G : List ℕ) (good : Good 
   w-low : w < 3
   w-low = omega (arith, ew, code-low (valueOf G o))
 
+  -- the value of a literal whose node has one that is held
+  same-node : (l m : ℕ) → l / 2 ≡ m / 2 → valueOf G m ≡ holds → valueCode (valueOf G l) ≡ 1 + (l + m) % 2
+  same-node l m e held = go (ℕ-discrete l m)
+    where
+      go : Dec (l ≡ m) → valueCode (valueOf G l) ≡ 1 + (l + m) % 2
+      go (yes z) = omega (arith, ap valueCode (ap (valueOf G) z ∙ held), z)
+      go (no z) =
+          let a : l ≡ neg m = omega (arith, e, z) in
+          omega (arith, ap valueCode (ap (valueOf G) a ∙ holds-neg n G m good held), a)
+
   -- of literal y, which is held
   module _ (y : ℕ) (P : Pair t n node (y / 2) e o) (held : valueOf G y ≡ holds) (v : ℕ) (ev : v ≡ valueCode (valueOf G (2 * (y / 2)))) where
     abbrev own : Node
@@ -158,38 +166,20 @@ module _ {x : List ℕ} {n : ℕ} (I : Indexed x n) (G : List ℕ) (good : Good 
     m = cond (eqb (l % 2 + sign) 1) 2 1
 
     mine-is : m ≡ valueCode (valueOf G l)
-    mine-is = go (ℕ-discrete (l % 2) sign)
+    mine-is = go (ℕ-discrete (l % 2 + sign) 1)
       where
-        go : Dec (l % 2 ≡ sign) → m ≡ valueCode (valueOf G l)
-        go (yes z) =
-            let a : l ≡ 2 * node + sign = omega (arith, P .mine, z) in
-            let b : m ≡ 1 = ap (λ (b : Bool). cond b 2 1) (ne-eqb (l % 2 + sign) 1 (λ c. omega (arith, c, z))) in
-            let c : valueCode (valueOf G l) ≡ 1 = ap valueCode (ap (valueOf G) a ∙ on) in
-            b ∙ sym c
-        go (no z) =
-            let a : l ≡ neg (2 * node + sign) = omega (arith, P .mine, z, hs) in
-            let b : m ≡ 2 = ap (λ (b : Bool). cond b 2 1) (eq-eqb (l % 2 + sign) 1 (omega (arith, z, hs))) in
-            let c : valueCode (valueOf G l) ≡ 2 = ap valueCode (ap (valueOf G) a ∙ holds-neg n G (2 * node + sign) good on) in
-            b ∙ sym c
+        known : valueCode (valueOf G l) ≡ 1 + (l + (2 * node + sign)) % 2
+        known = same-node l (2 * node + sign) (omega (arith, P .mine, hs)) on
+
+        go : Dec (l % 2 + sign ≡ 1) → m ≡ valueCode (valueOf G l)
+        go (yes z) = rw (eq-eqb (l % 2 + sign) 1 z) (omega (arith, known, z))
+        go (no z) = rw (ne-eqb (l % 2 + sign) 1 z) (omega (arith, known, z, hs))
 
     m-low : m < 3
     m-low = omega (arith, mine-is, code-low (valueOf G l))
 
     v-is : v ≡ 1 + y % 2
-    v-is = go (ℕ-discrete (y % 2) 0)
-      where
-        go : Dec (y % 2 ≡ 0) → v ≡ 1 + y % 2
-        go (yes z) =
-            let a : 2 * (y / 2) ≡ y = omega (arith, z) in
-            let b : valueCode (valueOf G (2 * (y / 2))) ≡ 1 = ap valueCode (ap (valueOf G) a ∙ held) in
-            omega (arith, ev, b, z)
-        go (no z) =
-            let a : 2 * (y / 2) ≡ neg y = omega (arith, z) in
-            let b : valueCode (valueOf G (2 * (y / 2))) ≡ 2 = ap valueCode (ap (valueOf G) a ∙ holds-neg n G y good held) in
-            omega (arith, ev, b, z)
-
-    y-low : y < 2 * n
-    y-low = omega (arith, P .low)
+    v-is = omega (arith, ev, same-node (2 * (y / 2)) y (omega arith) held)
 
     -- the values of the operands' cells
     cell-value : (i : ℕ) → i < 2 → valueCode (valueOf G (operandOf t (y / 2) i)) ≡ valueCode (valueOf G (getD x (4 * (y / 2) + (1 + i)) 0))
@@ -208,8 +198,9 @@ module _ {x : List ℕ} {n : ℕ} (I : Indexed x n) (G : List ℕ) (good : Good 
     code-at : (a b : ℕ) → a < 3 → b < 3 → a ≡ value-at 0 → b ≡ value-at 1 → Coded own (statesOf t G y) (codeAt (9 * (2 * own .kind + y % 2) + (3 * a + b)))
     code-at a b ha hb ea eb =
         let j : 9 * (2 * own .kind + y % 2) + (3 * a + b) < 126 = omega (arith, P .kind .1) in
+        let z : 2 * (y / 2) + y % 2 ≡ y = omega arith in
         subst (λ (k : ℕ). Coded own (statesOf t G y) k) (I .codes _ (omega (arith, j)))
-        (pair-right I G good y y-low refl (ea ∙ cell-value 0 (omega arith), ha) (eb ∙ cell-value 1 (omega arith), hb) j)
+        (rw z at (pair-right I G good (y / 2) (y % 2) (P .low, omega arith) refl (ea ∙ cell-value 0 (omega arith), ha) (eb ∙ cell-value 1 (omega arith), hb) j))
 
     coded-by : Coded own (statesOf t G y) (codeAt (codePlace (own .kind) (y % 2) (P .side) m w))
     coded-by = go (ℕ-discrete (P .side) 0)

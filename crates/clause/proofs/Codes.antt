@@ -9,7 +9,7 @@ use lib.Dec.{eqb}
 use borrow.Author.Tests.{lt-ltb, le-ltb}
 use Rattle.scope.specs.declared.Node.{Node}
 use Rattle.scope.specs.Table.{arity, operands}
-use Rattle.scope.proofs.Operands.{arity-pair, arity-most}
+use Rattle.scope.proofs.Operands.{arity-pair, arity-three, arity-most}
 use Rattle.calculus.specs.Expansion.{neg, chosen, expand}
 use Rattle.calculus.specs.Order.{Value, holds, fails, undecided, valueOf, State, literalOf, literalAt, isEmpty, isOne, some, firstOf, bit}
 use Rattle.calculus.specs.Model.{All, Good}
@@ -18,10 +18,10 @@ use Rattle.calculus.proofs.Literals.{fails-neg, undecided-neg, holds-neg}
 use Rattle.calculus.proofs.Rows.{rowOf, row-within}
 use Rattle.calculus.proofs.Sizes.{expand-few}
 use Rattle.trail.specs.Trail.{valueCode}
-use Rattle.index.specs.Codes.{numbered, opposite, choiceValue, stateBy, rowStates, isOpen, firstIf, codeOf, rowCode, pairCodes, codeAt}
-use Rattle.index.specs.Index.{codesAt, indexNode}
+use Rattle.index.specs.Codes.{numbered, opposite, choiceValue, stateBy, rowStates, isOpen, firstIf, codeOf, rowCode, pairCodes, codesSize, codeAt}
+use Rattle.index.specs.Index.{codesAt, mostLiterals, indexNode}
 use Rattle.index.specs.Indexed.{Indexed}
-use Rattle.index.proofs.Nodes.{operand-cell}
+use Rattle.index.proofs.Nodes.{operand-cell, operand-low}
 use Rattle.clause.specs.Coded.{statesOf, Choice, Coded}
 use Rattle.clause.proofs.Rows.{Chooses, of-operand, choice-few}
 use Rattle.clause.proofs.States.{renamed, Right, states-renamed, one-kept, empty-kept, open-kept, one-open, first-most, first-has, some-renamed, first-renamed, literal-renamed, state-has}
@@ -213,28 +213,34 @@ module _ (t : ℕ → Node) (l : ℕ) (known : t (l / 2) .kind < 9) (vs : List �
 read-value : (G : List ℕ) (m v : ℕ) → v ≡ valueCode (valueOf G m) → valueOf G m ≡ numbered v
 read-value G m v e = sym (numbered-code (valueOf G m)) ∙ ap numbered (sym e)
 
-module _ {x : List ℕ} {n : ℕ} (I : Indexed x n) (G : List ℕ) (good : Good n G) (l : ℕ) (h : l < 2 * n) where
+-- of a node's literal of a sign
+module _ {x : List ℕ} {n : ℕ} (I : Indexed x n) (G : List ℕ) (good : Good n G) (m sign : ℕ) (h : (m < n) × (sign < 2)) where
   abbrev own : Node
-  own = indexNode x (l / 2)
+  own = indexNode x m
 
   -- the value of the operand in cell i of the node, as a number
   abbrev valueIn : ℕ → ℕ
-  valueIn i = valueCode (valueOf G (getD x (4 * (l / 2) + (1 + i)) 0))
+  valueIn i = valueCode (valueOf G (getD x (4 * m + (1 + i)) 0))
+
+  -- what is read is its code
+  abbrev Reads : ℕ → Type 0
+  Reads i = Coded own (statesOf (indexNode x) G (2 * m + sign)) (getD x (codesAt + i) 0)
 
   -- the code of its row, at numbers that have the operands' values
-  code-right : (row r : ℕ) (vs : List ℕ) → row ≡ 2 * own .kind + l % 2 → ((i : ℕ) → i < arity (own .kind) → getD vs i 0 ≡ valueIn i)
-      → r ≡ rowCode row vs → Coded own (statesOf (indexNode x) G l) r
-  code-right row r vs e ev er =
-      rw (er ∙ ap (λ (k : ℕ). rowCode k vs) e)
-      (coded (indexNode x) l (I .table .kinds (l / 2) (omega arith) .1) vs n G good
-      (λ i k. rw (operand-cell x (l / 2) i k) (read-value G (getD x (4 * (l / 2) + (1 + i)) 0) (getD vs i 0) (ev i k))))
+  code-right : (i row : ℕ) (vs : List ℕ) → i < codesSize → row ≡ 2 * own .kind + sign → ((i : ℕ) → i < arity (own .kind) → getD vs i 0 ≡ valueIn i)
+      → codeAt i ≡ rowCode row vs → Reads i
+  code-right i row vs b e ev er =
+      let d : (2 * m + sign) / 2 ≡ m = omega (arith, h .1) in
+      let s : (2 * m + sign) % 2 ≡ sign = omega (arith, h .1) in
+      rw (I .codes i b ∙ er ∙ ap (λ (k : ℕ). rowCode k vs) e)
+      (rw (d, s) at (coded (indexNode x) (2 * m + sign) (rw d (I .table .kinds m (h .0) .1)) vs n G good
+      (rw d (λ i k. rw (operand-cell x m i k) (read-value G (getD x (4 * m + (1 + i)) 0) (getD vs i 0) (ev i k))))))
 
   -- it is read at the values of the first two cells, and of the third where the kind has three operands
-  module _ {row a b : ℕ} (e : row ≡ 2 * own .kind + l % 2) (ea : (a ≡ valueIn 0) × (a < 3)) (eb : (b ≡ valueIn 1) × (b < 3)) where
-    pub pair-right : 9 * row + (3 * a + b) < pairCodes → Coded own (statesOf (indexNode x) G l) (getD x (codesAt + (9 * row + (3 * a + b))) 0)
+  module _ {row a b : ℕ} (e : row ≡ 2 * own .kind + sign) (ea : (a ≡ valueIn 0) × (a < 3)) (eb : (b ≡ valueIn 1) × (b < 3)) where
+    pub pair-right : 9 * row + (3 * a + b) < pairCodes → Reads (9 * row + (3 * a + b))
     pair-right k =
-        code-right row _ (a ∷ b ∷ []) e values
-        (I .codes (9 * row + (3 * a + b)) (omega (arith, k)) ∙ code-two row a b (ea .1) (eb .1) (omega (arith, k)))
+        code-right (9 * row + (3 * a + b)) row (a ∷ b ∷ []) (omega (arith, k)) e values (code-two row a b (ea .1) (eb .1) (omega (arith, k)))
       where
         values : (i : ℕ) → i < arity (own .kind) → getD (a ∷ b ∷ []) i 0 ≡ valueIn i
         values zero j = ea .0
@@ -243,15 +249,15 @@ module _ {x : List ℕ} {n : ℕ} (I : Indexed x n) (G : List ℕ) (good : Good 
 
     module _ (k : pairCodes ≤ 9 * row + (3 * a + b)) where
       -- then the third cell is an operand
-      pub three : 7 ≤ own .kind
-      three = omega (arith, k, e, ea .1, eb .1)
+      pub third-few : getD x (4 * m + 3) 0 < mostLiterals
+      third-few =
+          let z : 7 ≤ own .kind = omega (arith, k, e, ea .1, eb .1) in
+          omega (arith, operand-low x n m 2 (I .table) (h .0) (omega (arith, arity-three (own .kind) z)), h .0, I .few)
 
-      pub three-right : row < 18 → (c : ℕ) → (c ≡ valueIn 2) × (c < 3)
-          → Coded own (statesOf (indexNode x) G l) (getD x (codesAt + (3 * (9 * row + (3 * a + b)) + c - 2 * pairCodes)) 0)
+      pub three-right : row < 18 → (c : ℕ) → (c ≡ valueIn 2) × (c < 3) → Reads (3 * (9 * row + (3 * a + b)) + c - 2 * pairCodes)
       three-right few c ec =
-          code-right row _ (a ∷ b ∷ c ∷ []) e values
-          (I .codes (3 * (9 * row + (3 * a + b)) + c - 2 * pairCodes) (omega (arith, few, ea .1, eb .1, ec .1))
-          ∙ code-three row a b (ea .1) (eb .1) c (ec .1) (omega (arith, k, ea .1, eb .1)))
+          code-right (3 * (9 * row + (3 * a + b)) + c - 2 * pairCodes) row (a ∷ b ∷ c ∷ []) (omega (arith, few, ea .1, eb .1, ec .1)) e values
+          (code-three row a b (ea .1) (eb .1) c (ec .1) (omega (arith, k, ea .1, eb .1)))
         where
           values : (i : ℕ) → i < arity (own .kind) → getD (a ∷ b ∷ c ∷ []) i 0 ≡ valueIn i
           values zero j = ea .0

@@ -5,10 +5,11 @@ use Prim.Native.Nat.{ℕ, zero, suc, _+_, _-_, _*_, _/_, _%_, _<_, _≤_}
 use native.Mathlib.Omega.{arith}
 use native.Mathlib.Nat.{zero-add}
 use lib.ListN.{length, getD, length-map, List·getD-map}
+use lib.Seq.{ext-getD}
 use Rattle.scope.specs.declared.Node.{Node}
 use Rattle.scope.specs.Table.{operands, listFrom}
 use Rattle.scope.proofs.Operands.{arity-most, operands-length}
-use Rattle.scope.proofs.Lists.{getD-listFrom}
+use Rattle.scope.proofs.Lists.{length-listFrom, getD-listFrom}
 use Rattle.calculus.specs.Expansion.{chosen, templates, expand}
 use Rattle.calculus.specs.Order.{clauses}
 use Rattle.calculus.specs.Model.{All}
@@ -33,11 +34,7 @@ of-operand y c h = omega (arith, h, operands-length y)
 pub choice-few : (y : Node) (c : ℕ) → Chooses y c → c < 6
 choice-few y c h = omega (arith, h, arity-most (y .kind))
 
--- of the index every kind is known
-pub known-kind : {x : List ℕ} {n : ℕ} → Indexed x n → (l : ℕ) → l < 2 * n → indexNode x (l / 2) .kind < 9
-known-kind I l h = I .table .kinds (l / 2) (omega arith) .1
-
--- and the operands are the cells
+-- of the index the operands are the cells
 module _ {x : List ℕ} {n : ℕ} (I : Indexed x n) (m : ℕ) (h : m < n) (c : ℕ) (k : c / 2 < length (operands (indexNode x m))) where
   -- the number that is read of node m for choice c
   abbrev operand : ℕ
@@ -80,44 +77,43 @@ goes [] (suc i) h = absurd (omega arith)
 goes (m ∷ c) zero h = omega arith
 goes (m ∷ c) (suc i) h = omega (arith, goes c i h)
 
-list-none : (c : List ℕ) → length c ≤ 0 → c ≡ []
-list-none [] h = refl
-list-none (a ∷ c) h = absurd (omega arith)
+list-is : (c : List ℕ) → c ≡ listFrom (at c) 0 (length c)
+list-is c =
+    ext-getD 6 c (listFrom (at c) 0 (length c)) (sym (length-listFrom (at c) (length c) 0))
+    (λ i h. ap (at c) (sym (zero-add i)) ∙ sym (getD-listFrom (at c) (length c) 0 i 6 h))
 
-list-one : (c : List ℕ) → 0 < length c → length c ≤ 1 → c ≡ at c 0 ∷ []
-list-one [] h k = absurd (omega arith)
-list-one (a ∷ c) h k = ap (a ∷_) (list-none c (omega arith))
+module _ {x : List ℕ} {n l j : ℕ} (I : Indexed x n) (p : (l < 2 * n) × (j < length (expand (indexNode x) l))) where
+  abbrev t : ℕ → Node
+  t = indexNode x
 
-list-two : (c : List ℕ) → 1 < length c → length c ≤ 2 → c ≡ at c 0 ∷ at c 1 ∷ []
-list-two [] h k = absurd (omega arith)
-list-two (a ∷ c) h k = ap (a ∷_) (list-one c (omega arith) (omega arith))
-
-list-three : (c : List ℕ) → 2 < length c → length c ≤ 3 → c ≡ at c 0 ∷ at c 1 ∷ at c 2 ∷ []
-list-three [] h k = absurd (omega arith)
-list-three (a ∷ c) h k = ap (a ∷_) (list-two c (omega arith) (omega arith))
-
-module _ (t : ℕ → Node) (l j : ℕ) (known : t (l / 2) .kind < 9) (k : j < length (expand t l)) where
   abbrev node : Node
   node = t (l / 2)
 
-  -- the clause, as choices
-  abbrev choices : List ℕ
-  choices = getD (rowOf (node .kind) (l % 2)) j []
+  -- the clauses of its row, and this one, as choices
+  abbrev row-of : List (List ℕ)
+  row-of = rowOf (node .kind) (l % 2)
 
-  j-low : j < length (rowOf (node .kind) (l % 2))
+  abbrev choices : List ℕ
+  choices = getD row-of j []
+
+  j-low : j < length row-of
   unfolding expand
-  j-low = omega (arith, k, length-map (rowOf (node .kind) (l % 2)) (map (chosen node)))
+  j-low = omega (arith, p .1, length-map row-of (map (chosen node)))
 
   pub j-most : j < 3
-  j-most = omega (arith, k, expand-few t l)
+  j-most = omega (arith, p .1, expand-few t l)
 
   -- its literals
   chosen-clause : getD (expand t l) j [] ≡ map (chosen node) choices
   unfolding expand
-  chosen-clause = List·getD-map (map (chosen node)) (rowOf (node .kind) (l % 2)) j []
+  chosen-clause = List·getD-map (map (chosen node)) row-of j []
+
+  -- of so many choices
+  literals-are : (k : ℕ) → length choices ≡ k → map (chosen node) (listFrom (at choices) 0 k) ≡ getD (expand t l) j []
+  literals-are k e = sym (chosen-clause ∙ ap (map (chosen node)) (list-is choices ∙ ap (listFrom (at choices) 0) e))
 
   chooses : All (Chooses node) choices
-  chooses = all-getD (All (Chooses node)) (rowOf (node .kind) (l % 2)) j [] tt (row-within (node .kind) (l % 2) known (omega arith))
+  chooses = all-getD (All (Chooses node)) row-of j [] tt (row-within (node .kind) (l % 2) (I .table .kinds (l / 2) (omega arith) .1) (omega arith))
 
   short : Short choices
   unfolding clauses
@@ -126,9 +122,6 @@ module _ (t : ℕ → Node) (l j : ℕ) (known : t (l / 2) .kind < 9) (k : j < l
 
   low : All (λ m. m < 6) choices
   low = all-imply (Chooses node) (λ m. m < 6) (choice-few node) choices chooses
-
-  of-choice : (i a : ℕ) → a ≡ at choices i → (5 < a → ⊥) → a / 2 < length (operands node)
-  of-choice i a e h = rw e (of-operand node (at choices i) (choice-has (Chooses node) choices i chooses (omega (arith, h, e))))
 
   -- a number of the row that was read
   module _ {row : ℕ} (e : (row ≡ 2 * node .kind + l % 2) × (row < 18)) where
@@ -150,45 +143,52 @@ module _ (t : ℕ → Node) (l j : ℕ) (known : t (l / 2) .kind < 9) (k : j < l
         inside (c ∷ cs) zero h = refl
         inside (c ∷ cs) (suc j) h = inside cs j (omega arith)
 
-        same : choiceAt (rowOf (node .kind) (l % 2)) column ≡ at choices i
-        same = rw (d, m, inside (rowOf (node .kind) (l % 2)) j j-low)
+        same : choiceAt row-of column ≡ at choices i
+        same = rw (d, m, inside row-of j j-low)
+
+    -- what `choose` asks of one
+    of-choice : (i a : ℕ) → a ≡ at choices i → a ≤ 5 → (l / 2 < n) × (a / 2 < length (operands node))
+    of-choice i a e h = (omega (arith, p .0), rw e (of-operand node (at choices i) (choice-has (Chooses node) choices i chooses (omega (arith, h, e)))))
 
     module _ {a : ℕ} (pa : a ≡ cell row (3 * j)) where
       ea : a ≡ at choices 0
       ea = cell-is 0 (3 * j) a (omega arith) (omega arith) pa
 
-      pub first-of : (5 < a → ⊥) → a / 2 < length (operands node)
+      pub first-of : a ≤ 5 → (l / 2 < n) × (a / 2 < length (operands node))
       first-of h = of-choice 0 a ea h
 
       pub clause-none : 5 < a → [] ≡ getD (expand t l) j []
-      clause-none h = sym (chosen-clause ∙ ap (map (chosen node)) (list-none choices (ends choices 0 low (omega (arith, ea)))))
+      unfolding listFrom
+      clause-none h = literals-are 0 (omega (arith, ends choices 0 low (omega (arith, ea))))
 
-      module _ (ha : 5 < a → ⊥) {r : ℕ} (er : r ≡ chosen node a) {b : ℕ} (pb : b ≡ cell row (3 * j + 1)) where
+      module _ (ha : a ≤ 5) {r : ℕ} (er : r ≡ chosen node a) {b : ℕ} (pb : b ≡ cell row (3 * j + 1)) where
         eb : b ≡ at choices 1
         eb = cell-is 1 (3 * j + 1) b (omega arith) refl pb
 
-        pub second-of : (5 < b → ⊥) → b / 2 < length (operands node)
+        pub second-of : b ≤ 5 → (l / 2 < n) × (b / 2 < length (operands node))
         second-of h = of-choice 1 b eb h
 
         pub clause-one : 5 < b → r ∷ [] ≡ getD (expand t l) j []
+        unfolding listFrom
         clause-one h =
             ap (_∷ []) (er ∙ ap (chosen node) ea)
-            ∙ sym (chosen-clause ∙ ap (map (chosen node)) (list-one choices (goes choices 0 (omega (arith, ea))) (ends choices 1 low (omega (arith, eb)))))
+            ∙ literals-are 1 (omega (arith, goes choices 0 (omega (arith, ea)), ends choices 1 low (omega (arith, eb))))
 
-        module _ (hb : 5 < b → ⊥) {s : ℕ} (es : s ≡ chosen node b) {c : ℕ} (pc : c ≡ cell row (3 * j + 2)) where
+        module _ (hb : b ≤ 5) {s : ℕ} (es : s ≡ chosen node b) {c : ℕ} (pc : c ≡ cell row (3 * j + 2)) where
           ec : c ≡ at choices 2
           ec = cell-is 2 (3 * j + 2) c (omega arith) refl pc
 
-          pub third-of : (5 < c → ⊥) → c / 2 < length (operands node)
+          pub third-of : c ≤ 5 → (l / 2 < n) × (c / 2 < length (operands node))
           third-of h = of-choice 2 c ec h
 
           pub clause-two : 5 < c → r ∷ s ∷ [] ≡ getD (expand t l) j []
+          unfolding listFrom
           clause-two h =
-              ap (_∷ s ∷ []) (er ∙ ap (chosen node) ea) ∙ ap (λ (m : ℕ). chosen node (at choices 0) ∷ m ∷ []) (es ∙ ap (chosen node) eb)
-              ∙ sym (chosen-clause ∙ ap (map (chosen node)) (list-two choices (goes choices 1 (omega (arith, eb))) (ends choices 2 low (omega (arith, ec)))))
+              rw (er ∙ ap (chosen node) ea, es ∙ ap (chosen node) eb)
+              (literals-are 2 (omega (arith, goes choices 1 (omega (arith, eb)), ends choices 2 low (omega (arith, ec)))))
 
-          pub clause-three : (5 < c → ⊥) → {q : ℕ} → q ≡ chosen node c → r ∷ s ∷ q ∷ [] ≡ getD (expand t l) j []
+          pub clause-three : c ≤ 5 → {q : ℕ} → q ≡ chosen node c → r ∷ s ∷ q ∷ [] ≡ getD (expand t l) j []
+          unfolding listFrom
           clause-three h {q} eq =
-              ap (_∷ s ∷ q ∷ []) (er ∙ ap (chosen node) ea) ∙ ap (λ (m : ℕ). chosen node (at choices 0) ∷ m ∷ q ∷ []) (es ∙ ap (chosen node) eb)
-              ∙ ap (λ (m : ℕ). chosen node (at choices 0) ∷ chosen node (at choices 1) ∷ m ∷ []) (eq ∙ ap (chosen node) ec)
-              ∙ sym (chosen-clause ∙ ap (map (chosen node)) (list-three choices (goes choices 2 (omega (arith, ec))) (omega (arith, short))))
+              rw (er ∙ ap (chosen node) ea, es ∙ ap (chosen node) eb, eq ∙ ap (chosen node) ec)
+              (literals-are 3 (omega (arith, goes choices 2 (omega (arith, ec)), short)))

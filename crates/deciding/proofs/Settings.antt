@@ -1,9 +1,9 @@
--- Writing a setting: all points either way, and then node by node. Assumes nothing.
-use mathlib.Core.Path.{_≡_, refl, sym, ap, _∙_}
-use mathlib.Core.List.{List, _++_}
-use mathlib.Core.Bool.{Bool, true, false, cond, _&&_, _||_, or-false, or-true}
-use Prim.Native.Nat.{ℕ, zero, suc, _+_, _*_, _%_, _<_, _≤_}
-use native.Mathlib.Nat.{add-zero, zero-add, add-suc, suc-add}
+-- Writing a setting: all points either way, and then literal by literal. Assumes nothing.
+use mathlib.Core.Path.{_≡_, refl, sym, ap, ap₂, _∙_}
+use mathlib.Core.List.{List, [], _∷_, _++_}
+use mathlib.Core.Bool.{Bool, true, false, _&&_, _||_}
+use Prim.Native.Nat.{ℕ, suc, _+_, _/_, _%_, _<_, _≤_}
+use native.Mathlib.Nat.{zero-add, add-zero, add-suc, suc-add}
 use native.Mathlib.Numerals.{add-one}
 use native.Mathlib.Omega.{arith}
 use native.Mathlib.Decide.{ℕ-discrete}
@@ -16,12 +16,14 @@ use Rattle.scope.specs.Table.{listFrom}
 use Rattle.scope.specs.Calls.{noNode}
 use Rattle.scope.proofs.Lists.{length-listFrom, getD-listFrom}
 use Rattle.scope.proofs.Tests.{and-left, and-right}
-use Rattle.calculus.specs.Expansion.{neg}
-use Rattle.calculus.specs.Order.{mem, holds, fails, undecided, valueOf, positive, negative, atomHeld, byteOf, settingOf}
-use Rattle.calculus.specs.Model.{Table}
-use Rattle.calculus.proofs.Setting.{AtomOf, none-held, setting-length, setting-point}
-use Rattle.state.specs.Work.{valueCode}
-use Rattle.deciding.specs.Setting.{Cleared, held, Marked}
+use Rattle.calculus.specs.Order.{mem, positive, negative, atomHeld, settingOf}
+use Rattle.calculus.specs.Model.{Table, Good}
+use Rattle.calculus.proofs.Setting.{AtomOf, setting-length, setting-point, setting-held}
+use Rattle.calculus.proofs.Literals.{mem-same, mem-other}
+use Rattle.index.specs.Index.{mostNodes, indexNode}
+use Rattle.trail.proofs.Trails.{trail-length, trail-suc, literal-below, good-first, count-most}
+use Rattle.state.specs.Work.{tail, gOf, litAt, trail}
+use Rattle.deciding.specs.Setting.{Cleared, Points, pointSet}
 
 -- ---- all points either way
 
@@ -39,138 +41,139 @@ cleared-more {s} {k} {s′} r h c = record {
     go p l (yes e) = rw e (getD-set-same s′ k 2 0 (omega (arith, c .size)))
     go p l (no e) = getD-set-other s′ k p 2 0 e ∙ c .either p (omega arith)
 
--- ---- one node more
+-- ---- literal by literal
 
--- the byte of a node's point, by whether its literals are held; old where neither is
-abbrev signs : Bool → Bool → ℕ → ℕ
-signs held denied old = cond held 1 (cond denied 0 old)
-
--- the value of a node's positive literal says which of the two is held
-module _ (G : List ℕ) (i : ℕ) {v : ℕ} (e : v ≡ valueCode (valueOf G (2 * i))) where
-  value-signs : v ≡ valueCode (cond (mem (positive i) G) holds (cond (mem (negative i) G) fails undecided))
-  unfolding valueOf
-  value-signs =
-      let z : neg (2 * i) ≡ negative i = omega arith in
-      rw z at e
-
-  pub value-none : v ≡ 0 → (old : ℕ) → signs (mem (positive i) G) (mem (negative i) G) old ≡ old
-  value-none q old = go (mem (positive i) G) (mem (negative i) G) value-signs
-    where
-      go : (a b : Bool) → v ≡ valueCode (cond a holds (cond b fails undecided)) → signs a b old ≡ old
-      go true b w = absurd (omega arith)
-      go false true w = absurd (omega arith)
-      go false false w = refl
-
-  pub value-byte : (v ≡ 0 → ⊥) → (old : ℕ) → signs (mem (positive i) G) (mem (negative i) G) old ≡ v % 2
-  value-byte q old = go (mem (positive i) G) (mem (negative i) G) value-signs
-    where
-      go : (a b : Bool) → v ≡ valueCode (cond a holds (cond b fails undecided)) → signs a b old ≡ v % 2
-      go true b w = rw w
-      go false true w = rw w
-      go false false w = absurd (q w)
-
-module _ (x : Node) (i : ℕ) (G s : List ℕ) where
-  pub marked-other : (x .kind ≡ 2 → ⊥) → Marked x i G s s
-  marked-other k = record { size = refl; points = λ p h. rw (ne-eqb (x .kind) 2 k); beyond = refl }
-
-  pub marked-none : ((old : ℕ) → signs (mem (positive i) G) (mem (negative i) G) old ≡ old) → Marked x i G s s
-  marked-none m = record { size = refl; points = λ p h. go (eqb (x .kind) 2 && eqb (x .a) p) (getD s p 0); beyond = refl }
-    where
-      go : (a : Bool) (old : ℕ) → old ≡ signs (a && mem (positive i) G) (a && mem (negative i) G) old
-      go true old = sym (m old)
-      go false old = refl
-
-  pub marked-point : x .kind ≡ 2 → (b : ℕ) → ((old : ℕ) → signs (mem (positive i) G) (mem (negative i) G) old ≡ b)
-      → x .a < 1024 → 1024 ≤ length s → Marked x i G s (set s (x .a) b)
-  marked-point k b m l r = record {
-    size = length-set s (x .a) b;
-    points = λ p h. rw (eq-eqb (x .kind) 2 k) (go p (ℕ-discrete p (x .a)));
-    beyond = drop-set-lt 1024 s (x .a) b l;
-  }
-    where
-      go : (p : ℕ) → Dec (p ≡ x .a)
-          → getD (set s (x .a) b) p 0 ≡ signs ((true && eqb (x .a) p) && mem (positive i) G) ((true && eqb (x .a) p) && mem (negative i) G) (getD s p 0)
-      go p (yes e) = rw (e, eq-eqb (x .a) (x .a) refl) (getD-set-same s (x .a) b 0 (omega arith) ∙ sym (m (getD s (x .a) 0)))
-      go p (no e) = rw (ne-eqb (x .a) p (λ z. e (sym z))) (getD-set-other s (x .a) p b 0 e)
-
--- ---- node by node
-
--- the points of the first i nodes have their bytes
-pub record Filled (f : ℕ → Node) (i : ℕ) (G s s′ : List ℕ) : Type 0 where
+-- the points have the bytes of the setting of G
+pub record Filled (rs : List Node) (G s s′ : List ℕ) : Type 0 where
   pub size : length s′ ≡ length s
-  pub points : (p : ℕ) → p < 1024 → getD s′ p 0 ≡ byteOf (atomHeld positive (listFrom f 0 i) 0 G p) (atomHeld negative (listFrom f 0 i) 0 G p)
+  pub points : (p : ℕ) → p < 1024 → getD s′ p 0 ≡ getD (settingOf rs G) p 0
   pub beyond : drop 1024 s′ ≡ drop 1024 s
 
-pub filled-none : (f : ℕ → Node) (G : List ℕ) {s s′ : List ℕ} → Cleared s 1024 s′ → Filled f 0 G s′ s′
-unfolding listFrom atomHeld
-filled-none f G c = record { size = refl; points = c .either; beyond = refl }
-
-or-assoc : (a b c : Bool) → (a || (b || c)) ≡ ((a || b) || c)
-or-assoc true b c = refl
-or-assoc false b c = refl
-
--- the last of the nodes apart
-atoms-more : (sign : ℕ → ℕ) (f : ℕ → Node) (G : List ℕ) (p k i m : ℕ)
-    → atomHeld sign (listFrom f i (suc k)) m G p ≡ (atomHeld sign (listFrom f i k) m G p || held sign (f (i + k)) (m + k) G p)
-unfolding listFrom atomHeld
-atoms-more sign f G p zero i m = rw (add-zero i, add-zero m) (or-false (held sign (f i) m G p))
-atoms-more sign f G p (suc k) i m =
-    rw (add-suc i k, add-suc m k, ← suc-add i k, ← suc-add m k)
-    (ap (held sign (f i) m G p ||_) (atoms-more sign f G p k (suc i) (suc m))
-    ∙ or-assoc (held sign (f i) m G p) (atomHeld sign (listFrom f (suc i) k) (suc m) G p) (held sign (f (suc i + k)) (suc m + k) G p))
-
--- no ATOM of the point stands before
-byte-more : (a b h d : Bool) → (d ≡ true → a ≡ false) → signs h d (byteOf a b) ≡ byteOf (a || h) (b || d)
-byte-more a b true d k = go a
+-- nothing is held
+none-held : (sign : ℕ → ℕ) (p : ℕ) (rs : List Node) (m : ℕ) → atomHeld sign rs m [] p ≡ false
+unfolding atomHeld mem
+none-held sign p [] m = refl
+none-held sign p (y ∷ rs) m = rw (none-held sign p rs (suc m)) (go (eqb (y .kind) 2 && eqb (y .a) p))
   where
-    go : (a : Bool) → 1 ≡ byteOf (a || true) (b || d)
+    go : (b : Bool) → ((b && false) || false) ≡ false
     go true = refl
     go false = refl
-byte-more a b false true k = rw (k refl, or-true b)
-byte-more true b false false k = refl
-byte-more false true false false k = refl
-byte-more false false false false k = refl
 
--- ATOMs of a table's n nodes have points of their own
-module _ {n : ℕ} {f : ℕ → Node} (T : Table n f) {i : ℕ} (b : i < n) (G : List ℕ) (p : ℕ) where
-  none-before : held negative (f i) i G p ≡ true → atomHeld positive (listFrom f 0 i) 0 G p ≡ false
-  none-before e =
-      let q = and-left (eqb (f i .kind) 2 && eqb (f i .a) p) (mem (negative i) G) e in
-      let k : f i .kind ≡ 2 = eqb-true (f i .kind) 2 (and-left (eqb (f i .kind) 2) (eqb (f i .a) p) q) in
-      let a : f i .a ≡ p = eqb-true (f i .a) p (and-right (eqb (f i .kind) 2) (eqb (f i .a) p) q) in
-      none-held positive G p (listFrom f 0 i) 0 (λ j h z. other j (rw length-listFrom at h) (rw (at-node j (rw length-listFrom at h)) at z) k a)
-    where
-      at-node : (j : ℕ) → j < i → getD (listFrom f 0 i) j noNode ≡ f j
-      at-node j h = getD-listFrom f i 0 j noNode h ∙ ap f (zero-add j)
-
-      other : (j : ℕ) → j < i → AtomOf p (f j) → f i .kind ≡ 2 → f i .a ≡ p → ⊥
-      other j h z k a = omega (arith, T .atoms j i (omega arith) b (z .0) k (z .1 ∙ sym a))
-
-pub filled-more : {n : ℕ} {f : ℕ → Node} → Table n f → {i : ℕ} → i < n → {G s s₁ s₂ : List ℕ}
-    → Filled f i G s s₁ → Marked (f i) i G s₁ s₂ → Filled f (i + 1) G s s₂
-filled-more {n} {f} T {i} b {G} {s} {s₁} {s₂} a m = record {
-  size = m .size ∙ a .size;
-  points = λ p h.
-      m .points p h
-      ∙ ap (signs (held positive (f i) i G p) (held negative (f i) i G p)) (a .points p h)
-      ∙ byte-more (atomHeld positive (listFrom f 0 i) 0 G p) (atomHeld negative (listFrom f 0 i) 0 G p)
-      (held positive (f i) i G p) (held negative (f i) i G p) (none-before T b G p)
-      ∙ rw (last positive p, last negative p);
-  beyond = m .beyond ∙ a .beyond;
+pub filled-none : (rs : List Node) {s s′ : List ℕ} → Cleared s 1024 s′ → Filled rs [] s′ s′
+filled-none rs c = record {
+  size = refl;
+  points = λ p h. c .either p h ∙ sym (setting-point rs [] p h ∙ rw (none-held positive p rs 0, none-held negative p rs 0));
+  beyond = refl;
 }
-  where
-    last : (sign : ℕ → ℕ) (p : ℕ) → (atomHeld sign (listFrom f 0 i) 0 G p || held sign (f i) i G p) ≡ atomHeld sign (listFrom f 0 (i + 1)) 0 G p
-    last sign p = rw (add-one i) (sym (rw (zero-add i) at (atoms-more sign f G p i 0 0)))
 
--- all nodes: the setting
-pub filled-all : {f : ℕ → Node} {n : ℕ} {G s s′ : List ℕ} → 1024 ≤ length s → Filled f n G s s′ → s′ ≡ settingOf (listFrom f 0 n) G ++ drop 1024 s
-filled-all {f} {n} {G} {s} {s′} r a =
-    sym (take-append-drop 1024 s′) ∙ ap (_++ drop 1024 s′) front ∙ ap (settingOf (listFrom f 0 n) G ++_) (a .beyond)
+-- a literal of no ATOM of the point changes nothing there
+atoms-same : (sign : ℕ → ℕ) (l p : ℕ) (G : List ℕ) (rs : List Node) (m : ℕ)
+    → ((j : ℕ) → j < length rs → AtomOf p (getD rs j noNode) → sign (m + j) ≡ l → ⊥) → atomHeld sign rs m (l ∷ G) p ≡ atomHeld sign rs m G p
+unfolding atomHeld
+atoms-same sign l p G [] m h = refl
+atoms-same sign l p G (y ∷ rs) m h =
+    ap₂ _||_ (go (eqb (y .kind) 2 && eqb (y .a) p) refl)
+    (atoms-same sign l p G rs (suc m) (λ j b q e. h (suc j) (omega arith) q (ap sign (add-suc m j ∙ sym (suc-add m j)) ∙ e)))
   where
-    long : length (take 1024 s′) ≡ 1024
-    long = length-take-le 1024 s′ (omega (arith, a .size))
+    go : (b : Bool) → (eqb (y .kind) 2 && eqb (y .a) p) ≡ b → (b && mem (sign m) (l ∷ G)) ≡ (b && mem (sign m) G)
+    go false e = refl
+    go true e =
+        mem-other G l (sign m)
+        (λ z. h 0 (omega arith) (eqb-true (y .kind) 2 (and-left (eqb (y .kind) 2) (eqb (y .a) p) e), eqb-true (y .a) p (and-right (eqb (y .kind) 2) (eqb (y .a) p) e))
+        (ap sign (add-zero m) ∙ z))
 
-    front : take 1024 s′ ≡ settingOf (listFrom f 0 n) G
+module _ {n : ℕ} {f : ℕ → Node} (T : Table n f) where
+  abbrev rs : List Node
+  rs = listFrom f 0 n
+
+  long : length rs ≡ n
+  long = length-listFrom f n 0
+
+  node : (j : ℕ) → j < length rs → getD rs j noNode ≡ f j
+  node j h = getD-listFrom f n 0 j noNode (rw length-listFrom at h) ∙ ap f (zero-add j)
+
+  listed : Table (length rs) (λ i. getD rs i noNode)
+  listed = record {
+    kinds = λ i h. rw (node i h) (T .kinds i (omega (arith, h, long)));
+    earlier = λ i h. rw (node i h) (T .earlier i (omega (arith, h, long)));
+    atoms = λ i j h b k q e. T .atoms i j (omega (arith, h, long)) (omega (arith, b, long)) (rw (node i h) at k) (rw (node j b) at q) (rw (node i h, node j b) at e);
+  }
+
+  -- a literal more
+  module _ (l : ℕ) (G : List ℕ) (g : Good n (l ∷ G)) where
+    low : l / 2 < n
+    low = omega (arith, g .0 .0)
+
+    -- at a point that is not its own
+    byte-other : (p : ℕ) → p < 1024 → (AtomOf p (f (l / 2)) → ⊥) → getD (settingOf rs (l ∷ G)) p 0 ≡ getD (settingOf rs G) p 0
+    byte-other p h d =
+        setting-point rs (l ∷ G) p h
+        ∙ rw (atoms-same positive l p G rs 0 (λ j b q e. d (own j b q (omega (arith, e)))), atoms-same negative l p G rs 0 (λ j b q e. d (own j b q (omega (arith, e)))))
+        (sym (setting-point rs G p h))
+      where
+        own : (j : ℕ) → j < length rs → AtomOf p (getD rs j noNode) → j ≡ l / 2 → AtomOf p (f (l / 2))
+        own j b q e = rw (sym e) (rw (node j b) at q)
+
+    -- at its own
+    byte-own : f (l / 2) .kind ≡ 2 → f (l / 2) .a < 1024 → getD (settingOf rs (l ∷ G)) (f (l / 2) .a) 0 ≡ (l + 1) % 2
+    byte-own k b =
+        let h : l / 2 < length rs = omega (arith, low, long) in
+        let e = node (l / 2) h in
+        rw e at (setting-held rs (l ∷ G) listed (l / 2) h (rw e k) (rw e b) (rw long g) l refl (mem-same G l l refl)) ∙ omega arith
+
+    filled-more : {s s₁ : List ℕ} → (f (l / 2) .kind ≡ 2 → f (l / 2) .a < 1024) → 1024 ≤ length s → Filled rs G s s₁ → Filled rs (l ∷ G) s (pointSet (f (l / 2)) l s₁)
+    filled-more {s} {s₁} points room a = go (ℕ-discrete (f (l / 2) .kind) 2)
+      where
+        go : Dec (f (l / 2) .kind ≡ 2) → Filled rs (l ∷ G) s (pointSet (f (l / 2)) l s₁)
+        go (no d) = rw (ne-eqb (f (l / 2) .kind) 2 d) record {
+          size = a .size;
+          points = λ p h. a .points p h ∙ sym (byte-other p h (λ q. d (q .0)));
+          beyond = a .beyond;
+        }
+        go (yes k) = rw (eq-eqb (f (l / 2) .kind) 2 k) record {
+          size = length-set s₁ (f (l / 2) .a) ((l + 1) % 2) ∙ a .size;
+          points = λ p h. at-point p h (ℕ-discrete p (f (l / 2) .a));
+          beyond = drop-set-lt 1024 s₁ (f (l / 2) .a) ((l + 1) % 2) (points k) ∙ a .beyond;
+        }
+          where
+            at-point : (p : ℕ) → p < 1024 → Dec (p ≡ f (l / 2) .a) → getD (set s₁ (f (l / 2) .a) ((l + 1) % 2)) p 0 ≡ getD (settingOf rs (l ∷ G)) p 0
+            at-point p h (yes e) =
+                rw e (getD-set-same s₁ (f (l / 2) .a) ((l + 1) % 2) 0 (omega (arith, points k, room, a .size)) ∙ sym (byte-own k (points k)))
+            at-point p h (no e) =
+                getD-set-other s₁ (f (l / 2) .a) p ((l + 1) % 2) 0 e ∙ a .points p h ∙ sym (byte-other p h (λ q. e (sym (q .1))))
+
+-- all literals: the setting
+pub filled-all : {rs : List Node} {G s s′ : List ℕ} → 1024 ≤ length s → Filled rs G s s′ → s′ ≡ settingOf rs G ++ drop 1024 s
+filled-all {rs} {G} {s} {s′} r a =
+    sym (take-append-drop 1024 s′) ∙ ap (_++ drop 1024 s′) front ∙ ap (settingOf rs G ++_) (a .beyond)
+  where
+    whole : length (take 1024 s′) ≡ 1024
+    whole = length-take-le 1024 s′ (omega (arith, a .size))
+
+    front : take 1024 s′ ≡ settingOf rs G
     front =
-        ext-getD 0 (take 1024 s′) (settingOf (listFrom f 0 n) G) (long ∙ sym (setting-length (listFrom f 0 n) G))
-        (λ p h. let b : p < 1024 = omega (arith, long) in getD-take 1024 s′ p 0 b ∙ a .points p b ∙ sym (setting-point (listFrom f 0 n) G p b))
+        ext-getD 0 (take 1024 s′) (settingOf rs G) (whole ∙ sym (setting-length rs G))
+        (λ p h. let b : p < 1024 = omega (arith, whole) in getD-take 1024 s′ p 0 b ∙ a .points p b)
+
+-- ---- the literals held, one after another
+
+module _ {x : List ℕ} {n : ℕ} {w s : List ℕ} (P : Points x n w s) where
+  pub held-count : length (gOf w) ≡ tail w 0
+  held-count = trail-length (tail w 0) (tail w)
+
+  pub held-few : length (gOf w) ≤ mostNodes
+  held-few = omega (arith, held-count, count-most n (tail w) (P .ready .trail), P .indexed .few)
+
+  module _ {q l : ℕ} (h : q < length (gOf w)) (e : l ≡ litAt (tail w) q) where
+    pub next-low : l / 2 < n
+    next-low = omega (arith, e, literal-below n (tail w 0) (tail w) q (P .ready .trail .good) (omega (arith, h, held-count)))
+
+    next-good : Good n (l ∷ trail q (tail w))
+    unfolding trail
+    next-good = rw e (good-first n (tail w 0) (tail w) (suc q) (P .ready .trail .good) (omega (arith, h, held-count)))
+
+    pub filled-next : {s₀ s₁ : List ℕ} → 1024 ≤ length s₀ → Filled (listFrom (indexNode x) 0 n) (trail q (tail w)) s₀ s₁
+        → Filled (listFrom (indexNode x) 0 n) (trail (q + 1) (tail w)) s₀ (pointSet (indexNode x (l / 2)) l s₁)
+    filled-next room a =
+        rw (add-one q, trail-suc q (tail w), ← e)
+        (filled-more (P .indexed .table) l (trail q (tail w)) next-good (λ k. P .points (l / 2) next-low k) room a)

@@ -4,15 +4,15 @@ use searching::Ended;
 use table::Counted;
 ghost use mathlib.Core.Path.{_≡_};
 ghost use mathlib.Core.List.{_++_};
-ghost use Prim.Native.Nat.{_<_, _≤_};
+ghost use Prim.Native.Nat.{_/_, _<_, _≤_};
 ghost use lib.ListN.{length, drop};
 ghost use Rattle.scope.specs.Table.{listFrom};
 ghost use Rattle.calculus.specs.Order.{settingOf};
 ghost use Rattle.calculus.specs.Model.{Goals};
-ghost use Rattle.index.specs.Index.{indexNode};
+ghost use Rattle.index.specs.Index.{indexSize, mostNodes, indexNode};
 ghost use Rattle.index.specs.Indexed.{Indexed};
 ghost use Rattle.state.specs.Work.{gOf};
-ghost use Rattle.deciding.specs.Setting.{Cleared, Points, Marked};
+ghost use Rattle.deciding.specs.Setting.{Cleared, Points, pointSet};
 ghost use Rattle.deciding.specs.Decides.{Room, Solved, Decides};
 
 // What decide answers.
@@ -34,20 +34,18 @@ fn clear(settings: &mut [u8])
     }
 }
 
-// The point of node i, if that is an ATOM, is yes where its positive literal is held, and no where its negative one is.
-fn set_point(x: &[u16], n: usize, work: &[u16], settings: &mut [u8], i: usize)
-    requires { ⌜ Points (now x) n (now work) (now settings) ⌝ }
-    requires { ⌜ i < n ⌝ }
-    ensures { λ _. ⌜ Marked (indexNode (now (x .entry)) i) i (gOf (now (work .entry))) (now (settings .entry)) (now (settings .exit)) ⌝ }
+// The point of a literal's node, if that is an ATOM, is yes where the literal is positive, else no.
+fn set_point(x: &[u16], settings: &mut [u8], l: u16)
+    requires { ⌜ (length (now x) ≡ indexSize) × (l / 2 < mostNodes) ⌝ }
+    requires { ⌜ (indexNode (now x) (l / 2) .kind ≡ 2 → indexNode (now x) (l / 2) .a < length (now settings)) ⌝ }
+    ensures { λ _. ⌜ now (settings .exit) ≡ pointSet (indexNode (now (x .entry)) (l / 2)) l (now (settings .entry)) ⌝ }
 {
-    if x[4 * i] != 2 {
+    let s = 4 * ((l / 2) as usize);
+    if x[s] != 2 {
         return;
     }
-    let v = state::value(n, work, (2 * i) as u16);
-    if v != 0 {
-        let point = x[4 * i + 1] as usize;
-        settings[point] = (v % 2) as u8;
-    }
+    let point = x[s + 1] as usize;
+    settings[point] = ((l + 1) % 2) as u8;
 }
 
 // The setting of the literals held.
@@ -56,10 +54,12 @@ pub fn set_points(x: &[u16], n: usize, work: &[u16], settings: &mut [u8])
     ensures { λ _. ⌜ now (settings .exit) ≡ settingOf (listFrom (indexNode (now (x .entry))) 0 n) (gOf (now (work .entry))) ++ drop 1024 (now (settings .entry)) ⌝ }
 {
     clear(settings);
-    let mut i = 0;
-    while i < n {
-        set_point(x, n, work, settings, i);
-        i += 1;
+    let held = state::count(work) as usize;
+    let mut q = 0;
+    while q < held {
+        let l = state::literal(work, q);
+        set_point(x, settings, l);
+        q += 1;
     }
 }
 
@@ -71,8 +71,7 @@ fn solve(x: &[u16], n: usize, goals: &[u16], settings: &mut [u8], work: &mut [u1
     ensures { λ r. ⌜ Solved (indexNode (now (x .entry))) n (now (goals .entry)) (now (settings .entry)) (now (settings .exit)) r ⌝ }
 {
     state::blank(n, work, 0);
-    let mut rests = [0u64; 4036];
-    let found = searching::solve_counted(x, n, goals, work, &mut rests);
+    let found = searching::solve_counted(x, n, goals, work);
     match found {
         Ended::Closed(splits) => Decided::Impossible(splits),
         Ended::Model(splits) => {

@@ -1,17 +1,21 @@
 -- Laws of counting the edges and placing them. Assumes nothing.
 use mathlib.Core.Path.{_≡_, refl, sym, ap, _∙_, subst}
+use mathlib.Core.Bool.{Bool, true, false, cond}
 use mathlib.Core.List.{List}
 use Prim.Native.Nat.{ℕ, _+_, _*_, _/_, _<_, _≤_}
 use native.Mathlib.Omega.{arith}
 use native.Mathlib.Decide.{ℕ-discrete, decLt}
+use lib.Dec.{ltb}
 use lib.ListN.{length, length-set}
 use lib.Seq.{getD-set-same, getD-set-other}
 use borrow.Author.Tests.{lt-ltb, le-ltb}
 use Rattle.scope.specs.declared.Node.{Node}
+use Rattle.scope.specs.Table.{operands}
 use Rattle.scope.proofs.Operands.{operands-two, operands-three}
+use Rattle.calculus.specs.Model.{All}
 use Rattle.index.specs.Index.{indexSize, mostNodes, firstAt, midAt, endAt, indexNode}
 use Rattle.index.specs.Edges.{midOf, endOf}
-use Rattle.index.specs.Built.{Same, Known, Agree, sum, is, pairsIn, threesIn, pairsTo, threesTo, Counted, raised, countNode, Room, Blank}
+use Rattle.index.specs.Built.{Same, Known, Agree, sum, is, pairsIn, threesIn, pairsTo, threesTo, Counted, raised, countTwo, countThree, countNode, Room, Blank}
 use Rattle.index.proofs.Nodes.{node-same}
 use Rattle.index.proofs.Sums.{sum-next, is-own, is-other, total-low, pairs-part, threes-part, brings-none, brings-two, brings-three}
 
@@ -54,6 +58,33 @@ module _ {t : ℕ → Node} {n : ℕ} {u v : ℕ → ℕ} {x : List ℕ} (few : 
 
 -- ---- a node's edges are counted
 
+-- the same said otherwise
+counted-as : {t : ℕ → Node} {n : ℕ} {u v u′ v′ : ℕ → ℕ} {x : List ℕ} → ((m : ℕ) → u m ≡ u′ m) → ((m : ℕ) → v m ≡ v′ m) → Counted t n u v x → Counted t n u′ v′ x
+counted-as e f c = record { size = c .size; nodes = c .nodes; mid = λ m b. c .mid m b ∙ e m; end = λ m b. c .end m b ∙ f m }
+
+-- as many more as the node brings
+pub counted-by : {t : ℕ → Node} {n : ℕ} {u v : ℕ → ℕ} {x : List ℕ} → n ≤ mostNodes → Counted t n u v x → (y : Node) → All (λ l. l / 2 < n) (operands y)
+    → Counted t n (λ m. u m + pairsIn y m) (λ m. v m + threesIn y m) (countNode x y)
+unfolding countNode
+counted-by {t} {n} {u} {v} {x} few c y known = go (decLt (y .kind) 3) (decLt (y .kind) 7)
+  where
+    go : Dec (y .kind < 3) → Dec (y .kind < 7) → Counted t n (λ m. u m + pairsIn y m) (λ m. v m + threesIn y m) (countNode x y)
+    go (yes a) b =
+        rw (lt-ltb (y .kind) 3 a)
+        (counted-as (λ m. omega (arith, brings-none y m a .0)) (λ m. omega (arith, brings-none y m a .1)) c)
+    go (no a) (yes b) =
+        let k : 2 < y .kind = omega (arith, a) in
+        let o = rw (operands-two y k b) at known in
+        rw (le-ltb (y .kind) 3 (omega (arith, a)), lt-ltb (y .kind) 7 b)
+        (counted-as (λ m. omega (arith, brings-two y m k b .0)) (λ m. omega (arith, brings-two y m k b .1))
+        (counted-pair few (counted-pair few c (y .a) (o .0)) (y .b) (o .1 .0)))
+    go (no a) (no b) =
+        let k : 7 ≤ y .kind = omega (arith, b) in
+        let o = rw (operands-three y k) at known in
+        rw (le-ltb (y .kind) 3 (omega (arith, a)), le-ltb (y .kind) 7 k)
+        (counted-as (λ m. omega (arith, brings-three y m k .0)) (λ m. omega (arith, brings-three y m k .1))
+        (counted-three few (counted-three few (counted-three few c (y .a) (o .0)) (y .b) (o .1 .0)) (y .c) (o .1 .1 .0)))
+
 module _ {t : ℕ → Node} {n p : ℕ} {x : List ℕ} (few : n ≤ mostNodes) (known : Known t n) (h : p < n)
     (c : Counted t n (pairsTo t p) (threesTo t p) x) where
   pub count-room : Room n (indexNode x p) x
@@ -65,54 +96,34 @@ module _ {t : ℕ → Node} {n p : ℕ} {x : List ℕ} (few : n ≤ mostNodes) (
     threes = λ m b. omega (arith, c .end m b, threes-part t n p m h, total-low t n few m b);
   }
 
-  -- as many more as the node brings
-  counted-as : {u v : ℕ → ℕ} {x′ : List ℕ} → ((m : ℕ) → u m ≡ pairsTo t p m + pairsIn (t p) m) → ((m : ℕ) → v m ≡ threesTo t p m + threesIn (t p) m)
-      → Counted t n u v x′ → Counted t n (pairsTo t (p + 1)) (threesTo t (p + 1)) x′
-  counted-as e f d = record {
-    size = d .size;
-    nodes = d .nodes;
-    mid = λ m b. d .mid m b ∙ e m ∙ sym (sum-next (λ q. pairsIn (t q) m) p);
-    end = λ m b. d .end m b ∙ f m ∙ sym (sum-next (λ q. threesIn (t q) m) p);
-  }
-
-  counted-node : Counted t n (pairsTo t (p + 1)) (threesTo t (p + 1)) (countNode x (t p))
-  unfolding countNode
-  counted-node = go (decLt (t p .kind) 3) (decLt (t p .kind) 7)
-    where
-      go : Dec (t p .kind < 3) → Dec (t p .kind < 7) → Counted t n (pairsTo t (p + 1)) (threesTo t (p + 1)) (countNode x (t p))
-      go (yes a) b =
-          rw (lt-ltb (t p .kind) 3 a)
-          (counted-as (λ m. omega (arith, brings-none (t p) m a .0)) (λ m. omega (arith, brings-none (t p) m a .1)) c)
-      go (no a) (yes b) =
-          let k : 2 < t p .kind = omega (arith, a) in
-          let o = rw (operands-two (t p) k b) at (known p h) in
-          rw (le-ltb (t p .kind) 3 (omega (arith, a)), lt-ltb (t p .kind) 7 b)
-          (counted-as (λ m. omega (arith, brings-two (t p) m k b .0)) (λ m. omega (arith, brings-two (t p) m k b .1))
-          (counted-pair few (counted-pair few c (t p .a) (o .0)) (t p .b) (o .1 .0)))
-      go (no a) (no b) =
-          let k : 7 ≤ t p .kind = omega (arith, b) in
-          let o = rw (operands-three (t p) k) at (known p h) in
-          rw (le-ltb (t p .kind) 3 (omega (arith, a)), le-ltb (t p .kind) 7 k)
-          (counted-as (λ m. omega (arith, brings-three (t p) m k .0)) (λ m. omega (arith, brings-three (t p) m k .1))
-          (counted-three few (counted-three few (counted-three few c (t p .a) (o .0)) (t p .b) (o .1 .0)) (t p .c) (o .1 .1 .0)))
-
   pub counted-more : Counted t n (pairsTo t (p + 1)) (threesTo t (p + 1)) (countNode x (indexNode x p))
-  counted-more = rw (c .nodes p h) counted-node
+  counted-more =
+      rw (c .nodes p h)
+      (counted-as (λ m. sym (sum-next (λ q. pairsIn (t q) m) p)) (λ m. sym (sum-next (λ q. threesIn (t q) m) p)) (counted-by few c (t p) (known p h)))
 
--- what is before the places is not changed
-pub count-same : (x : List ℕ) (y : Node) → Same firstAt x (countNode x y)
+-- what is before the counts is not changed
+pub count-same : (x : List ℕ) (y : Node) → Same midAt x (countNode x y)
 unfolding countNode
 count-same x y = go (decLt (y .kind) 3) (decLt (y .kind) 7)
   where
-    raised-same : (w : List ℕ) (i by : ℕ) → firstAt ≤ i → Same firstAt w (raised w i by)
+    raised-same : (w : List ℕ) (i by : ℕ) → midAt ≤ i → Same midAt w (raised w i by)
     raised-same w i by b j k = getD-set-other w i j _ 0 (λ q. omega (arith, q))
 
-    go : Dec (y .kind < 3) → Dec (y .kind < 7) → Same firstAt x (countNode x y)
+    go : Dec (y .kind < 3) → Dec (y .kind < 7) → Same midAt x (countNode x y)
     go (yes a) b = rw (lt-ltb (y .kind) 3 a) (λ i k. refl)
     go (no a) (yes b) = rw (le-ltb (y .kind) 3 (omega (arith, a)), lt-ltb (y .kind) 7 b) (λ i k.
         raised-same (raised x (midAt + y .a / 2) 2) (midAt + y .b / 2) 2 (omega arith) i k ∙ raised-same x (midAt + y .a / 2) 2 (omega arith) i k)
     go (no a) (no b) = rw (le-ltb (y .kind) 3 (omega (arith, a)), le-ltb (y .kind) 7 (omega (arith, b))) (λ i k.
         raised-same (raised (raised x (endAt + y .a / 2) 1) (endAt + y .b / 2) 1) (endAt + y .c / 2) 1 (omega arith) i k ∙ raised-same (raised x (endAt + y .a / 2) 1) (endAt + y .b / 2) 1 (omega arith) i k ∙ raised-same x (endAt + y .a / 2) 1 (omega arith) i k)
+
+pub count-size : (x : List ℕ) (y : Node) → length (countNode x y) ≡ length x
+unfolding countNode
+count-size x y = go (ltb (y .kind) 3) (ltb (y .kind) 7)
+  where
+    go : (a b : Bool) → length (cond a x (cond b (countTwo x (y .a) (y .b)) (countThree x (y .a) (y .b) (y .c)))) ≡ length x
+    go true b = refl
+    go false true = simp length-set refl
+    go false false = simp length-set refl
 
 pub counted-none : (n : ℕ) (x : List ℕ) → length x ≡ indexSize → Blank n x → Counted (indexNode x) n (pairsTo (indexNode x) 0) (threesTo (indexNode x) 0) x
 unfolding sum

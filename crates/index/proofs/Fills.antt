@@ -10,38 +10,40 @@ use lib.Seq.{getD-set-same, getD-set-other}
 use Rattle.scope.specs.declared.Node.{Node}
 use Rattle.index.specs.Index.{indexSize, mostNodes, mostEdges, firstAt, midAt, endAt, edgesAt}
 use Rattle.index.specs.Edges.{firstOf, midOf, endOf, edgeAt, parentOf, typeOf, otherOf, Pair}
-use Rattle.index.specs.Built.{Agree, is, pairsTo, threesTo, startOf}
-use Rattle.index.proofs.Sums.{total-low, apart, is-own}
+use Rattle.index.specs.Built.{Agree, is, pairsTo, threesTo, Starts}
+use Rattle.index.proofs.Sums.{is-own}
 use Rattle.index.proofs.Counts.{agree-same, each}
 
 -- node m has an edge from q, where u and v numbers of its edges stand
-abbrev pub Has : (ℕ → Node) → ℕ → (ℕ → ℕ) → (ℕ → ℕ) → List ℕ → ℕ → ℕ → Type 0
-Has t n u v x m q =
-    ((j : ℕ) × (2 * j < u m) × (parentOf x (startOf t n m + 2 * j) ≡ q))
-    ⊎ ((j : ℕ) × (j < v m) × (edgeAt x (startOf t n m + (pairsTo t n m + j)) ≡ q))
+abbrev pub Has : (ℕ → Node) → ℕ → (ℕ → ℕ) → (ℕ → ℕ) → (ℕ → ℕ) → List ℕ → ℕ → ℕ → Type 0
+Has t n S u v x m q =
+    ((j : ℕ) × (2 * j < u m) × (parentOf x (S m + 2 * j) ≡ q))
+    ⊎ ((j : ℕ) × (j < v m) × (edgeAt x (S m + (pairsTo t n m + j)) ≡ q))
 
 -- u and v numbers of each node's edges stand at its places, those of D among them
-pub record Filled (t : ℕ → Node) (n : ℕ) (u v : ℕ → ℕ) (D : ℕ → ℕ → Type 0) (x : List ℕ) : Type 0 where
+pub record Filled (t : ℕ → Node) (n : ℕ) (S u v : ℕ → ℕ) (D : ℕ → ℕ → Type 0) (x : List ℕ) : Type 0 where
   pub size : length x ≡ indexSize
   pub nodes : Agree t n x
+  pub starts : Starts t n S
   pub even : (m : ℕ) → u m % 2 ≡ 0
   pub pairs-few : (m : ℕ) → m < n → u m ≤ pairsTo t n m
   pub threes-few : (m : ℕ) → m < n → v m ≤ threesTo t n m
-  pub first : (m : ℕ) → m < n → firstOf x m ≡ startOf t n m
-  pub mid : (m : ℕ) → m < n → midOf x m ≡ startOf t n m + u m
-  pub end : (m : ℕ) → m < n → endOf x m ≡ startOf t n m + (pairsTo t n m + v m)
+  pub first : (m : ℕ) → m < n → firstOf x m ≡ S m
+  pub mid : (m : ℕ) → m < n → midOf x m ≡ S m + u m
+  pub end : (m : ℕ) → m < n → endOf x m ≡ S m + (pairsTo t n m + v m)
   pub pairs : (m j : ℕ) → m < n → 2 * j < u m
-      → Pair t n m (parentOf x (startOf t n m + 2 * j)) (typeOf x (startOf t n m + 2 * j)) (otherOf x (startOf t n m + 2 * j))
-  pub threes : (m j : ℕ) → m < n → j < v m → edgeAt x (startOf t n m + (pairsTo t n m + j)) < n
-  pub has : (m q : ℕ) → m < n → D m q → Has t n u v x m q
+      → Pair t n m (parentOf x (S m + 2 * j)) (typeOf x (S m + 2 * j)) (otherOf x (S m + 2 * j))
+  pub threes : (m j : ℕ) → m < n → j < v m → edgeAt x (S m + (pairsTo t n m + j)) < n
+  pub has : (m q : ℕ) → m < n → D m q → Has t n S u v x m q
 
 -- the same said otherwise
-pub filled-as : {t : ℕ → Node} {n : ℕ} {u v u′ v′ : ℕ → ℕ} {D E : ℕ → ℕ → Type 0} {x : List ℕ} → ((m : ℕ) → u m ≡ u′ m) → ((m : ℕ) → v m ≡ v′ m)
-    → ((m q : ℕ) → m < n → E m q → D m q) → Filled t n u v D x → Filled t n u′ v′ E x
-filled-as {t} {n} {u} {v} {u′} {v′} {D} {E} {x} e f g F =
-    subst (λ (w : ℕ → ℕ). Filled t n w v′ E x) (fun-ext e) (subst (λ (w : ℕ → ℕ). Filled t n u w E x) (fun-ext f) record {
+pub filled-as : {t : ℕ → Node} {n : ℕ} {S u v u′ v′ : ℕ → ℕ} {D E : ℕ → ℕ → Type 0} {x : List ℕ} → ((m : ℕ) → u m ≡ u′ m) → ((m : ℕ) → v m ≡ v′ m)
+    → ((m q : ℕ) → m < n → E m q → D m q) → Filled t n S u v D x → Filled t n S u′ v′ E x
+filled-as {t} {n} {S} {u} {v} {u′} {v′} {D} {E} {x} e f g F =
+    subst (λ (w : ℕ → ℕ). Filled t n S w v′ E x) (fun-ext e) (subst (λ (w : ℕ → ℕ). Filled t n S u w E x) (fun-ext f) record {
       size = F .size;
       nodes = F .nodes;
+      starts = F .starts;
       even = F .even;
       pairs-few = F .pairs-few;
       threes-few = F .threes-few;
@@ -53,11 +55,8 @@ filled-as {t} {n} {u} {v} {u′} {v′} {D} {E} {x} e f g F =
       has = λ m q h d. F .has m q h (g m q h d);
     })
 
-module _ {t : ℕ → Node} {n : ℕ} {u v : ℕ → ℕ} {D : ℕ → ℕ → Type 0} {x : List ℕ} (few : n ≤ mostNodes) (F : Filled t n u v D x)
+module _ {t : ℕ → Node} {n : ℕ} {S u v : ℕ → ℕ} {D : ℕ → ℕ → Type 0} {x : List ℕ} (few : n ≤ mostNodes) (F : Filled t n S u v D x)
     (p l : ℕ) (h : l / 2 < n) where
-  abbrev S : ℕ → ℕ
-  S m = startOf t n m
-
   abbrev L : ℕ → ℕ
   L m = pairsTo t n m
 
@@ -88,7 +87,7 @@ module _ {t : ℕ → Node} {n : ℕ} {u v : ℕ → ℕ} {D : ℕ → ℕ → T
     k-is = F .mid (l / 2) h
 
     k-low : k + 2 ≤ mostEdges
-    k-low = omega (arith, k-is, room, total-low t n few (l / 2) h)
+    k-low = omega (arith, k-is, room, F .starts .low (l / 2) h)
 
     elsewhere : (i : ℕ) → (i ≡ midAt + l / 2 → ⊥) → (i ≡ edgesAt + k → ⊥) → (i ≡ edgesAt + (k + 1) → ⊥) → getD x₃ i 0 ≡ getD x i 0
     elsewhere i a b c = getD-set-other x₂ (edgesAt + (k + 1)) i o 0 c ∙ getD-set-other x₁ (edgesAt + k) i e 0 b ∙ getD-set-other x (midAt + l / 2) i (k + 2) 0 a
@@ -117,8 +116,8 @@ module _ {t : ℕ → Node} {n : ℕ} {u v : ℕ → ℕ} {D : ℕ → ℕ → T
         go : Dec (m ≡ l / 2) → (i ≡ k) ⊎ (i ≡ k + 1) → ⊥
         go (yes r) (inl z) = f r .0 (omega (arith, z, q, k-is, ap S r))
         go (yes r) (inr z) = f r .1 (omega (arith, z, q, k-is, ap S r))
-        go (no r) (inl z) = apart t n few m d (l / 2) (u (l / 2)) r c (omega (arith, room)) (omega (arith, z, q, k-is))
-        go (no r) (inr z) = apart t n few m d (l / 2) (u (l / 2) + 1) r c (omega (arith, room)) (omega (arith, z, q, k-is))
+        go (no r) (inl z) = F .starts .apart m d (l / 2) (u (l / 2)) b h r c (omega (arith, room)) (omega (arith, z, q, k-is))
+        go (no r) (inr z) = F .starts .apart m d (l / 2) (u (l / 2) + 1) b h r c (omega (arith, room)) (omega (arith, z, q, k-is))
 
     pair-stays : (m j i : ℕ) → m < n → 2 * j < u m → (i ≡ S m + 2 * j) ⊎ (i ≡ S m + 2 * j + 1) → edgeAt x₃ i ≡ edgeAt x i
     pair-stays m j i b c (inl z) =
@@ -143,10 +142,11 @@ module _ {t : ℕ → Node} {n : ℕ} {u v : ℕ → ℕ} {D : ℕ → ℕ → T
         let b : e / 2048 ≡ y + l % 2 = omega (arith, low, few) in
         rw (new-edge, new-other, a, b) new
 
-    pub filled-pair : Filled t n u′ v More x₃
+    pub filled-pair : Filled t n S u′ v More x₃
     filled-pair = record {
       size = length-set x₂ (edgesAt + (k + 1)) o ∙ size₂;
       nodes = agree-same x x₃ few (λ i b. elsewhere i (λ q. omega (arith, q)) (λ q. omega (arith, q)) (λ q. omega (arith, q))) (F .nodes);
+      starts = F .starts;
       even = λ m. omega (arith, F .even m);
       pairs-few = each l (λ m w. m < n → u m + 2 * w ≤ L m) (λ b. room) (λ m d b. omega (arith, F .pairs-few m b));
       threes-few = F .threes-few;
@@ -169,16 +169,16 @@ module _ {t : ℕ → Node} {n : ℕ} {u v : ℕ → ℕ} {D : ℕ → ℕ → T
             let z : k ≡ S (l / 2) + 2 * j = omega (arith, k-is, c, d, F .even (l / 2)) in
             subst (λ (i : ℕ). Pair t n (l / 2) (parentOf x₃ i) (typeOf x₃ i) (otherOf x₃ i)) z pair-new
 
-        old : (m q : ℕ) → m < n → Has t n u v x m q → Has t n u′ v x₃ m q
+        old : (m q : ℕ) → m < n → Has t n S u v x m q → Has t n S u′ v x₃ m q
         old m q b (inl (j, c, z)) = inl (j, omega (arith, c), ap (_% 2048) (pair-stays m j (S m + 2 * j) b c (inl refl)) ∙ z)
         old m q b (inr (j, c, z)) = inr (j, c, three-stays m j b c ∙ z)
 
-        newly : (m q : ℕ) → m ≡ l / 2 → q ≡ p → Has t n u′ v x₃ m q
+        newly : (m q : ℕ) → m ≡ l / 2 → q ≡ p → Has t n S u′ v x₃ m q
         newly m q a b =
             let j : ℕ = u (l / 2) / 2 in
             let z : S (l / 2) + 2 * j ≡ k = omega (arith, k-is, F .even (l / 2)) in
             let c : e % 2048 ≡ p = omega (arith, low, few) in
-            subst (λ (i : ℕ). Has t n u′ v x₃ i q) (sym a) (inl (j, omega (arith, is-own l), ap (parentOf x₃) z ∙ ap (_% 2048) new-edge ∙ c ∙ sym b))
+            subst (λ (i : ℕ). Has t n S u′ v x₃ i q) (sym a) (inl (j, omega (arith, is-own l), ap (parentOf x₃) z ∙ ap (_% 2048) new-edge ∙ c ∙ sym b))
 
   -- ---- an edge of one number
   module _ (room : v (l / 2) + 1 ≤ W (l / 2)) (low : p < n) where
@@ -195,7 +195,7 @@ module _ {t : ℕ → Node} {n : ℕ} {u v : ℕ → ℕ} {D : ℕ → ℕ → T
     c-is = F .end (l / 2) h
 
     c-low : c + 1 ≤ mostEdges
-    c-low = omega (arith, c-is, room, total-low t n few (l / 2) h)
+    c-low = omega (arith, c-is, room, F .starts .low (l / 2) h)
 
     besides : (i : ℕ) → (i ≡ endAt + l / 2 → ⊥) → (i ≡ edgesAt + c → ⊥) → getD z₂ i 0 ≡ getD x i 0
     besides i a b = getD-set-other z₁ (edgesAt + c) i p 0 b ∙ getD-set-other x (endAt + l / 2) i (c + 1) 0 a
@@ -211,7 +211,7 @@ module _ {t : ℕ → Node} {n : ℕ} {u v : ℕ → ℕ} {D : ℕ → ℕ → T
       where
         go : Dec (m ≡ l / 2) → i ≡ c → ⊥
         go (yes r) w = g r (omega (arith, w, q, c-is, ap S r))
-        go (no r) w = apart t n few m d (l / 2) (L (l / 2) + v (l / 2)) r f (omega (arith, room)) (omega (arith, w, q, c-is))
+        go (no r) w = F .starts .apart m d (l / 2) (L (l / 2) + v (l / 2)) b h r f (omega (arith, room)) (omega (arith, w, q, c-is))
 
     pair-remains : (m j i : ℕ) → m < n → 2 * j < u m → (i ≡ S m + 2 * j) ⊎ (i ≡ S m + 2 * j + 1) → edgeAt z₂ i ≡ edgeAt x i
     pair-remains m j i b f (inl r) =
@@ -225,10 +225,11 @@ module _ {t : ℕ → Node} {n : ℕ} {u v : ℕ → ℕ} {D : ℕ → ℕ → T
     abbrev v′ : ℕ → ℕ
     v′ m = v m + is l m
 
-    pub filled-three : Filled t n u v′ More z₂
+    pub filled-three : Filled t n S u v′ More z₂
     filled-three = record {
       size = length-set z₁ (edgesAt + c) p ∙ length-set x (endAt + l / 2) (c + 1) ∙ F .size;
       nodes = agree-same x z₂ few (λ i b. besides i (λ q. omega (arith, q)) (λ q. omega (arith, q))) (F .nodes);
+      starts = F .starts;
       even = F .even;
       pairs-few = F .pairs-few;
       threes-few = each l (λ m w. m < n → v m + w ≤ W m) (λ b. room) (λ m d b. omega (arith, F .threes-few m b));
@@ -251,10 +252,10 @@ module _ {t : ℕ → Node} {n : ℕ} {u v : ℕ → ℕ} {D : ℕ → ℕ → T
             let r : S (l / 2) + (L (l / 2) + j) ≡ c = omega (arith, c-is, f, d) in
             omega (arith, ap (edgeAt z₂) r, new-three, low)
 
-        old : (m q : ℕ) → m < n → Has t n u v x m q → Has t n u v′ z₂ m q
+        old : (m q : ℕ) → m < n → Has t n S u v x m q → Has t n S u v′ z₂ m q
         old m q b (inl (j, f, r)) = inl (j, f, ap (_% 2048) (pair-remains m j (S m + 2 * j) b f (inl refl)) ∙ r)
         old m q b (inr (j, f, r)) = inr (j, omega (arith, f), three-remains m j b f ∙ r)
 
-        newly : (m q : ℕ) → m ≡ l / 2 → q ≡ p → Has t n u v′ z₂ m q
+        newly : (m q : ℕ) → m ≡ l / 2 → q ≡ p → Has t n S u v′ z₂ m q
         newly m q a b =
-            subst (λ (i : ℕ). Has t n u v′ z₂ i q) (sym a) (inr (v (l / 2), omega (arith, is-own l), ap (edgeAt z₂) (sym c-is) ∙ new-three ∙ sym b))
+            subst (λ (i : ℕ). Has t n S u v′ z₂ i q) (sym a) (inr (v (l / 2), omega (arith, is-own l), ap (edgeAt z₂) (sym c-is) ∙ new-three ∙ sym b))

@@ -7,3 +7,4 @@ pub mod Rooms
 pub mod Fills
 pub mod Wholes
 pub mod Marks
+pub mod Falls

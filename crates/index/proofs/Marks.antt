@@ -3,7 +3,7 @@ use mathlib.Core.Path.{_≡_, refl, ap, _∙_}
 use mathlib.Core.Logic.{_⊎_, inl, inr}
 use mathlib.Core.List.{List, [], _∷_}
 use mathlib.Core.Bool.{Bool, true, false, cond}
-use Prim.Native.Nat.{ℕ, zero, suc, _+_, _*_, _/_, _%_, _<_, _≤_}
+use Prim.Native.Nat.{ℕ, suc, _+_, _*_, _/_, _%_, _<_, _≤_}
 use native.Mathlib.Omega.{arith}
 use native.Mathlib.Decide.{ℕ-discrete}
 use lib.Dec.{eqb}
@@ -17,9 +17,13 @@ use Rattle.calculus.specs.Model.{All, Below}
 use Rattle.calculus.specs.Agree.{Alike}
 use Rattle.calculus.proofs.Lists.{all-imply}
 use Rattle.index.specs.Codes.{codesSize, classesSize}
-use Rattle.index.specs.Index.{indexSize, mostNodes, indexNode}
-use Rattle.index.specs.Built.{Known, Linked, Copied, Classified}
-use Rattle.index.specs.Marks.{bare, marked, markAll, stored, passed, sunk, Earlier, Zeros, Pruned}
+use Rattle.index.specs.Index.{indexSize, mostNodes, mostEdges, firstAt, midAt, endAt, indexNode}
+use Rattle.index.specs.Edges.{firstOf, midOf, endOf}
+use Rattle.index.specs.Built.{Same, countNode, Room, Linked, Copied, Classified}
+use Rattle.index.specs.Marks.{bare, marked, markAll, stored, placedAt, passed, startAfter, sunk, Fits, Zeros, Pruned}
+use Rattle.index.proofs.Nodes.{node-same}
+use Rattle.index.proofs.Sums.{sum-part, brings-four}
+use Rattle.index.proofs.Counts.{count-size, count-same}
 use Rattle.index.proofs.Wholes.{node-kept, edges-kept, codes-kept}
 
 -- ---- marks
@@ -30,7 +34,7 @@ marks-size x [] = refl
 marks-size x (l ∷ ls) = marks-size (marked x l) ls ∙ length-set x (4 * (l / 2)) 1
 
 -- a place that no mark is at
-marks-other : (x ls : List ℕ) (i : ℕ) → All (λ l. i ≡ 4 * (l / 2) → ⊥) ls → getD (markAll x ls) i 0 ≡ getD x i 0
+pub marks-other : (x ls : List ℕ) (i : ℕ) → All (λ l. i ≡ 4 * (l / 2) → ⊥) ls → getD (markAll x ls) i 0 ≡ getD x i 0
 unfolding markAll
 marks-other x [] i a = refl
 marks-other x (l ∷ ls) i a = marks-other (marked x l) ls i (a .1) ∙ getD-set-other x (4 * (l / 2)) i 1 0 (a .0)
@@ -122,7 +126,7 @@ module _ (x : List ℕ) (m : ℕ) (y : Node) where
   pub stored-size : length (stored x m y) ≡ length x
   stored-size = simp length-set refl
 
-  stored-other : (i : ℕ) → (4 * m ≤ i → i < 4 * m + 4 → ⊥) → getD (stored x m y) i 0 ≡ getD x i 0
+  pub stored-other : (i : ℕ) → (4 * m ≤ i → i < 4 * m + 4 → ⊥) → getD (stored x m y) i 0 ≡ getD x i 0
   stored-other i n =
       getD-set-other x₃ (4 * m + 3) i (y .c) 0 (λ q. n (omega (arith, q)) (omega (arith, q)))
       ∙ getD-set-other x₂ (4 * m + 2) i (y .b) 0 (λ q. n (omega (arith, q)) (omega (arith, q)))
@@ -155,37 +159,113 @@ module _ (x : List ℕ) (m : ℕ) (y : Node) where
     unfolding indexNode
     stored-node = rw (stored-kind, stored-a, stored-b, stored-c)
 
+-- ---- a node gets its places
+
+module _ (x : List ℕ) (p s : ℕ) where
+  abbrev z₁ : List ℕ
+  z₁ = set x (firstAt + p) s
+
+  abbrev z₂ : List ℕ
+  z₂ = set z₁ (midAt + p) s
+
+  pub placed-size : length (placedAt x p s) ≡ length x
+  placed-size = simp length-set refl
+
+  pub placed-other : (i : ℕ) → (i ≡ firstAt + p → ⊥) → (i ≡ midAt + p → ⊥) → (i ≡ endAt + p → ⊥) → getD (placedAt x p s) i 0 ≡ getD x i 0
+  placed-other i a b c = getD-set-other z₂ (endAt + p) i _ 0 c ∙ getD-set-other z₁ (midAt + p) i s 0 b ∙ getD-set-other x (firstAt + p) i s 0 a
+
+  pub placed-same : Same firstAt x (placedAt x p s)
+  placed-same i h = placed-other i (λ q. omega (arith, q)) (λ q. omega (arith, q)) (λ q. omega (arith, q))
+
+  module _ (h : p < mostNodes) (z : length x ≡ indexSize) where
+    pub placed-first : firstOf (placedAt x p s) p ≡ s
+    placed-first =
+        getD-set-other z₂ (endAt + p) (firstAt + p) _ 0 (λ q. omega (arith, q)) ∙ getD-set-other z₁ (midAt + p) (firstAt + p) s 0 (λ q. omega (arith, q))
+        ∙ getD-set-same x (firstAt + p) s 0 (omega arith)
+
+    pub placed-mid : midOf (placedAt x p s) p ≡ s
+    placed-mid = getD-set-other z₂ (endAt + p) (midAt + p) _ 0 (λ q. omega (arith, q)) ∙ getD-set-same z₁ (midAt + p) s 0 (simp length-set (omega arith))
+
+    pub placed-end : endOf (placedAt x p s) p ≡ s + midOf x p
+    placed-end = getD-set-same z₂ (endAt + p) _ 0 (simp length-set (omega arith))
+
 -- ---- a node is passed
 
-module _ (t x : List ℕ) (p : ℕ) where
-  pub passed-bare : getD x (4 * p) 0 ≡ 0 → set x (4 * p) 1 ≡ passed t x p
-  unfolding passed
-  passed-bare e = rw (eq-eqb (getD x (4 * p) 0) 0 e)
+module _ (t x : List ℕ) (s p : ℕ) where
+  pub passed-bare : getD x (4 * p) 0 ≡ 0 → (set x (4 * p) 1 ≡ passed t x s p) × (s ≡ startAfter x s p)
+  unfolding passed startAfter
+  passed-bare e = (rw (eq-eqb (getD x (4 * p) 0) 0 e), rw (eq-eqb (getD x (4 * p) 0) 0 e))
 
-  module _ (few : p < mostNodes) (z : length x ≡ indexSize) where
-    -- what its operands are, once it is stored
-    pub stored-low : All (λ l. l / 2 < p) (operands (nodeAt t p)) → All (λ l. l / 2 < mostNodes) (operands (indexNode (stored x p (nodeAt t p)) p))
-    stored-low a = rw (stored-node x p (nodeAt t p) few z) (all-imply (λ l. l / 2 < p) (λ l. l / 2 < mostNodes) (λ l h. omega (arith, h)) (operands (nodeAt t p)) a)
+  -- a marked node has its places, is loaded, and has marked its operands'
+  abbrev pub loaded : List ℕ
+  loaded = stored (placedAt x p s) p (nodeAt t p)
 
-    pub passed-node : (getD x (4 * p) 0 ≡ 0 → ⊥) → markAll (stored x p (nodeAt t p)) (operands (indexNode (stored x p (nodeAt t p)) p)) ≡ passed t x p
+  abbrev pub marking : List ℕ
+  marking = markAll loaded (operands (nodeAt t p))
+
+  pub passed-node : (getD x (4 * p) 0 ≡ 0 → ⊥) → (countNode marking (nodeAt t p) ≡ passed t x s p) × (s + (midOf x p + endOf x p) ≡ startAfter x s p)
+  unfolding passed startAfter
+  passed-node d = (rw (ne-eqb (getD x (4 * p) 0) 0 d), rw (ne-eqb (getD x (4 * p) 0) 0 d))
+
+  module _ (few : p < mostNodes) (z : length x ≡ indexSize) (a : All (λ l. l / 2 < p) (operands (nodeAt t p))) where
+    low : All (λ l. l / 2 < mostNodes) (operands (nodeAt t p))
+    low = all-imply (λ l. l / 2 < p) (λ l. l / 2 < mostNodes) (λ l h. omega (arith, h)) (operands (nodeAt t p)) a
+
+    loaded-size : length loaded ≡ indexSize
+    loaded-size = stored-size (placedAt x p s) p (nodeAt t p) ∙ placed-size x p s ∙ z
+
+    pub marking-size : length marking ≡ indexSize
+    marking-size = marks-size loaded (operands (nodeAt t p)) ∙ loaded-size
+
+    pub loaded-node : indexNode loaded p ≡ nodeAt t p
+    loaded-node = stored-node (placedAt x p s) p (nodeAt t p) few (placed-size x p s ∙ z)
+
+    -- what its operands are, once it is loaded
+    pub loaded-low : All (λ l. l / 2 < mostNodes) (operands (indexNode loaded p))
+    loaded-low = rw loaded-node low
+
+    -- from the node on nothing is marked
+    marking-behind : (i : ℕ) → 4 * p ≤ i → getD marking i 0 ≡ getD loaded i 0
+    marking-behind i h = marks-other loaded (operands (nodeAt t p)) i (all-imply (λ l. l / 2 < p) _ (λ l b q. omega (arith, q, b)) (operands (nodeAt t p)) a)
+
+    pub marking-node : indexNode marking p ≡ nodeAt t p
+    unfolding indexNode
+    marking-node =
+        let e : indexNode marking p ≡ indexNode loaded p = rw (marking-behind (4 * p) (omega arith), marking-behind (4 * p + 1) (omega arith), marking-behind (4 * p + 2) (omega arith), marking-behind (4 * p + 3) (omega arith)) in
+        e ∙ loaded-node
+
+    -- the places and the counts stay
+    pub marking-places : (i : ℕ) → firstAt ≤ i → getD marking i 0 ≡ getD (placedAt x p s) i 0
+    marking-places i h = marking-behind i (omega arith) ∙ stored-other (placedAt x p s) p (nodeAt t p) i (λ b c. omega arith)
+
+    -- there is room to count its edges
+    pub marking-room : Fits (p + 1) s x → Room p (nodeAt t p) marking
+    marking-room f = record {
+      size = marking-size;
+      few = omega arith;
+      known = a;
+      pairs = λ m h. omega (arith, marking-places (midAt + m) (omega arith), placed-other x p s (midAt + m) (λ q. omega (arith, q)) (λ q. omega (arith, q)) (λ q. omega (arith, q)), one m h, brings-four (nodeAt t p) m);
+      threes = λ m h. omega (arith, marking-places (endAt + m) (omega arith), placed-other x p s (endAt + m) (λ q. omega (arith, q)) (λ q. omega (arith, q)) (λ q. omega (arith, q)), one m h, brings-four (nodeAt t p) m);
+    }
+      where
+        one : (m : ℕ) → m < p → midOf x m + endOf x m + 4 ≤ mostEdges
+        one m h = omega (arith, f, sum-part (λ i. midOf x i + endOf x i) m (p + 1) (omega arith))
+
+    pub passed-size : length (passed t x s p) ≡ indexSize
     unfolding passed
-    passed-node d = rw (ne-eqb (getD x (4 * p) 0) 0 d, stored-node x p (nodeAt t p) few z)
+    passed-size = go (eqb (getD x (4 * p) 0) 0)
+      where
+        go : (b : Bool) → length (cond b (set x (4 * p) 1) (countNode marking (nodeAt t p))) ≡ indexSize
+        go true = length-set x (4 * p) 1 ∙ z
+        go false = count-size marking (nodeAt t p) ∙ marking-size
 
-  pub passed-size : length (passed t x p) ≡ length x
-  unfolding passed
-  passed-size = go (eqb (getD x (4 * p) 0) 0)
-    where
-      go : (b : Bool) → length (cond b (set x (4 * p) 1) (markAll (stored x p (nodeAt t p)) (operands (nodeAt t p)))) ≡ length x
-      go true = length-set x (4 * p) 1
-      go false = marks-size (stored x p (nodeAt t p)) (operands (nodeAt t p)) ∙ stored-size x p (nodeAt t p)
-
-pub sunk-more : (t x : List ℕ) (p : ℕ) → sunk t (passed t x p) p ≡ sunk t x (suc p)
+pub sunk-more : (t x : List ℕ) (s p : ℕ) → sunk t (passed t x s p) (startAfter x s p) p ≡ sunk t x s (suc p)
 unfolding sunk
-sunk-more t x p = refl
+sunk-more t x s p = refl
 
-pub sunk-none : (t x : List ℕ) → sunk t x 0 ≡ x
+pub sunk-none : (t x : List ℕ) (s : ℕ) → sunk t x s 0 ≡ x
 unfolding sunk
-sunk-none t x = refl
+sunk-none t x s = refl
 
 -- ---- on the way down, before node p - 1: the nodes from p on are loaded, or are not wanted; the others may be marked
 
@@ -201,7 +281,26 @@ pub record Sinking (t ls : List ℕ) (n p : ℕ) (x : List ℕ) : Type 0 where
   pub closed : (m : ℕ) → p ≤ m → m < n → indexNode x m ≡ nodeAt t m → All (Met t p x) (operands (indexNode x m))
   pub literals : All (Met t p x) ls
   pub cells : (i : ℕ) → i < 4 * p → (i % 4 ≡ 0 → ⊥) → getD x i 0 ≡ 0
-  pub blank : (i : ℕ) → 4 * mostNodes ≤ i → i < indexSize → getD x i 0 ≡ 0
+
+-- which are numbers before the places
+sinking-same : {t ls : List ℕ} {n p : ℕ} (x x′ : List ℕ) → n ≤ mostNodes → p ≤ mostNodes → length x′ ≡ indexSize → Same firstAt x x′ → Sinking t ls n p x → Sinking t ls n p x′
+sinking-same {t} {ls} {n} {p} x x′ few low size same S = record {
+  size = size;
+  nodes = λ m a h. rw (node m (omega arith)) (S .nodes m a h);
+  closed = λ m a h. rw (node m (omega arith)) (λ q. all-imply (Met t p x) (Met t p x′) met (operands (indexNode x m)) (S .closed m a h q));
+  literals = all-imply (Met t p x) (Met t p x′) met ls (S .literals);
+  cells = λ i h d. same i (omega arith) ∙ S .cells i h d;
+}
+  where
+    node : (m : ℕ) → m < mostNodes → indexNode x′ m ≡ indexNode x m
+    node m h = node-same x x′ mostNodes m (λ i b. same i (omega arith)) h
+
+    met : (l : ℕ) → Met t p x l → Met t p x′ l
+    met l k = record {
+      low = k .low;
+      before = λ h. rw (same (4 * (l / 2)) (omega (arith, k .low))) (k .before h);
+      behind = λ h. node (l / 2) (k .low) ∙ k .behind h;
+    }
 
 -- the literals are marked
 pub sinks-none : (t ls : List ℕ) (n : ℕ) (x : List ℕ) → n ≤ mostNodes → Below n ls → length x ≡ indexSize → Zeros x → Sinking t ls n n (markAll x ls)
@@ -211,7 +310,6 @@ sinks-none t ls n x few b z none = record {
   closed = λ m a h. absurd (omega arith);
   literals = go ls b (marks-stand x ls z low);
   cells = λ i h d. marks-other x ls i (all-imply (λ l. l / 2 < mostNodes) _ (λ l h q. d (omega (arith, q))) ls low) ∙ none i (omega arith);
-  blank = λ i h s. marks-other x ls i (all-imply (λ l. l / 2 < mostNodes) _ (λ l b q. omega (arith, q, b)) ls low) ∙ none i s;
 }
   where
     low : All (λ l. l / 2 < mostNodes) ls
@@ -250,7 +348,6 @@ module _ (t ls : List ℕ) (n p : ℕ) (x x′ : List ℕ) (S : Sinking t ls n (
     closed = λ m a h. closed m a h (ℕ-discrete m p);
     literals = all-imply (Met t (suc p) x) (Met t p x′) met-kept ls (S .literals);
     cells = λ i h d. cells i h d ∙ S .cells i (omega arith) d;
-    blank = λ i a h. same i (omega arith) ∙ S .blank i a h;
   }
     where
       nodes : (m : ℕ) → p ≤ m → m < n → Dec (m ≡ p) → (indexNode x′ m ≡ nodeAt t m) ⊎ (indexNode x′ m ≡ bare)
@@ -326,31 +423,22 @@ module _ (t ls : List ℕ) (n p : ℕ) (x : List ℕ) (S : Sinking t ls n (suc p
       go (k ∷ ks) b m =
           (record { low = omega (arith, b .0); before = λ h. m .0; behind = λ h. absurd (omega (arith, b .0)) }, go ks (b .1) (m .1))
 
-  sinks-passed : All (λ l. l / 2 < p) (operands (nodeAt t p)) → Sinking t ls n p (passed t x p)
+module _ (t ls : List ℕ) (n p s : ℕ) (x : List ℕ) (S : Sinking t ls n (suc p) x) (few : n ≤ mostNodes) (h : p < n)
+    (a : All (λ l. l / 2 < p) (operands (nodeAt t p))) where
+  low-p : p < mostNodes
+  low-p = omega arith
+
+  pub sinks-passed : Sinking t ls n p (passed t x s p)
   unfolding passed
-  sinks-passed a = go (ℕ-discrete (getD x (4 * p) 0) 0)
+  sinks-passed = go (ℕ-discrete (getD x (4 * p) 0) 0)
     where
-      go : Dec (getD x (4 * p) 0 ≡ 0) → Sinking t ls n p (passed t x p)
-      go (yes e) = rw (eq-eqb (getD x (4 * p) 0) 0 e) (sinks-bare e)
-      go (no d) = rw (ne-eqb (getD x (4 * p) 0) 0 d) (sinks-node a)
-
--- down to the lowest
-pub sinks : (t ls : List ℕ) (n p : ℕ) (x : List ℕ) → n ≤ mostNodes → p ≤ n → Earlier t n → Sinking t ls n p x → Sinking t ls n 0 (sunk t x p)
-unfolding sunk
-sinks t ls n zero x few h a S = S
-sinks t ls n (suc p) x few h a S = sinks t ls n p (passed t x p) few (omega arith) a (sinks-passed t ls n p x S (omega arith) (a p (omega arith)))
-
-pub sinks-whole : (t ls : List ℕ) (n : ℕ) (x x₁ x₂ : List ℕ) → n ≤ mostNodes → Earlier t n → Below n ls → length x ≡ indexSize → Zeros x
-    → x₁ ≡ markAll x ls → x₂ ≡ sunk t x₁ n → Sinking t ls n 0 x₂
-sinks-whole t ls n x x₁ x₂ few a b z none e f = rw (f, e) (sinks t ls n n (markAll x ls) few (omega arith) a (sinks-none t ls n x few b z none))
-
--- operands are of nodes that are there
-pub sunk-known : (t ls : List ℕ) (n : ℕ) (x : List ℕ) → Earlier t n → Sinking t ls n 0 x → Known (indexNode x) n
-sunk-known t ls n x a S m h = go (S .nodes m (omega arith) h)
-  where
-    go : (indexNode x m ≡ nodeAt t m) ⊎ (indexNode x m ≡ bare) → All (λ l. l / 2 < n) (operands (indexNode x m))
-    go (inl e) = rw e (all-imply (λ l. l / 2 < m) (λ l. l / 2 < n) (λ l b. omega arith) (operands (nodeAt t m)) (a m h))
-    go (inr e) = rw (e, operands-none bare (omega arith)) tt
+      go : Dec (getD x (4 * p) 0 ≡ 0) → Sinking t ls n p (passed t x s p)
+      go (yes e) = rw (eq-eqb (getD x (4 * p) 0) 0 e) (sinks-bare t ls n p x S low-p e)
+      go (no d) = rw (ne-eqb (getD x (4 * p) 0) 0 d)
+          (sinking-same (marking t x s p) (countNode (marking t x s p) (nodeAt t p)) few (omega arith) (count-size (marking t x s p) (nodeAt t p) ∙ marking-size t x s p low-p (S .size) a)
+          (λ i b. count-same (marking t x s p) (nodeAt t p) i (omega arith))
+          (sinks-node t ls n p (placedAt x p s)
+          (sinking-same x (placedAt x p s) few (omega arith) (placed-size x p s ∙ S .size) (placed-same x p s) S) low-p a))
 
 -- ---- the index
 

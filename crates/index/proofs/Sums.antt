@@ -12,6 +12,8 @@ use borrow.Author.Tests.{eq-eqb, ne-eqb, ltb-true, lt-ltb, le-ltb}
 use Rattle.scope.specs.declared.Node.{Node}
 use Rattle.scope.specs.Table.{operands}
 use Rattle.scope.proofs.Operands.{arity-pair, arity-most, operands-length, operands-none, operands-two, operands-three}
+use Rattle.calculus.specs.Model.{All}
+use Rattle.calculus.proofs.Lists.{all-imply}
 use Rattle.index.specs.Index.{mostNodes, mostEdges}
 use Rattle.index.specs.Built.{sum, is, times, pairsIn, threesIn, pairsTo, threesTo, startOf}
 
@@ -32,12 +34,17 @@ module _ (f : ℕ → ℕ) where
       go (yes e) r = rw e (omega arith)
       go (no e) r = omega (arith, r (omega (arith, e)))
 
-  sum-zero : ((i : ℕ) → f i ≡ 0) → (k : ℕ) → sum f k ≡ 0
+  pub sum-zero : ((i : ℕ) → f i ≡ 0) → (k : ℕ) → sum f k ≡ 0
   unfolding sum
   sum-zero e zero = refl
   sum-zero e (suc k) = omega (arith, e k, sum-zero e k)
 
-sum-plus : (f g h : ℕ → ℕ) → ((i : ℕ) → f i ≡ g i + h i) → (k : ℕ) → sum f k ≡ sum g k + sum h k
+pub sum-same : (f g : ℕ → ℕ) (k : ℕ) → ((i : ℕ) → i < k → f i ≡ g i) → sum f k ≡ sum g k
+unfolding sum
+sum-same f g zero e = refl
+sum-same f g (suc k) e = omega (arith, sum-same f g k (λ i h. e i (omega arith)), e k (omega arith))
+
+pub sum-plus : (f g h : ℕ → ℕ) → ((i : ℕ) → f i ≡ g i + h i) → (k : ℕ) → sum f k ≡ sum g k + sum h k
 unfolding sum
 sum-plus f g h e zero = refl
 sum-plus f g h e (suc k) = omega (arith, e k, sum-plus f g h e k)
@@ -79,7 +86,7 @@ sum-times (l ∷ ls) k =
 
 -- ---- a node has at most four numbers
 
-node-four : (y : Node) (k : ℕ) → sum (λ m. pairsIn y m + threesIn y m) k ≤ 4
+pub node-four : (y : Node) (k : ℕ) → sum (λ m. pairsIn y m + threesIn y m) k ≤ 4
 unfolding pairsIn threesIn
 node-four y k = go (ltb (y .kind) 7) refl
   where
@@ -130,3 +137,31 @@ module _ (y : Node) (m : ℕ) where
   pub brings-three : 7 ≤ y .kind → (pairsIn y m ≡ 0) × (threesIn y m ≡ is (y .a) m + is (y .b) m + is (y .c) m)
   unfolding pairsIn threesIn times
   brings-three h = (rw (le-ltb (y .kind) 7 h), rw (le-ltb (y .kind) 7 h, operands-three y h) (omega arith))
+
+-- .. and by the nodes of its operands
+
+pub times-none : (m : ℕ) (ls : List ℕ) → All (λ l. l / 2 ≡ m → ⊥) ls → times m ls ≡ 0
+unfolding times
+times-none m [] a = refl
+times-none m (l ∷ ls) a = omega (arith, is-other l m (a .0), times-none m ls (a .1))
+
+pub brings-nothing : (y : Node) (m : ℕ) → All (λ l. l / 2 ≡ m → ⊥) (operands y) → (pairsIn y m ≡ 0) × (threesIn y m ≡ 0)
+unfolding pairsIn threesIn
+brings-nothing y m a = go (ltb (y .kind) 7) (times-none m (operands y) a)
+  where
+    go : (b : Bool) → times m (operands y) ≡ 0 → (cond b (2 * times m (operands y)) 0 ≡ 0) × (cond b 0 (times m (operands y)) ≡ 0)
+    go true e = (omega (arith, e), refl)
+    go false e = (refl, e)
+
+pub brings-four : (y : Node) (m : ℕ) → pairsIn y m + threesIn y m ≤ 4
+brings-four y m = omega (arith, sum-next (λ i. pairsIn y i + threesIn y i) m, node-four y (m + 1))
+
+-- where operands are of earlier nodes, node p has no edges from the nodes up to itself
+pub early-none : (u : ℕ → Node) (n : ℕ) → ((i : ℕ) → i < n → All (λ l. l / 2 < i) (operands (u i))) → (p k : ℕ) → k ≤ n → k ≤ p + 1
+    → (pairsTo u k p ≡ 0) × (threesTo u k p ≡ 0)
+unfolding sum
+early-none u n a p zero h b = (refl, refl)
+early-none u n a p (suc k) h b =
+    let r = early-none u n a p k (omega arith) (omega arith) in
+    let z = brings-nothing (u k) p (all-imply (λ l. l / 2 < k) (λ l. l / 2 ≡ p → ⊥) (λ l c e. omega (arith, c, e)) (operands (u k)) (a k (omega arith))) in
+    (omega (arith, r .0, z .0), omega (arith, r .1, z .1))

@@ -15,16 +15,20 @@ use Rattle.scope.proofs.Operands.{operands-none, operands-two, operands-three}
 use Rattle.index.specs.Codes.{codesSize, classesSize}
 use Rattle.index.specs.Index.{indexSize, mostNodes, mostEdges, firstAt, midAt, endAt, edgesAt, codesAt, none, opNode, indexNode, Codes}
 use Rattle.index.specs.Edges.{firstOf, midOf, endOf, edgeAt, parentOf, typeOf, otherOf, operandOf, Pair, Parent, PairAt, ThreeAt, Edges}
-use Rattle.index.specs.Built.{Same, Known, sum, pairsIn, threesIn, pairsTo, threesTo, startOf, Counted, Placed, putPair, putThree, putTwo, putAll, putNode, Room, Linked, Loaded, Copied, Classified, Built}
+use Rattle.index.specs.Built.{Same, Known, Agree, sum, pairsIn, threesIn, pairsTo, threesTo, startOf, Counted, Placed, putPair, putThree, putTwo, putAll, putNode, Room, Linked, Loaded, Copied, Classified, Built}
 use Rattle.index.proofs.Nodes.{node-same}
-use Rattle.index.proofs.Sums.{is-own, sum-next, total-low, pairs-part, threes-part, brings-none, brings-two, brings-three}
+use Rattle.index.proofs.Sums.{is-own, sum-next, total-low, apart, pairs-part, threes-part, brings-none, brings-two, brings-three}
 use Rattle.index.proofs.Counts.{agree-same}
 use Rattle.index.proofs.Fills.{Has, Filled, filled-as, filled-pair, filled-three}
 
 -- ---- placing: the first b nodes have their places, and the others' edges are counted
 
 pub record Place (t : ℕ → Node) (n b : ℕ) (x : List ℕ) : Type 0 where
-  pub placed : Placed t n b x
+  pub size : length x ≡ indexSize
+  pub nodes : Agree t n x
+  pub first : (m : ℕ) → m < b → firstOf x m ≡ startOf t n m
+  pub mid : (m : ℕ) → m < b → midOf x m ≡ startOf t n m
+  pub end : (m : ℕ) → m < b → endOf x m ≡ startOf t n m + pairsTo t n m
   pub rest-mid : (m : ℕ) → b ≤ m → m < n → midOf x m ≡ pairsTo t n m
   pub rest-end : (m : ℕ) → b ≤ m → m < n → endOf x m ≡ threesTo t n m
 
@@ -34,13 +38,11 @@ start-none t n = refl
 
 pub place-none : {t : ℕ → Node} {n : ℕ} {x : List ℕ} → Counted t n (pairsTo t n) (threesTo t n) x → Place t n 0 x
 place-none c = record {
-  placed = record {
-    size = c .size;
-    nodes = c .nodes;
-    first = λ m h. absurd (omega (arith, h));
-    mid = λ m h. absurd (omega (arith, h));
-    end = λ m h. absurd (omega (arith, h));
-  };
+  size = c .size;
+  nodes = c .nodes;
+  first = λ m h. absurd (omega (arith, h));
+  mid = λ m h. absurd (omega (arith, h));
+  end = λ m h. absurd (omega (arith, h));
   rest-mid = λ m b h. c .mid m h;
   rest-end = λ m b h. c .end m h;
 }
@@ -70,7 +72,7 @@ module _ {t : ℕ → Node} {n b : ℕ} {x : List ℕ} (few : n ≤ mostNodes) (
   end-kept m l d = unplaced (endAt + m) (λ q. omega (arith, q)) (λ q. omega (arith, q)) (λ q. d (omega (arith, q)))
 
   size₁ : length y₁ ≡ indexSize
-  size₁ = length-set x (firstAt + b) s ∙ P .placed .size
+  size₁ = length-set x (firstAt + b) s ∙ P .size
 
   size₂ : length y₂ ≡ indexSize
   size₂ = length-set y₁ (midAt + b) s ∙ size₁
@@ -80,23 +82,34 @@ module _ {t : ℕ → Node} {n b : ℕ} {x : List ℕ} (few : n ≤ mostNodes) (
 
   pub place-more : Place t n (b + 1) y₃
   place-more = record {
-    placed = record {
-      size = length-set y₂ (endAt + b) e ∙ size₂;
-      nodes = agree-same x y₃ few place-same (P .placed .nodes);
-      first =
-          below-more _ b (λ m l. first-kept m (omega arith) (λ q. omega (arith, q)) ∙ P .placed .first m l)
-          (getD-set-other y₂ (endAt + b) (firstAt + b) e 0 (λ q. omega (arith, q)) ∙ getD-set-other y₁ (midAt + b) (firstAt + b) s 0 (λ q. omega (arith, q))
-          ∙ getD-set-same x (firstAt + b) s 0 (omega (arith, P .placed .size)) ∙ s-is);
-      mid =
-          below-more _ b (λ m l. mid-kept m (omega arith) (λ q. omega (arith, q)) ∙ P .placed .mid m l)
-          (getD-set-other y₂ (endAt + b) (midAt + b) e 0 (λ q. omega (arith, q)) ∙ getD-set-same y₁ (midAt + b) s 0 (omega (arith, size₁)) ∙ s-is);
-      end =
-          below-more _ b (λ m l. end-kept m (omega arith) (λ q. omega (arith, q)) ∙ P .placed .end m l)
-          (getD-set-same y₂ (endAt + b) e 0 (omega (arith, size₂)) ∙ e-is);
-    };
+    size = length-set y₂ (endAt + b) e ∙ size₂;
+    nodes = agree-same x y₃ few place-same (P .nodes);
+    first =
+        below-more _ b (λ m l. first-kept m (omega arith) (λ q. omega (arith, q)) ∙ P .first m l)
+        (getD-set-other y₂ (endAt + b) (firstAt + b) e 0 (λ q. omega (arith, q)) ∙ getD-set-other y₁ (midAt + b) (firstAt + b) s 0 (λ q. omega (arith, q))
+        ∙ getD-set-same x (firstAt + b) s 0 (omega (arith, P .size)) ∙ s-is);
+    mid =
+        below-more _ b (λ m l. mid-kept m (omega arith) (λ q. omega (arith, q)) ∙ P .mid m l)
+        (getD-set-other y₂ (endAt + b) (midAt + b) e 0 (λ q. omega (arith, q)) ∙ getD-set-same y₁ (midAt + b) s 0 (omega (arith, size₁)) ∙ s-is);
+    end =
+        below-more _ b (λ m l. end-kept m (omega arith) (λ q. omega (arith, q)) ∙ P .end m l)
+        (getD-set-same y₂ (endAt + b) e 0 (omega (arith, size₂)) ∙ e-is);
     rest-mid = λ m l a. mid-kept m a (λ q. omega (arith, q, l)) ∙ P .rest-mid m (omega (arith, l)) a;
     rest-end = λ m l a. end-kept m a (λ q. omega (arith, q, l)) ∙ P .rest-end m (omega (arith, l)) a;
   }
+
+-- all nodes have their places
+pub places : {t : ℕ → Node} {n : ℕ} {x : List ℕ} → n ≤ mostNodes → Place t n n x → Placed t n x
+places {t} {n} {x} few P = record {
+  size = P .size;
+  nodes = P .nodes;
+  starts = record {
+    low = λ m h. omega (arith, P .first m h, total-low t n few m h);
+    apart = λ m d k e h b c l r q. apart t n few m d k e c l r (omega (arith, P .first m h, P .first k b, q));
+  };
+  mid = λ m h. P .mid m h ∙ sym (P .first m h);
+  end = λ m h. omega (arith, P .first m h, P .end m h);
+}
 
 -- ---- filling, node by node
 
@@ -104,15 +117,16 @@ module _ {t : ℕ → Node} {n b : ℕ} {x : List ℕ} (few : n ≤ mostNodes) (
 abbrev pub Named : (ℕ → Node) → ℕ → ℕ → ℕ → Type 0
 Named t b m q = (s : ℕ) × (s < 4 * b) × (opNode t s ≡ m) × (s / 4 ≡ q)
 
-pub filled-none : {t : ℕ → Node} {n : ℕ} {x : List ℕ} → Placed t n n x → Filled t n (pairsTo t 0) (threesTo t 0) (Named t 0) x
+pub filled-none : {t : ℕ → Node} {n : ℕ} {x : List ℕ} → Placed t n x → Filled t n (firstOf x) (pairsTo t 0) (threesTo t 0) (Named t 0) x
 unfolding sum
 filled-none P = record {
   size = P .size;
   nodes = P .nodes;
+  starts = P .starts;
   even = λ m. refl;
   pairs-few = λ m h. omega arith;
   threes-few = λ m h. omega arith;
-  first = P .first;
+  first = λ m h. refl;
   mid = λ m h. omega (arith, P .mid m h);
   end = λ m h. omega (arith, P .end m h);
   pairs = λ m j h c. absurd (omega (arith, c));
@@ -136,23 +150,23 @@ module _ (t : ℕ → Node) (n p : ℕ) (few : n ≤ mostNodes) (m q : ℕ) (h :
           let d : s / 4 ≡ p = omega (arith, l, c) in
           new (s % 4) (omega arith) (sym b ∙ d) (sym (cell-at t s p ls d o) ∙ a)
 
-module _ {t : ℕ → Node} {n p : ℕ} {x : List ℕ} (few : n ≤ mostNodes) (known : Known t n) (h : p < n)
-    (F : Filled t n (pairsTo t p) (threesTo t p) (Named t p) x) where
+module _ {t : ℕ → Node} {n p : ℕ} {S : ℕ → ℕ} {x : List ℕ} (few : n ≤ mostNodes) (known : Known t n) (h : p < n)
+    (F : Filled t n S (pairsTo t p) (threesTo t p) (Named t p) x) where
   pub fill-room : Room n (indexNode x p) x
   fill-room = rw (F .nodes p h) record {
     size = F .size;
     few = few;
     known = known p h;
-    pairs = λ m b. omega (arith, F .mid m b, pairs-part t n p m h, total-low t n few m b);
-    threes = λ m b. omega (arith, F .end m b, threes-part t n p m h, total-low t n few m b);
+    pairs = λ m b. omega (arith, F .mid m b, pairs-part t n p m h, F .starts .low m b);
+    threes = λ m b. omega (arith, F .end m b, threes-part t n p m h, F .starts .low m b);
   }
 
   abbrev After : List ℕ → Type 0
-  After x′ = Filled t n (pairsTo t (p + 1)) (threesTo t (p + 1)) (Named t (p + 1)) x′
+  After x′ = Filled t n S (pairsTo t (p + 1)) (threesTo t (p + 1)) (Named t (p + 1)) x′
 
   -- what is put is what the node brings
   after-as : {u v : ℕ → ℕ} {D : ℕ → ℕ → Type 0} {x′ : List ℕ} → ((m : ℕ) → u m ≡ pairsTo t p m + pairsIn (t p) m)
-      → ((m : ℕ) → v m ≡ threesTo t p m + threesIn (t p) m) → ((m q : ℕ) → m < n → Named t (p + 1) m q → D m q) → Filled t n u v D x′ → After x′
+      → ((m : ℕ) → v m ≡ threesTo t p m + threesIn (t p) m) → ((m q : ℕ) → m < n → Named t (p + 1) m q → D m q) → Filled t n S u v D x′ → After x′
   after-as e f g = filled-as (λ m. e m ∙ sym (sum-next (λ q. pairsIn (t q) m) p)) (λ m. f m ∙ sym (sum-next (λ q. threesIn (t q) m) p)) g
 
   after-none : t p .kind < 3 → After x
@@ -285,28 +299,28 @@ pair-as e P = record {
   other-low = P .other-low;
 }
 
-module _ {t : ℕ → Node} {n : ℕ} {x : List ℕ} (few : n ≤ mostNodes) (F : Filled t n (pairsTo t n) (threesTo t n) (Named t n) x) where
+module _ {t : ℕ → Node} {n : ℕ} {S : ℕ → ℕ} {x : List ℕ} (few : n ≤ mostNodes) (F : Filled t n S (pairsTo t n) (threesTo t n) (Named t n) x) where
   pub edges-of : Edges (indexNode x) n x
   edges-of = record {
-    order = λ m h. (omega (arith, F .first m h, F .mid m h), omega (arith, F .mid m h, F .end m h), omega (arith, F .end m h, total-low t n few m h));
+    order = λ m h. (omega (arith, F .first m h, F .mid m h), omega (arith, F .mid m h, F .end m h), omega (arith, F .end m h, F .starts .low m h));
     even = λ m h. omega (arith, F .first m h, F .mid m h, F .even m);
     pairs = λ m k h c.
-        let j : ℕ = (k - startOf t n m) / 2 in
-        let z : startOf t n m + 2 * j ≡ k = omega (arith, F .first m h, c .0, c .2) in
+        let j : ℕ = (k - S m) / 2 in
+        let z : S m + 2 * j ≡ k = omega (arith, F .first m h, c .0, c .2) in
         let P = F .pairs m j h (omega (arith, z, F .mid m h, c .1)) in
         subst (λ (i : ℕ). Pair (indexNode x) n m (parentOf x i) (typeOf x i) (otherOf x i)) z (pair-as (F .nodes _ (P .low)) P);
     threes = λ m k h c.
-        let j : ℕ = k - (startOf t n m + pairsTo t n m) in
-        let z : startOf t n m + (pairsTo t n m + j) ≡ k = omega (arith, F .mid m h, c .0) in
+        let j : ℕ = k - (S m + pairsTo t n m) in
+        let z : S m + (pairsTo t n m + j) ≡ k = omega (arith, F .mid m h, c .0) in
         subst (λ (i : ℕ). edgeAt x i < n) z (F .threes m j h (omega (arith, z, F .end m h, c .1)));
     complete = λ s l b.
         let o : opNode (indexNode x) s ≡ opNode t s = op-as t (indexNode x) s (F .nodes (s / 4) (omega arith)) in
         rw o (found (opNode t s) (s / 4) (rw o at b) (F .has (opNode t s) (s / 4) (rw o at b) (s, l, refl, refl)));
   }
     where
-      found : (m q : ℕ) → m < n → Has t n (pairsTo t n) (threesTo t n) x m q → Parent x m q
-      found m q h (inl (j, c, z)) = inl (startOf t n m + 2 * j, (omega (arith, F .first m h), omega (arith, c, F .mid m h), omega (arith, F .first m h)), z)
-      found m q h (inr (j, c, z)) = inr (startOf t n m + (pairsTo t n m + j), (omega (arith, F .mid m h), omega (arith, c, F .end m h)), z)
+      found : (m q : ℕ) → m < n → Has t n S (pairsTo t n) (threesTo t n) x m q → Parent x m q
+      found m q h (inl (j, c, z)) = inl (S m + 2 * j, (omega (arith, F .first m h), omega (arith, c, F .mid m h), omega (arith, F .first m h)), z)
+      found m q h (inr (j, c, z)) = inr (S m + (pairsTo t n m + j), (omega (arith, F .mid m h), omega (arith, c, F .end m h)), z)
 
 -- what is before the places is not changed
 pub put-same : (x : List ℕ) (p : ℕ) (y : Node) → Same firstAt x (putNode x p y)

@@ -78,13 +78,18 @@ countThree x a b c = raised (raised (raised x (endAt + a / 2) 1) (endAt + b / 2)
 unfoldable pub countNode : List ℕ → Node → List ℕ
 countNode x y = cond (ltb (y .kind) 3) x (cond (ltb (y .kind) 7) (countTwo x (y .a) (y .b)) (countThree x (y .a) (y .b) (y .c)))
 
--- the first b nodes have their places: the first two are where their edges start, the third is where those from parents of three operands do
-pub record Placed (t : ℕ → Node) (n b : ℕ) (x : List ℕ) : Type 0 where
+-- where each node's edges start: there is room for them, and those of two nodes stand apart
+pub record Starts (t : ℕ → Node) (n : ℕ) (S : ℕ → ℕ) : Type 0 where
+  pub low : (m : ℕ) → m < n → S m + (pairsTo t n m + threesTo t n m) ≤ mostEdges
+  pub apart : (m d k e : ℕ) → m < n → k < n → (m ≡ k → ⊥) → d < pairsTo t n m + threesTo t n m → e < pairsTo t n k + threesTo t n k → S m + d ≡ S k + e → ⊥
+
+-- each node has its places: the first two are where its edges start, the third is where those from parents of three operands do
+pub record Placed (t : ℕ → Node) (n : ℕ) (x : List ℕ) : Type 0 where
   pub size : length x ≡ indexSize
   pub nodes : Agree t n x
-  pub first : (m : ℕ) → m < b → firstOf x m ≡ startOf t n m
-  pub mid : (m : ℕ) → m < b → midOf x m ≡ startOf t n m
-  pub end : (m : ℕ) → m < b → endOf x m ≡ startOf t n m + pairsTo t n m
+  pub starts : Starts t n (firstOf x)
+  pub mid : (m : ℕ) → m < n → midOf x m ≡ firstOf x m
+  pub end : (m : ℕ) → m < n → endOf x m ≡ firstOf x m + pairsTo t n m
 
 -- an edge is put where the second or the third place of its node says, which goes on behind it: from p, whose operands are mine and other,
 -- y is 3 × (kind - 3 + 4 × side)
@@ -125,7 +130,7 @@ abbrev pub Counting : ℕ → List ℕ → Type 0
 Counting n x = (t : ℕ → Node) × Known t n × Counted t n (pairsTo t n) (threesTo t n) x
 
 abbrev pub Placing : ℕ → List ℕ → Type 0
-Placing n x = (t : ℕ → Node) × Known t n × Placed t n n x
+Placing n x = (t : ℕ → Node) × Known t n × Placed t n x
 
 -- the edges stand, and the nodes are as they were
 pub record Linked (n : ℕ) (x x′ : List ℕ) : Type 0 where

@@ -10,7 +10,7 @@ ghost use Rattle.index.specs.Codes.{codesSize, classesSize};
 ghost use Rattle.index.specs.Index.{indexSize, mostNodes, mostEdges, firstAt, midAt, endAt, indexNode};
 ghost use Rattle.index.specs.Edges.{midOf, endOf};
 ghost use Rattle.index.specs.Built.{Same, Known, raised, countNode, putPair, putThree, putNode, Room, Blank, Counting, Placing, Linked, Loaded, Copied, Classified, Built};
-ghost use Rattle.index.specs.Marks.{marked, markAll, stored, passed, sunk, Earlier, Zeros, Pruned};
+ghost use Rattle.index.specs.Marks.{marked, markAll, stored, placedAt, passed, startAfter, sunk, Fits, Earlier, Zeros, Pruned};
 
 // The layout: node m has its kind at 4 m, then its operands; from FIRST, MID and END on each node's offsets: its edges from parents of two
 // operands stand from the first on below the second, two numbers each, those from parents of three from the second on below the third, one
@@ -784,10 +784,11 @@ fn mark_all(x: &mut [u16], ls: &[u16])
     }
 }
 
-// The nodes of the operands of node p are.
-fn mark_operands(x: &mut [u16], p: usize)
+// The nodes of the operands of node p are marked, and its edges are counted there.
+fn meet(x: &mut [u16], p: usize)
     requires { ⌜ (length (now x) ≡ indexSize) × (p < mostNodes) × All (λ l. l / 2 < mostNodes) (operands (indexNode (now x) p)) ⌝ }
-    ensures { λ _. ⌜ now (x .exit) ≡ markAll (now (x .entry)) (operands (indexNode (now (x .entry)) p)) ⌝ }
+    requires { ⌜ Room p (indexNode (now x) p) (markAll (now x) (operands (indexNode (now x) p))) ⌝ }
+    ensures { λ _. ⌜ now (x .exit) ≡ countNode (markAll (now (x .entry)) (operands (indexNode (now (x .entry)) p))) (indexNode (now (x .entry)) p) ⌝ }
 {
     let s = 4 * p;
     let kind = x[s];
@@ -800,50 +801,76 @@ fn mark_operands(x: &mut [u16], p: usize)
     mark(x, a);
     mark(x, b);
     if kind < THREES {
+        count_pair(x, a);
+        count_pair(x, b);
         return;
     }
     mark(x, c);
+    count_three(x, a);
+    count_three(x, b);
+    count_three(x, c);
 }
 
-// Node p is loaded if it is marked, and marks its operands'.
-fn pass(t: &[u8], x: &mut [u16], p: usize, at: usize)
+// The edges of node p, which are all counted, get their places from start on. Where the next ones start.
+fn place_node(x: &mut [u16], p: usize, start: u16) -> u16
+    requires { ⌜ (length (now x) ≡ indexSize) × (p < mostNodes) × (start + (midOf (now x) p + endOf (now x) p) ≤ mostEdges) ⌝ }
+    ensures { λ r. ⌜ (now (x .exit) ≡ placedAt (now (x .entry)) p start) × (r ≡ start + (midOf (now (x .entry)) p + endOf (now (x .entry)) p)) ⌝ }
+{
+    let pairs = x[MID + p];
+    let threes = x[END + p];
+    x[FIRST + p] = start;
+    x[MID + p] = start;
+    x[END + p] = start + pairs;
+    start + (pairs + threes)
+}
+
+// Node p is loaded if it is marked: it comes behind all its parents, so its edges get their places; it marks its operands' nodes, and its own
+// edges are counted there. Where the next ones start.
+fn pass(t: &[u8], x: &mut [u16], p: usize, at: usize, start: u16) -> u16
     requires { ⌜ (p < mostNodes) × (at ≡ placeOf p) × (placeOf p + 8 ≤ length (now t)) × (length (now x) ≡ indexSize) ⌝ }
     requires { ⌜ All (λ l. l / 2 < p) (operands (nodeAt (now t) p)) ⌝ }
-    ensures { λ _. ⌜ now (x .exit) ≡ passed (now (t .entry)) (now (x .entry)) p ⌝ }
+    requires { ⌜ Fits (p + 1) start (now x) ⌝ }
+    ensures { λ r. ⌜ (now (x .exit) ≡ passed (now (t .entry)) (now (x .entry)) start p) × (r ≡ startAfter (now (x .entry)) start p) ⌝ }
 {
     if x[4 * p] == 0 {
         x[4 * p] = 1;
-        return;
+        return start;
     }
+    let next = place_node(x, p, start);
     store_node(t, x, p, at);
-    mark_operands(x, p);
+    meet(x, p);
+    next
 }
 
 // The nodes below end, down to base, all of one block.
-fn pass_block(t: &[u8], x: &mut [u16], base: usize, end: usize)
+fn pass_block(t: &[u8], x: &mut [u16], base: usize, end: usize, start: u16) -> u16
     requires { ⌜ (base % 63 ≡ 0) × (base ≤ end) × (end ≤ base + 63) × (end ≤ mostNodes) ⌝ }
     requires { ⌜ ((m : ℕ) → m < end → placeOf m + 8 ≤ length (now t)) × Earlier (now t) end × (length (now x) ≡ indexSize) ⌝ }
-    ensures { λ _. ⌜ (sunk (now (t .entry)) (now (x .exit)) base ≡ sunk (now (t .entry)) (now (x .entry)) end) × (length (now (x .exit)) ≡ indexSize) ⌝ }
+    requires { ⌜ Fits end start (now x) ⌝ }
+    ensures { λ r. ⌜ (sunk (now (t .entry)) (now (x .exit)) r base ≡ sunk (now (t .entry)) (now (x .entry)) start end) × (length (now (x .exit)) ≡ indexSize) × Fits base r (now (x .exit)) ⌝ }
 {
     let mut p = end;
+    let mut next = start;
     let mut at = record::place(base) + 8 * (end - base);
     while base < p {
         p -= 1;
         at -= 8;
-        pass(t, x, p, at);
+        next = pass(t, x, p, at, next);
     }
+    next
 }
 
 // The first n nodes, from the highest down, block by block.
 fn sink(t: &[u8], n: usize, x: &mut [u16])
     requires { ⌜ (n ≤ mostNodes) × ((m : ℕ) → m < n → placeOf m + 8 ≤ length (now t)) × Earlier (now t) n ⌝ }
-    requires { ⌜ length (now x) ≡ indexSize ⌝ }
-    ensures { λ _. ⌜ now (x .exit) ≡ sunk (now (t .entry)) (now (x .entry)) n ⌝ }
+    requires { ⌜ (length (now x) ≡ indexSize) × Fits n 0 (now x) ⌝ }
+    ensures { λ _. ⌜ now (x .exit) ≡ sunk (now (t .entry)) (now (x .entry)) 0 n ⌝ }
 {
     let mut end = n;
+    let mut start = 0u16;
     while 0 < end {
         let base = 63 * ((end - 1) / 63);
-        pass_block(t, x, base, end);
+        start = pass_block(t, x, base, end, start);
         end = base;
     }
 }
@@ -858,7 +885,7 @@ pub fn build_below(t: &[u8], ls: &[u16], n: usize, x: &mut [u16])
 {
     mark_all(x, ls);
     sink(t, n, x);
-    link(x, n);
+    fill(x, n);
     copy_codes(x);
     copy_classes(x);
 }

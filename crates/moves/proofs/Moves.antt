@@ -151,6 +151,46 @@ picked-on {place} {u} z p = record {
 
 -- ---- the moves
 
+-- the clauses of goals and of the literals held, and their states
+module _ (t : ℕ → Node) (goals w : List ℕ) where
+  abbrev states : ℕ → List State
+  states k = sofar t goals (gOf w) (tail w) k
+
+  move-is : moveOf (states (tail w 0)) ≡ move (expand t) goals (gOf w)
+  unfolding move
+  move-is = refl
+
+  -- a goal's clause by its value
+  abbrev goalState : ℕ → State
+  goalState k = joined (valueOf (gOf w) (getD goals k 0)) (getD goals k 0) empty
+
+  goal-at : (p : State → Bool) (b : Bool) (k : ℕ) → k < length goals → p (goalState k) ≡ b → p (getD (states 0) k met) ≡ b
+  goal-at p b k i e = ap p (goal-state t goals (gOf w) (tail w) k i) ∙ e
+
+  no-goal : (p : State → Bool) → ((k : ℕ) → k < length goals → p (goalState k) ≡ false) → some p (states 0) ≡ false
+  no-goal p f =
+      none-by p (states 0) (λ k i. let b : k < length goals = omega (arith, i, goals-length t goals (gOf w) (tail w)) in goal-at p false k b (f k b))
+
+  none-false : Without 2 goals (gOf w) → some isEmpty (states 0) ≡ false
+  none-false f = no-goal isEmpty (λ k i. goal-unfalse (valueOf (gOf w) (getD goals k 0)) (getD goals k 0) (f k i))
+
+  -- no clause is all false
+  module _ (free : (q : ℕ) → q < tail w 0 → some isEmpty (statesAt t (gOf w) (tail w) q) ≡ false) (f : Without 2 goals (gOf w)) where
+    all-free : some isEmpty (states (tail w 0)) ≡ false
+    all-free = none-sofar t goals (gOf w) (tail w) isEmpty (tail w 0) (none-false f) free
+
+    -- then the first goal that is undecided is a unit
+    pub goal-next : {k : ℕ} → FirstGoal goals (gOf w) 0 k → k < length goals → move (expand t) goals (gOf w) ≡ Single k (getD goals k 0)
+    goal-next {k} u i =
+        let b : k < length (states 0) = omega (arith, i, goals-length t goals (gOf w) (tail w)) in
+        let v = goal-unit (valueOf (gOf w) (getD goals k 0)) (getD goals k 0) (u .here i) in
+        let a = first-at isOne (states 0) k b (goal-at isOne true k i (v .0))
+        (λ j y. goal-at isOne false j (omega (arith, y, i)) (goal-ununit (valueOf (gOf w) (getD goals j 0)) (getD goals j 0) (u .before j y))) in
+        let o = found-goal t goals (gOf w) (tail w) isOne (tail w 0) (a .0) in
+        let l : literalAt (states (tail w 0)) (firstOf isOne (states (tail w 0))) ≡ getD goals k 0 =
+        o .2 ∙ ap (literalAt (states 0)) (a .1) ∙ ap literalOf (goal-state t goals (gOf w) (tail w) k i) ∙ v .1 in
+        sym move-is ∙ move-unit (states (tail w 0)) all-free (o .0) ∙ single-same (o .1 ∙ a .1) l
+
 module _ {t : ℕ → Node} {n : ℕ} {goals w m : List ℕ} (few : n ≤ mostNodes) (gs : Goals n goals) (H : Holds t n goals w m) where
   abbrev G : List ℕ
   G = gOf w
@@ -173,20 +213,6 @@ module _ {t : ℕ → Node} {n : ℕ} {goals w m : List ℕ} (few : n ≤ mostNo
   base-is : (q : ℕ) → q ≤ r 0 → length (C q) ≡ baseOf r q
   base-is q i = sofar-length t goals G r q ∙ sym (H .numbered q i)
 
-  move-is : moveOf (C (r 0)) ≡ move (expand t) goals G
-  unfolding move
-  move-is = refl
-
-  -- a goal's clause by its value
-  goal-at : (p : State → Bool) (b : Bool) (k : ℕ) → k < length goals → p (joined (valueOf G (getD goals k 0)) (getD goals k 0) empty) ≡ b → p (getD (C 0) k met) ≡ b
-  goal-at p b k i e = ap p (goal-state t goals G r k i) ∙ e
-
-  no-goal : (p : State → Bool) → ((k : ℕ) → k < length goals → p (joined (valueOf G (getD goals k 0)) (getD goals k 0) empty) ≡ false) → some p (C 0) ≡ false
-  no-goal p f = none-by p (C 0) (λ k i. let b : k < length goals = omega (arith, i, goals-length t goals G r) in goal-at p false k b (f k b))
-
-  none-false : Without 2 goals G → some isEmpty (C 0) ≡ false
-  none-false f = no-goal isEmpty (λ k i. goal-unfalse (valueOf G (getD goals k 0)) (getD goals k 0) (f k i))
-
   true-goal : waitingOf w ≡ 0 → (k : ℕ) → k < length goals → valueCode (valueOf G (getD goals k 0)) ≡ 1
   true-goal z k i = ap valueCode (H .waiting .over k (omega (arith, i, z)))
 
@@ -199,11 +225,11 @@ module _ {t : ℕ → Node} {n : ℕ} {goals w m : List ℕ} (few : n ≤ mostNo
   pub conflict-goal : {k : ℕ} {w′ : List ℕ} → FirstGoal goals G 2 k → k < length goals → CellSet 3 (goalsAt + k) w w′ → Moved t n goals w w′ m (Conflict k)
   conflict-goal {k} f i z =
       let b : k < length (C 0) = omega (arith, i, goals-length t goals G r) in
-      let a = first-at isEmpty (C 0) k b (goal-at isEmpty true k i (goal-false (valueOf G (getD goals k 0)) (getD goals k 0) (f .here i)))
-      (λ j y. goal-at isEmpty false j (omega (arith, y, i)) (goal-unfalse (valueOf G (getD goals j 0)) (getD goals j 0) (f .before j y))) in
+      let a = first-at isEmpty (C 0) k b (goal-at t goals w isEmpty true k i (goal-false (valueOf G (getD goals k 0)) (getD goals k 0) (f .here i)))
+      (λ j y. goal-at t goals w isEmpty false j (omega (arith, y, i)) (goal-unfalse (valueOf G (getD goals j 0)) (getD goals j 0) (f .before j y))) in
       let o = found-goal t goals G r isEmpty (r 0) (a .0) in
       record {
-        is = ap Conflict (sym (o .1 ∙ a .1)) ∙ sym (move-conflict (C (r 0)) (o .0)) ∙ move-is;
+        is = ap Conflict (sym (o .1 ∙ a .1)) ∙ sym (move-conflict (C (r 0)) (o .0)) ∙ move-is t goals w;
         holds-on = keeps few H z;
         list = keeps-list few H z;
         kept = placed-goal few H z k refl i;
@@ -221,14 +247,14 @@ module _ {t : ℕ → Node} {n : ℕ} {goals w m : List ℕ} (few : n ≤ mostNo
         → {k : ℕ} → k ≡ baseOf r q → Moved t n goals w w′ m (Conflict (k + code / 256 % 4))
     conflict-position {code} f c z {k} y =
         let (b, s) = conflict-there in
-        let n = none-sofar t goals G r isEmpty q (none-false f) (λ p a. is-false (some isEmpty (S p)) (λ u. omega (arith, e, a, H .entered p (omega (arith, a, b)) .conflict u))) in
+        let n = none-sofar t goals G r isEmpty q (none-false t goals w f) (λ p a. is-false (some isEmpty (S p)) (λ u. omega (arith, e, a, H .entered p (omega (arith, a, b)) .conflict u))) in
         let o = found-position t goals G r isEmpty q (r 0) b n s in
         let j : code / 256 % 4 ≡ firstOf isEmpty (S q) = c .conflict-clause s in
         let l : code / 256 % 4 < length (expand t (litAt r q)) = omega (arith, j, first-low isEmpty (S q) s, length-map (expand t (litAt r q)) (stateOf G)) in
         record {
           is =
               ap Conflict (ap (_+ code / 256 % 4) (y ∙ sym (base-is q (omega (arith, b)))) ∙ ap (length (C q) +_) j ∙ sym (o .1))
-              ∙ sym (move-conflict (C (r 0)) (o .0)) ∙ move-is;
+              ∙ sym (move-conflict (C (r 0)) (o .0)) ∙ move-is t goals w;
           holds-on = keeps few H z;
           list = keeps-list few H z;
           kept = rw y (placed-at few H z q (code / 256 % 4) refl (omega arith) b i l);
@@ -237,11 +263,8 @@ module _ {t : ℕ → Node} {n : ℕ} {goals w m : List ℕ} (few : n ≤ mostNo
   -- ---- no conflict
 
   module _ (free : mostNodes ≤ conflictOf w) where
-    position-free : (q : ℕ) → q < r 0 → some isEmpty (S q) ≡ false
+    pub position-free : (q : ℕ) → q < r 0 → some isEmpty (S q) ≡ false
     position-free q i = is-false (some isEmpty (S q)) (λ u. omega (arith, free, i, most, H .entered q i .conflict u))
-
-    all-free : Without 2 goals G → some isEmpty (C (r 0)) ≡ false
-    all-free f = none-sofar t goals G r isEmpty (r 0) (none-false f) position-free
 
     -- a goal that is undecided
     pub unit-goal-low : {k : ℕ} → Without 2 goals G → (waitingOf w ≡ 0 → ⊥) → FirstGoal goals G 0 k → k < length goals
@@ -255,26 +278,18 @@ module _ {t : ℕ → Node} {n : ℕ} {goals w m : List ℕ} (few : n ≤ mostNo
 
     pub unit-goal : {k : ℕ} {w′ : List ℕ} → Without 2 goals G → FirstGoal goals G 0 k → k < length goals → CellSet 3 (goalsAt + k) w w′
         → Moved t n goals w w′ m (Single k (getD goals k 0))
-    unit-goal {k} f u i z =
-        let b : k < length (C 0) = omega (arith, i, goals-length t goals G r) in
-        let v = goal-unit (valueOf G (getD goals k 0)) (getD goals k 0) (u .here i) in
-        let a = first-at isOne (C 0) k b (goal-at isOne true k i (v .0))
-        (λ j y. goal-at isOne false j (omega (arith, y, i)) (goal-ununit (valueOf G (getD goals j 0)) (getD goals j 0) (u .before j y))) in
-        let o = found-goal t goals G r isOne (r 0) (a .0) in
-        let l : literalAt (C (r 0)) (firstOf isOne (C (r 0))) ≡ getD goals k 0 =
-        o .2 ∙ ap (literalAt (C 0)) (a .1) ∙ ap literalOf (goal-state t goals G r k i) ∙ v .1 in
-        record {
-          is = single-same (sym (o .1 ∙ a .1)) (sym l) ∙ sym (move-unit (C (r 0)) (all-free f) (o .0)) ∙ move-is;
-          holds-on = keeps few H z;
-          list = keeps-list few H z;
-          kept = placed-goal few H z k refl i;
-        }
+    unit-goal {k} f u i z = record {
+      is = sym (goal-next t goals w position-free f u i);
+      holds-on = keeps few H z;
+      list = keeps-list few H z;
+      kept = placed-goal few H z k refl i;
+    }
 
     -- ---- every goal is true
 
     module _ (z₀ : waitingOf w ≡ 0) where
       no-unit-goal : some isOne (C 0) ≡ false
-      no-unit-goal = no-goal isOne (λ k i. goal-ununit (valueOf G (getD goals k 0)) (getD goals k 0) (λ e. omega (arith, e, true-goal z₀ k i)))
+      no-unit-goal = no-goal t goals w isOne (λ k i. goal-ununit (valueOf G (getD goals k 0)) (getD goals k 0) (λ e. omega (arith, e, true-goal z₀ k i)))
 
       -- the first position of the set
       module _ {q : ℕ} (f : First m q) where
@@ -307,7 +322,7 @@ module _ {t : ℕ → Node} {n : ℕ} {goals w m : List ℕ} (few : n ≤ mostNo
         unit-next =
             let n = none-sofar t goals G r isOne q no-unit-goal none-earlier in
             let o = found-position t goals G r isOne q (r 0) unit-low n unit-there in
-            sym move-is ∙ move-unit (C (r 0)) (all-free (without z₀)) (o .0)
+            sym (move-is t goals w) ∙ move-unit (C (r 0)) (all-free t goals w position-free (without z₀)) (o .0)
             ∙ single-same (o .1 ∙ ap (_+ firstOf isOne (S q)) (base-is q (omega (arith, unit-low))) ∙ ap (baseOf r q +_) (sym (unit-kept .column)))
             (o .2 ∙ sym (unit-kept .literal))
 
@@ -328,7 +343,7 @@ module _ {t : ℕ → Node} {n : ℕ} {goals w m : List ℕ} (few : n ≤ mostNo
             (λ p a. is-false (some isOne (S p)) (λ u. omega (arith, H .entered p a .unit free u .0, none p (omega (arith, a, most)))))
 
         no-open-goal : some isOpen (C 0) ≡ false
-        no-open-goal = no-goal isOpen (λ k i. rw (H .waiting .over k (omega (arith, i, z₀))))
+        no-open-goal = no-goal t goals w isOpen (λ k i. rw (H .waiting .over k (omega (arith, i, z₀))))
 
         -- none before q is open
         closed-before : (p : ℕ) → p < q → some isOpen (S p) ≡ false
@@ -358,8 +373,8 @@ module _ {t : ℕ → Node} {n : ℕ} {goals w m : List ℕ} (few : n ≤ mostNo
         pub done : {c : ℕ} → c ≡ length (gOf w′) → c ≤ q → Moved t n goals w w′ m Done
         done e i = record {
           is =
-              sym (move-done (C (r 0)) (all-free (without z₀)) no-unit
-              (none-sofar t goals G r isOpen (r 0) no-open-goal (λ p a. closed-before p (omega (arith, a, count-is e, i))))) ∙ move-is;
+              sym (move-done (C (r 0)) (all-free t goals w position-free (without z₀)) no-unit
+              (none-sofar t goals G r isOpen (r 0) no-open-goal (λ p a. closed-before p (omega (arith, a, count-is e, i))))) ∙ move-is t goals w;
           holds-on = on;
           list = on-list;
           kept = tt;
@@ -385,7 +400,7 @@ module _ {t : ℕ → Node} {n : ℕ} {goals w m : List ℕ} (few : n ≤ mostNo
                 λ k. record {
                   is =
                       ap Split (k ∙ ap (λ (a : ℕ). chosen (t (a / 2)) (code / 1024 % 8)) y′ ∙ d .1 ∙ sym (o .2))
-                      ∙ sym (move-split (C (r 0)) (all-free (without z₀)) no-unit (o .0)) ∙ move-is;
+                      ∙ sym (move-split (C (r 0)) (all-free t goals w position-free (without z₀)) no-unit (o .0)) ∙ move-is t goals w;
                   holds-on = on;
                   list = on-list;
                   kept = tt;

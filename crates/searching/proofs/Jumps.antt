@@ -20,7 +20,7 @@ use Rattle.calculus.proofs.Moves.{conflict-clause, unit-clause}
 use Rattle.jumping.proofs.Moves.{jump-conflict, jump-done, jump-unit, jump-split}
 use Rattle.jumping.proofs.Answers.{same-answer}
 use Rattle.index.specs.Index.{mostNodes}
-use Rattle.state.specs.Work.{gOf}
+use Rattle.state.specs.Work.{gOf, Ready}
 use Rattle.state.specs.Holds.{Holds}
 use Rattle.moves.specs.Place.{placeNumber, Placed}
 use Rattle.rests.specs.Words.{restAt, There, Put, Sets, conflictSlot, SameTo, heldOf}
@@ -28,13 +28,14 @@ use Rattle.rests.proofs.Held.{held-literals, held-same, put-same, put-sets, hel
 use Rattle.grounds.specs.Ground.{Grounded}
 use Rattle.grounds.proofs.Grounds.{unmet}
 use Rattle.searching.specs.Search.{Extends, foundOf, Solved}
-use Rattle.searching.specs.Jumps.{blank, Due, Joined, Stepped, jumpedFrom, Propagated, endOf, madeBy, foundBy, withLeft, Jumps, Counted}
+use Rattle.searching.specs.Jumps.{blank, Due, Joined, Stepped, jumpedFrom, Propagated, endOf, madeBy, foundBy, withLeft, Jumps, Counted, askedOf, Answered}
 use Rattle.searching.specs.declared.Stop.{Stop}
 use Rattle.searching.specs.declared.Stop.the-variants.{Closed as Shut, Model as Open, Fork}
 use Rattle.searching.specs.declared.Found.{Found}
+use Rattle.searching.specs.declared.Asked.{Asked}
 use Rattle.searching.specs.declared.Ended.{Ended}
 use Rattle.searching.specs.declared.Ended.the-variants.{Model, Closed}
-use Rattle.searching.proofs.Searches.{extends-on, placed-there, Run, run-starts, run-looked, run-room, run-unit, Forked, fork-room, fork-grows, shut-open, shut-fork, open-fork}
+use Rattle.searching.proofs.Searches.{placed-there, Run, run-starts, run-looked, run-room, run-unit, Forked, fork-room, fork-grows, shut-open, shut-fork, open-fork}
 
 -- ---- sets that stay
 
@@ -50,7 +51,7 @@ module _ (t : ℕ → Node) (n : ℕ) (goals : List ℕ) (d : ℕ) (m G : List �
   moved : {v : Move} → move (expand t) goals G ≡ v → move (expand t) goals (literals (heldOf m G)) ≡ v
   moved e = rw (held-literals m G) e
 
-  from-conflict : {k : ℕ} → move (expand t) goals G ≡ Conflict k → jumpedFrom t n goals d m G ≡ stop (closed (clauseRest (expand t) goals (heldOf m G) k))
+  pub from-conflict : {k : ℕ} → move (expand t) goals G ≡ Conflict k → jumpedFrom t n goals d m G ≡ stop (closed (clauseRest (expand t) goals (heldOf m G) k))
   from-conflict e = jump-conflict 128 (expand t) goals d (heldOf m G) (n - length G) (moved e)
 
   from-done : move (expand t) goals G ≡ Done → jumpedFrom t n goals d m G ≡ stop (found G)
@@ -60,7 +61,7 @@ module _ (t : ℕ → Node) (n : ℕ) (goals : List ℕ) (d : ℕ) (m G : List �
     left-fuel : n - length G ≡ suc (n - suc (length G))
     left-fuel = omega arith
 
-    from-unit : {k l : ℕ} {m′ : List ℕ} → move (expand t) goals G ≡ Single k l → Put m (suc (length G)) (clauseRest (expand t) goals (heldOf m G) k) m′
+    pub from-unit : {k l : ℕ} {m′ : List ℕ} → move (expand t) goals G ≡ Single k l → Put m (suc (length G)) (clauseRest (expand t) goals (heldOf m G) k) m′
         → jumpedFrom t n goals d m G ≡ jumpedFrom t n goals d m′ (l ∷ G)
     from-unit {k} {l} e u =
         ap (λ (f : ℕ). jump 128 (expand t) goals f d (heldOf m G)) left-fuel
@@ -420,18 +421,6 @@ module _ {t : ℕ → Node} {n : ℕ} {goals w m w₁ k₁ m₁ : List ℕ} {r :
                       ∙ stopped-both (L .splits) (rightOf (restAt m₃ conflictSlot) .splits) ∙ ap stopped (sym (ap (λ (j : Jumped). j .splits) whole ∙ b .1));
                 }
 
--- the search goes on where the units ended
-pub jumps-on : {t : ℕ → Node} {n d : ℕ} {goals w m w₁ k₁ m₁ w₂ k₂ m₂ : List ℕ} {r : Stop} {e : Ended} → Propagated t n goals w m w₁ k₁ m₁ r
-    → Jumps t n goals d w₁ m₁ w₂ k₂ m₂ e → Jumps t n goals d w m w₂ k₂ m₂ e
-jumps-on {d = d} {w = w} {m} {w₁} {m₁ = m₁} {m₂ = m₂} P J = record {
-  holds = J .holds;
-  grows = extends-on (P .grows) (J .grows);
-  sets = J .sets;
-  kept = same-on (length (gOf w)) (length (gOf w₁)) m m₁ m₂ (P .grows .more) (P .kept) (J .kept);
-  ended = ap (λ (j : Jumped). j .end) (sym (P .same d)) ∙ J .ended;
-  counted = J .counted ∙ ap (λ (j : Jumped). stopped (j .splits)) (P .same d);
-}
-
 pub held-low : {t : ℕ → Node} {n : ℕ} {goals w k : List ℕ} → Holds t n goals w k → n ≤ mostNodes → length (gOf w) ≤ mostNodes
 held-low {n = n} {w = w} h b = omega (arith, at-most n (gOf w) (h .ready .trail .good), b)
 
@@ -450,21 +439,38 @@ jumps-from {t} {n} {d} {goals} {w} {m} {m₁} s J = record {
 -- ---- the whole
 
 -- from nothing held, with as much fuel as there are nodes
-pub counted-whole : {t : ℕ → Node} {n : ℕ} {goals w m w′ k′ m′ : List ℕ} {r : Ended} → gOf w ≡ [] → Jumps t n goals 0 w m w′ k′ m′ r → Counted t n goals w′ r
+pub from-nothing : (t : ℕ → Node) (n : ℕ) (goals m : List ℕ) → jumpedFrom t n goals 0 m [] ≡ jump 128 (expand t) goals n 0 []
 unfolding heldOf
-counted-whole {t} {n} {goals} {w} {m} {w′} {m′ = m′} {r} z J =
-    let n0 : n - 0 ≡ n = omega arith in
-    let e : jumpedFrom t n goals 0 m (gOf w) ≡ jump 128 (expand t) goals n 0 [] =
-    ap (jumpedFrom t n goals 0 m) z ∙ ap (λ (k : ℕ). jump 128 (expand t) goals k 0 []) n0 in
-    record {
-      ready = J .holds .ready;
-      answered = ended r (gOf w′) (restAt m′ conflictSlot) ∙ ap endAnswer (sym (J .ended) ∙ ap (λ (j : Jumped). j .end) e);
-      counted = J .counted ∙ ap (λ (j : Jumped). stopped (j .splits)) e;
-    }
-  where
-    ended : (r : Ended) (G : List ℕ) (c : Rests) → foundOf (foundBy r) G ≡ endAnswer (endOf r G c)
-    ended (Model s) G c = refl
-    ended (Closed s) G c = refl
+from-nothing t n goals m =
+    let e : n - 0 ≡ n = omega arith in
+    ap (λ (k : ℕ). jump 128 (expand t) goals k 0 []) e
+
+module _ {t : ℕ → Node} {n : ℕ} {goals : List ℕ} where
+  -- the search from where the goals have joined
+  pub counted-whole : {w m w′ k′ m′ : List ℕ} {r : Ended} → jumpedFrom t n goals 0 m (gOf w) ≡ jumpedFrom t n goals 0 m [] → Jumps t n goals 0 w m w′ k′ m′ r
+      → Counted t n goals w′ r
+  counted-whole {w} {m} {w′} {m′ = m′} {r} z J =
+      let e = z ∙ from-nothing t n goals m in
+      record {
+        ready = J .holds .ready;
+        answered = ended r (gOf w′) (restAt m′ conflictSlot) ∙ ap endAnswer (sym (J .ended) ∙ ap (λ (j : Jumped). j .end) e);
+        counted = J .counted ∙ ap (λ (j : Jumped). stopped (j .splits)) e;
+      }
+    where
+      ended : (r : Ended) (G : List ℕ) (c : Rests) → foundOf (foundBy r) G ≡ endAnswer (endOf r G c)
+      ended (Model s) G c = refl
+      ended (Closed s) G c = refl
+
+  -- the goals close
+  pub counted-shut : {w : List ℕ} → Ready n w → (s : Rests) → jumpedFrom t n goals 0 blank [] ≡ stop (closed s) → Counted t n goals w (Closed 0)
+  counted-shut h s z =
+      let e = sym z ∙ from-nothing t n goals blank in
+      record { ready = h; answered = ap (λ (j : Jumped). endAnswer (j .end)) e; counted = ap (λ (j : Jumped). stopped (j .splits)) e }
+
+-- the same as an answer
+pub answered : {t : ℕ → Node} {n : ℕ} {goals w : List ℕ} (m : List ℕ) (e : Ended) {a : Asked} → a ≡ askedOf e → Counted t n goals w e → Answered t n goals m w a
+answered m (Model s) q C = rw q C
+answered m (Closed s) q C = rw q C
 
 -- it answers as the plain order does
 pub solved-plain : {t : ℕ → Node} {n : ℕ} {goals w : List ℕ} {r : Ended} → Table n t → Below n goals → Counted t n goals w r → {f : Found} → f ≡ foundBy r

@@ -1,6 +1,7 @@
 -- What the search that jumps leaves of the work area and its sets: what the definition of the jumping search ends on, from the literals
 -- held with what each rests on. Assumes nothing.
 use mathlib.Core.Path.{_≡_}
+use mathlib.Core.Bool.{Bool, true, false}
 use mathlib.Core.List.{List, [], _∷_}
 use Prim.Native.Nat.{ℕ, suc, _+_, _-_}
 use lib.ListN.{length, replicate}
@@ -10,7 +11,7 @@ use Rattle.calculus.specs.Order.{move}
 use Rattle.calculus.specs.Jump.{Rests, clauseRest, End, found, closed, Jumped, stop, jump, endAnswer, stopped}
 use Rattle.calculus.specs.declared.Move.the-variants.{Unit as Single, Split}
 use Rattle.state.specs.Work.{gOf, Ready}
-use Rattle.state.specs.Holds.{Holds}
+use Rattle.state.specs.Holds.{Holds, Splits}
 use Rattle.moves.specs.Place.{placeNumber, Placed}
 use Rattle.rests.specs.Words.{restAt, Put, Sets, setsSize, conflictSlot, SameTo, heldOf}
 use Rattle.searching.specs.Search.{Extends, foundOf}
@@ -18,6 +19,8 @@ use Rattle.searching.specs.declared.Stop.{Stop}
 use Rattle.searching.specs.declared.Stop.the-variants.{Closed as Shut, Model as Open, Fork}
 use Rattle.searching.specs.declared.Found.{Found}
 use Rattle.searching.specs.declared.Found.the-variants.{Model as AModel, Closed as AllClosed}
+use Rattle.searching.specs.declared.Asked.{Asked}
+use Rattle.searching.specs.declared.Asked.the-variants.{Model as AskedModel, Closed as AskedClosed, Fork as AskedFork}
 use Rattle.searching.specs.declared.Ended.{Ended}
 use Rattle.searching.specs.declared.Ended.the-variants.{Model, Closed}
 
@@ -47,6 +50,23 @@ pub record Stepped (t : ℕ → Node) (n l : ℕ) (goals w m w′ k′ m′ : Li
   pub holds : Holds t n goals w′ k′
   pub list : gOf w′ ≡ l ∷ gOf w
   pub put : Put m (suc (length (gOf w))) (clauseRest (expand t) goals (heldOf m (gOf w)) clause) m′
+
+-- the goals have joined: the search from here is that from the start; or that closes, with no split
+pub record Begun (t : ℕ → Node) (n : ℕ) (goals w′ k′ : List ℕ) (r : Bool) : Type 0 where
+  pub ready : Ready n w′
+  pub holds : r ≡ true → Holds t n goals w′ k′
+  pub same : r ≡ true → jumpedFrom t n goals 0 blank (gOf w′) ≡ jumpedFrom t n goals 0 blank []
+  pub shut : r ≡ false → (s : Rests) × (jumpedFrom t n goals 0 blank [] ≡ stop (closed s))
+
+-- nothing but units has joined, and the next move is a split: the search from here is that from the start. k is the set of units
+pub record Paused (t : ℕ → Node) (n : ℕ) (goals w k : List ℕ) : Type 0 where
+  pub holds : Holds t n goals w k
+  pub splits : Splits (expand t) goals (gOf w)
+  pub same : jumpedFrom t n goals 0 blank (gOf w) ≡ jumpedFrom t n goals 0 blank []
+
+-- so it is, for some set
+abbrev pub LeftOff : (ℕ → Node) → ℕ → List ℕ → List ℕ → Type 0
+LeftOff t n goals w = (k : List ℕ) × Paused t n goals w k
 
 -- the units have joined: the search from here is that from the start, and the next move is no unit. k′ is the set of units (crate units)
 pub record Propagated (t : ℕ → Node) (n : ℕ) (goals w m w′ k′ m′ : List ℕ) (r : Stop) : Type 0 where
@@ -94,3 +114,20 @@ pub record Counted (t : ℕ → Node) (n : ℕ) (goals w′ : List ℕ) (r : End
   pub ready : Ready n w′
   pub answered : foundOf (foundBy r) (gOf w′) ≡ endAnswer (jump 128 (expand t) goals n 0 [] .end)
   pub counted : madeBy r ≡ stopped (jump 128 (expand t) goals n 0 [] .splits)
+
+-- ---- a question put with sets, or without
+
+-- sets are lent, or another slice in their place
+abbrev pub Lent : List ℕ → Type 0
+Lent m = length m ≡ setsSize → Sets m
+
+-- how the search ended, as the answer
+abbrev pub askedOf : Ended → Asked
+askedOf (Model s) = AskedModel s
+askedOf (Closed s) = AskedClosed s
+
+-- the answer, m being lent: as the search ended; at its first split only where m is not sets
+abbrev pub Answered : (ℕ → Node) → ℕ → List ℕ → List ℕ → List ℕ → Asked → Type 0
+Answered t n goals m w (AskedModel s) = Counted t n goals w (Model s)
+Answered t n goals m w (AskedClosed s) = Counted t n goals w (Closed s)
+Answered t n goals m w AskedFork = (length m ≡ setsSize → ⊥) × LeftOff t n goals w

@@ -15,7 +15,7 @@ ghost use Rattle.state.specs.Holds.{Holds};
 ghost use Rattle.state.specs.Picked.{Picked, Picks};
 ghost use Rattle.rests.specs.Words.{Sets};
 ghost use Rattle.searching.specs.Search.{Solved};
-ghost use Rattle.searching.specs.Jumps.{blank, Due, Joined, Stepped, Propagated, withLeft, Jumps, Counted};
+ghost use Rattle.searching.specs.Jumps.{blank, Due, Joined, Stepped, Begun, Paused, LeftOff, Propagated, withLeft, Jumps, Counted, Lent, askedOf, Answered};
 
 // Where the units end: at a conflict, at a model, or at a split on a literal.
 pub enum Stop {
@@ -36,8 +36,18 @@ pub enum Ended {
     Closed(u32),
 }
 
+// How a question ends that may be put without sets: the same, or at the first split.
+pub enum Asked {
+    Model(u32),
+    Closed(u32),
+    Fork,
+}
+
 // The slot of what the last conflict rests on.
 const CONFLICT: usize = 2017;
+
+// How many words the sets are.
+const SETS: usize = 4036;
 
 // No unit is the next move.
 const NO_UNIT: u32 = 4294967295;
@@ -130,7 +140,24 @@ fn propagate(
     }
 }
 
-// The same where nothing was split: what joins rests on nothing, and so does a conflict.
+// The goals join, in their order, up to one that is false or brings a conflict. Whether there was none.
+fn join_goals(x: &[u16], n: usize, goals: &[u16], work: &mut [u16], masks: &mut [u64]) -> bool
+    requires { ⌜ Indexed (now x) n ⌝ }
+    requires { ⌜ Goals n (now goals) ⌝ }
+    requires { ⌜ Holds (indexNode (now x)) n (now goals) (now work) (now masks) × (gOf (now work) ≡ []) ⌝ }
+    ensures { λ r. ⌜ Begun (indexNode (now (x .entry))) n (now (goals .entry)) (now (work .exit)) (now (masks .exit)) r ⌝ }
+{
+    let mut k = 0;
+    while k < goals.len() {
+        if !solver::join_goal(x, n, goals, work, masks, k) {
+            return false;
+        }
+        k += 1;
+    }
+    true
+}
+
+// The units join, one after another, where nothing was split: what joins rests on nothing, and so does a conflict.
 fn first_units(x: &[u16], n: usize, goals: &[u16], work: &mut [u16], masks: &mut [u64]) -> Stop
     requires { ⌜ Indexed (now x) n ⌝ }
     requires { ⌜ Goals n (now goals) ⌝ }
@@ -228,7 +255,41 @@ fn search(
     }
 }
 
-// The search from its start, with nothing held. The sets are needed from the first split on: those of the literals held then are empty.
+// How the search ended, as the answer to a question.
+fn answer(e: Ended) -> Asked
+    ensures { λ r. ⌜ r ≡ askedOf e ⌝ }
+{
+    match e {
+        Ended::Model(s) => Asked::Model(s),
+        Ended::Closed(s) => Asked::Closed(s),
+    }
+}
+
+// The search from the first split on, if sets are lent: those of the literals held then are empty.
+fn from_split(
+    x: &[u16],
+    n: usize,
+    goals: &[u16],
+    work: &mut [u16],
+    masks: &mut [u64],
+    rests: &mut [u64],
+) -> Asked
+    requires { ⌜ Indexed (now x) n ⌝ }
+    requires { ⌜ Goals n (now goals) ⌝ }
+    requires { ⌜ Paused (indexNode (now x)) n (now goals) (now work) (now masks) × Lent (now rests) ⌝ }
+    ensures { λ r. ⌜ Answered (indexNode (now (x .entry))) n (now (goals .entry)) (now (rests .entry)) (now (work .exit)) r ⌝ }
+    ensures { λ _. ⌜ Lent (now (rests .exit)) ⌝ }
+{
+    if rests.len() != SETS {
+        return Asked::Fork;
+    }
+    let held = state::count(work) as usize;
+    rests::clear(rests, held);
+    let e = search(x, n, goals, work, masks, rests, 0);
+    answer(e)
+}
+
+// The search from its start, with nothing held. The sets are needed from the first split on.
 fn from_start(
     x: &[u16],
     n: usize,
@@ -236,47 +297,68 @@ fn from_start(
     work: &mut [u16],
     masks: &mut [u64],
     rests: &mut [u64],
-) -> Ended
+) -> Asked
     requires { ⌜ Indexed (now x) n ⌝ }
     requires { ⌜ Goals n (now goals) ⌝ }
     requires { ⌜ Holds (indexNode (now x)) n (now goals) (now work) (now masks) × (gOf (now work) ≡ []) ⌝ }
-    requires { ⌜ Sets (now rests) ⌝ }
-    ensures { λ r. ⌜ Counted (indexNode (now (x .entry))) n (now (goals .entry)) (now (work .exit)) r ⌝ }
-    ensures { λ _. ⌜ Sets (now (rests .exit)) ⌝ }
+    requires { ⌜ Lent (now rests) ⌝ }
+    ensures { λ r. ⌜ Answered (indexNode (now (x .entry))) n (now (goals .entry)) (now (rests .entry)) (now (work .exit)) r ⌝ }
+    ensures { λ _. ⌜ Lent (now (rests .exit)) ⌝ }
 {
+    if !join_goals(x, n, goals, work, masks) {
+        return Asked::Closed(0);
+    }
     let stop = first_units(x, n, goals, work, masks);
     match stop {
-        Stop::Closed => Ended::Closed(0),
-        Stop::Model => Ended::Model(0),
-        Stop::Fork(_) => {
-            let held = state::count(work) as usize;
-            rests::clear(rests, held);
-            search(x, n, goals, work, masks, rests, 0)
-        }
+        Stop::Closed => Asked::Closed(0),
+        Stop::Model => Asked::Model(0),
+        Stop::Fork(_) => from_split(x, n, goals, work, masks, rests),
     }
 }
 
 // A question put from the start, whatever is held: whether the goals have a model, which the work area then holds, and the splits made.
-// The sets are lent, so that one call's questions share them.
-pub fn solve_counted(
-    x: &[u16],
-    n: usize,
-    goals: &[u16],
-    work: &mut [u16],
-    rests: &mut [u64],
-) -> Ended
+// Sets are lent, so that one call's questions share them; without, it is left at its first split, if it has one.
+fn put(x: &[u16], n: usize, goals: &[u16], work: &mut [u16], rests: &mut [u64]) -> Asked
     requires { ⌜ Indexed (now x) n ⌝ }
     requires { ⌜ Goals n (now goals) ⌝ }
-    requires { ⌜ Ready n (now work) × Sets (now rests) ⌝ }
-    ensures { λ r. ⌜ Counted (indexNode (now (x .entry))) n (now (goals .entry)) (now (work .exit)) r ⌝ }
-    ensures { λ _. ⌜ Sets (now (rests .exit)) ⌝ }
+    requires { ⌜ Ready n (now work) × Lent (now rests) ⌝ }
+    ensures { λ r. ⌜ Answered (indexNode (now (x .entry))) n (now (goals .entry)) (now (rests .entry)) (now (work .exit)) r ⌝ }
+    ensures { λ _. ⌜ Lent (now (rests .exit)) ⌝ }
 {
     let mut masks = [0u64; 33];
     solver::restart(x, n, goals, work, &mut masks);
     from_start(x, n, goals, work, &mut masks, rests)
 }
 
-// The same without the splits.
+// A question that was left at its first split is searched on, with sets of its own.
+fn alone(x: &[u16], n: usize, goals: &[u16], work: &mut [u16]) -> Ended
+    requires { ⌜ Indexed (now x) n ⌝ }
+    requires { ⌜ Goals n (now goals) ⌝ }
+    requires { ⌜ LeftOff (indexNode (now x)) n (now goals) (now work) ⌝ }
+    ensures { λ r. ⌜ Counted (indexNode (now (x .entry))) n (now (goals .entry)) (now (work .exit)) r ⌝ }
+{
+    let mut masks = [0u64; 33];
+    let mut rests = [0u64; 4036];
+    search(x, n, goals, work, &mut masks, &mut rests, 0)
+}
+
+// One question put from the start, whatever is held: as `put`, but that sets are made at the first split.
+pub fn solve_counted(x: &[u16], n: usize, goals: &[u16], work: &mut [u16]) -> Ended
+    requires { ⌜ Indexed (now x) n ⌝ }
+    requires { ⌜ Goals n (now goals) ⌝ }
+    requires { ⌜ Ready n (now work) ⌝ }
+    ensures { λ r. ⌜ Counted (indexNode (now (x .entry))) n (now (goals .entry)) (now (work .exit)) r ⌝ }
+{
+    let mut none = [0u64; 1];
+    let a = put(x, n, goals, work, &mut none);
+    match a {
+        Asked::Model(s) => Ended::Model(s),
+        Asked::Closed(s) => Ended::Closed(s),
+        Asked::Fork => alone(x, n, goals, work),
+    }
+}
+
+// One of several questions, whose sets are lent; without the splits.
 pub fn solve(x: &[u16], n: usize, goals: &[u16], work: &mut [u16], rests: &mut [u64]) -> Found
     requires { ⌜ Indexed (now x) n ⌝ }
     requires { ⌜ Goals n (now goals) ⌝ }
@@ -284,9 +366,10 @@ pub fn solve(x: &[u16], n: usize, goals: &[u16], work: &mut [u16], rests: &mut [
     ensures { λ r. ⌜ Solved (indexNode (now (x .entry))) n (now (goals .entry)) (now (work .exit)) r ⌝ }
     ensures { λ _. ⌜ Sets (now (rests .exit)) ⌝ }
 {
-    let e = solve_counted(x, n, goals, work, rests);
-    match e {
-        Ended::Model(_) => Found::Model,
-        Ended::Closed(_) => Found::Closed,
+    let a = put(x, n, goals, work, rests);
+    match a {
+        Asked::Model(_) => Found::Model,
+        Asked::Closed(_) => Found::Closed,
+        Asked::Fork => Found::Closed,
     }
 }

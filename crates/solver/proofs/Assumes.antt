@@ -10,7 +10,7 @@ use lib.ListN.{length, getD, length-map, length-set}
 use lib.Seq.{getD-set-same, getD-set-other}
 use Rattle.scope.specs.declared.Node.{Node}
 use Rattle.calculus.specs.Expansion.{expand}
-use Rattle.calculus.specs.Order.{holds, fails, undecided, valueOf, stateOf, clauses, isEmpty, isOne, some}
+use Rattle.calculus.specs.Order.{holds, undecided, valueOf, stateOf, clauses, isEmpty, isOne, some}
 use Rattle.calculus.specs.Model.{Goals, Fresh}
 use Rattle.calculus.proofs.Literals.{value-joined}
 use Rattle.calculus.proofs.Sizes.{clauses-more}
@@ -20,17 +20,16 @@ use Rattle.index.specs.Indexed.{Indexed}
 use Rattle.units.specs.Units.{member, positions, Units, Putted}
 use Rattle.clause.specs.Coded.{statesOf, Coded}
 use Rattle.state.specs.Work.{tail, litAt, baseOf, cursorAt, codeAt, cursorOf, conflictOf, waitingOf, gOf, trail, Ready, Numbered, trailAt, literalsAt, basesAt, valuesAt, cursorsAt, codesAt, area}
-use Rattle.state.specs.Holds.{statesAt, Entered, Late, Closed, AllMet, Waiting, Holds, deniedAt, deniedOf, NoneDenied}
+use Rattle.state.specs.Holds.{statesAt, Entered, Late, Closed, AllMet, Holds, deniedAt, deniedOf, NoneDenied}
 use Rattle.state.specs.Picked.{Picked, Picks}
 use Rattle.state.specs.Changes.{Pushed, baseSet}
 use Rattle.state.proofs.Areas.{count-most, room-left, held-below, held-still, base-most, ready-same}
 use Rattle.solver.specs.Changes.{Beside, Renewed, Pending, Touchable, Touched, Taken, Forcing, Tidied, Attached, Served, Apart, Awaited}
-use Rattle.solver.proofs.Stays.{value-stays, was-undecided, fails-joined, all-met-stays, some-empty-stays, first-stays, first-changes, first-undecided, still-or}
+use Rattle.solver.proofs.Stays.{holds-fails, holds-stays, was-undecided, fails-joined, all-met-stays, some-empty-stays}
+use Rattle.solver.proofs.Stays.{first-stays, first-changes, first-undecided, still-or}
 use Rattle.solver.proofs.Marks.{beside-same, still-at, still-list, still-ready, still-literal, still-states, entered-still, late-still, closed-still}
 use Rattle.solver.proofs.Walks.{beside-on}
-
-holds-fails : holds ≡ fails → ⊥
-holds-fails y = let z : _≡_ {A = ℕ} 0 1 = cc in omega arith
+use Rattle.solver.proofs.Settles.{awaited-none}
 
 module _ {x goals w m m₀ : List ℕ} {n l : ℕ} (I : Indexed x n) (H : Holds (indexNode x) n goals w m) (N : Taken w m l m₀) (f : Fresh n (gOf w) l) where
   abbrev t : ℕ → Node
@@ -45,41 +44,35 @@ module _ {x goals w m m₀ : List ℕ} {n l : ℕ} (I : Indexed x n) (H : Holds 
   pub room : h < mostNodes
   room = omega (arith, room-left (H .ready) f, I .few)
 
-  pub count-is : {c : ℕ} → c ≡ length (gOf w) → c ≡ h
-  count-is e = e ∙ trail-length h r
-
   pub node-low : l / 2 < n
   node-low = omega (arith, f .0)
 
   -- ---- after `push`
 
-  module _ {w₁ : List ℕ} (P : Pushed n l w w₁) where
+  module _ {c : ℕ} {w₁ : List ℕ} (C : c ≡ length (gOf w)) (P : Pushed n l w w₁) where
     abbrev r₁ : ℕ → ℕ
     r₁ = tail w₁
+
+    at-end : c ≡ h
+    at-end = C ∙ trail-length h r
 
     lits₁ : (q : ℕ) → q < h → litAt r₁ q ≡ litAt r q
     lits₁ q i = P .kept (trailAt + (literalsAt + q)) (inr (inl (omega arith, omega arith)))
 
     -- the states of an earlier position, by the list before and now
-    abbrev now : ℕ → Type 0
-    now q = statesOf t (l ∷ gOf w) (litAt r q) ≡ statesAt t (gOf w₁) r₁ q
-
-    now-is : (q : ℕ) → q < h → now q
+    now-is : (q : ℕ) → q < h → statesOf t (l ∷ gOf w) (litAt r q) ≡ statesAt t (gOf w₁) r₁ q
     now-is q i = rw (P .list, lits₁ q i)
-
-    closed₁ : Closed t (gOf w₁) r₁ (conflictOf w₁)
-    closed₁ = subst (Closed t (gOf w₁) r₁) (sym (P .kept 1 (inl (omega arith)))) go
-      where
-        go : Closed t (gOf w₁) r₁ (conflictOf w)
-        go i =
-            let (a, b) = H .closed i in
-            (omega (arith, a, P .count), rw (now-is (conflictOf w) a) at (some-empty-stays (gOf w) l (f .1) (expand t (litAt r (conflictOf w))) b))
-
-    code₁ : (q : ℕ) → q < h → codeAt r₁ q ≡ codeAt r q
-    code₁ q i = P .kept (trailAt + (codesAt + q)) (inr (inr (inr (omega arith, λ y. omega (arith, y, room)))))
 
     conflict₁ : conflictOf w₁ ≡ conflictOf w
     conflict₁ = P .kept 1 (inl (omega arith))
+
+    closed₁ : Closed t (gOf w₁) r₁ (conflictOf w₁)
+    closed₁ = rw conflict₁ (λ i.
+        let (a, b) = H .closed i in
+        (omega (arith, a, P .count), rw (now-is (conflictOf w) a) at (some-empty-stays (gOf w) l (f .1) (expand t (litAt r (conflictOf w))) b)))
+
+    code₁ : (q : ℕ) → q < h → codeAt r₁ q ≡ codeAt r q
+    code₁ q i = P .kept (trailAt + (codesAt + q)) (inr (inr (inr (omega arith, λ y. omega (arith, y, room)))))
 
     -- what is in the set now was in it before
     from₁ : (q : ℕ) → q < positions → member m₀ q ≡ 1 → member m q ≡ 1
@@ -89,7 +82,8 @@ module _ {x goals w m m₀ : List ℕ} {n l : ℕ} (I : Indexed x n) (H : Holds 
     clear₁ q i b = ⊎-elim (λ e. e ∙ H .clear q i b) (λ e. e .0) (N .same q b)
 
     -- where a position was taken out of the set, the states of its clauses do not stay
-    taken₁ : (q : ℕ) → q < h → mostNodes ≤ conflictOf w₁ → member m q ≡ 1 → codeAt r q % 4096 ≡ l → statesOf t (l ∷ gOf w) (litAt r q) ≡ statesAt t (gOf w) r q → ⊥
+    taken₁ : (q : ℕ) → q < h → mostNodes ≤ conflictOf w₁ → member m q ≡ 1 → codeAt r q % 4096 ≡ l
+        → statesOf t (l ∷ gOf w) (litAt r q) ≡ statesAt t (gOf w) r q → ⊥
     taken₁ q i d y k s =
         let free : mostNodes ≤ conflictOf w = omega (arith, d, conflict₁) in
         let one = H .late q i .live free y (ap (valueOf (gOf w)) k ∙ f .1) in
@@ -97,9 +91,12 @@ module _ {x goals w m m₀ : List ℕ} {n l : ℕ} (I : Indexed x n) (H : Holds 
 
     -- an earlier position is entered, or one of a parent
     waits₁ : (q : ℕ) → q < h → Entered t (gOf w₁) r₁ (conflictOf w₁) m₀ q ⊎ Pending t n (l / 2) (litAt r₁ q / 2)
-    waits₁ q i = ⊎-elim (λ s. inl (go s (N .same q (omega (arith, i, room))))) (λ y. inr (rw (lits₁ q i) y)) (still-or n t (I .table) (litAt r q) (held-below (H .ready) q i) (gOf w) l)
+    waits₁ q i =
+        ⊎-elim (λ s. inl (go s (N .same q (omega (arith, i, room))))) (λ y. inr (rw (lits₁ q i) y))
+        (still-or n t (I .table) (litAt r q) (held-below (H .ready) q i) (gOf w) l)
       where
-        go : statesOf t (l ∷ gOf w) (litAt r q) ≡ statesAt t (gOf w) r q → (member m₀ q ≡ member m q) ⊎ ((member m₀ q ≡ 0) × (member m q ≡ 1) × (codeAt r q % 4096 ≡ l))
+        go : statesOf t (l ∷ gOf w) (litAt r q) ≡ statesAt t (gOf w) r q
+            → (member m₀ q ≡ member m q) ⊎ ((member m₀ q ≡ 0) × (member m q ≡ 1) × (codeAt r q % 4096 ≡ l))
             → Entered t (gOf w₁) r₁ (conflictOf w₁) m₀ q
         go s (inl e) = entered-still (sym (now-is q i) ∙ s) (omega (arith, conflict₁)) (e, code₁ q i) (H .entered q i)
         go s (inr (z, y, k)) = record {
@@ -121,23 +118,23 @@ module _ {x goals w m m₀ : List ℕ} {n l : ℕ} (I : Indexed x n) (H : Holds 
               ∙ first-stays (gOf w) l (f .1) (expand t (litAt r q)) one (rw (H .entered q i .unit free one .1 .literal) at v);
         }
 
-    pub own-literal : litAt r₁ h ≡ 2 * (l / 2) + l % 2
-    own-literal = omega (arith, P .top)
+    pub own-literal : litAt r₁ c ≡ 2 * (l / 2) + l % 2
+    own-literal = rw at-end (omega (arith, P .top))
 
-    pub own-low : h < tail w₁ 0
-    own-low = omega (arith, P .count)
-
-    pub renewed-own : {c : ℕ} {w₂ m₂ : List ℕ} → c ≡ length (gOf w) → Renewed t n w₁ m₀ c w₂ m₂ → Renewed t n w₁ m₀ h w₂ m₂
-    renewed-own {c} {w₂} {m₂} e = subst (λ (k : ℕ). Renewed t n w₁ m₀ k w₂ m₂) (count-is e)
+    pub own-low : c < tail w₁ 0
+    own-low = omega (arith, at-end, P .count)
 
     -- how many clauses its code says that it has
-    pub own-clauses : {c code : ℕ} {y : Node} → c ≡ length (gOf w) → Coded y (statesAt t (gOf w₁) r₁ c) code → code / 8192 ≡ length (expand t l)
-    own-clauses {c} e k =
-        k .clauses ∙ length-map (expand t (litAt r₁ c)) (stateOf (gOf w₁)) ∙ ap (λ (j : ℕ). length (expand t j)) (ap (litAt r₁) (count-is e) ∙ P .top)
+    pub own-clauses : {code : ℕ} {y : Node} → Coded y (statesAt t (gOf w₁) r₁ c) code → code / 8192 ≡ length (expand t l)
+    own-clauses k =
+        k .clauses ∙ length-map (expand t (litAt r₁ c)) (stateOf (gOf w₁)) ∙ ap (λ (j : ℕ). length (expand t j)) (ap (litAt r₁) at-end ∙ P .top)
 
     -- ---- after its own position is entered
 
-    module _ {w₂ m₂ : List ℕ} (R : Renewed t n w₁ m₀ h w₂ m₂) where
+    module _ {w₂ m₂ : List ℕ} (R₀ : Renewed t n w₁ m₀ c w₂ m₂) where
+      pub R : Renewed t n w₁ m₀ h w₂ m₂
+      R = subst (λ (k : ℕ). Renewed t n w₁ m₀ k w₂ m₂) at-end R₀
+
       pub ready₂ : Ready n w₂
       ready₂ = still-ready (I .few) (P .ready) (R .beside)
 
@@ -191,20 +188,21 @@ module _ {x goals w m m₀ : List ℕ} {n l : ℕ} (I : Indexed x n) (H : Holds 
         size₃ : length w₃ ≡ length w₁
         size₃ = beside₃ .size
 
+        base₃ : baseOf (tail w₃) h ≡ baseOf r h
+        base₃ = same₃ (basesAt + h) (omega (arith, room)) ∙ P .kept (trailAt + (basesAt + h)) (inr (inr (inl (omega arith, omega (arith, room)))))
+
         -- what `number` asks
-        pub number-asked : Goals n goals → {c : ℕ} → c ≡ length (gOf w) → (more : ℕ) → more ≤ 7
-            → (area ≤ length w₃) × (c < mostNodes) × (baseOf (tail w₃) c + more < 65536)
-        number-asked gs {c} e more b =
-            let i : c ≡ h = e ∙ trail-length h r in
+        pub number-asked : Goals n goals → (more : ℕ) → more ≤ 7 → (area ≤ length w₃) × (c < mostNodes) × (baseOf (tail w₃) c + more < 65536)
+        number-asked gs more b =
             let base = base-most (H .ready) t (I .few) gs (H .numbered) h (omega arith) in (
               omega (arith, size₃, P .ready .size),
-              omega (arith, i, room),
-              rw i (omega (arith, b, same₃ (basesAt + h) (omega (arith, room)), P .kept (trailAt + (basesAt + h)) (inr (inr (inl (omega arith, omega (arith, room))))), base)),
+              omega (arith, at-end, room),
+              rw at-end (omega (arith, b, base₃, base)),
             )
 
-        module _ {c : ℕ} {w₄ : List ℕ} (more : ℕ) (C : c ≡ length (gOf w)) (B₀ : w₄ ≡ baseSet w₃ c more) where
+        module _ {w₄ : List ℕ} (more : ℕ) (B₀ : w₄ ≡ baseSet w₃ c more) where
           pub based-own : w₄ ≡ baseSet w₃ h more
-          based-own = subst (λ (k : ℕ). w₄ ≡ baseSet w₃ k more) (C ∙ trail-length h r) B₀
+          based-own = subst (λ (k : ℕ). w₄ ≡ baseSet w₃ k more) at-end B₀
 
           other₄ : (i : ℕ) → (i ≡ trailAt + (basesAt + (h + 1)) → ⊥) → getD w₄ i 0 ≡ getD w₃ i 0
           other₄ i d = rw based-own (getD-set-other w₃ (trailAt + (basesAt + (h + 1))) i (baseOf (tail w₃) h + more) 0 d)
@@ -251,8 +249,7 @@ module _ {x goals w m m₀ : List ℕ} {n l : ℕ} (I : Indexed x n) (H : Holds 
                 few = omega (arith, z, H .waiting .few);
                 over = λ k i.
                     rw list₄
-                    (value-stays (gOf w) l (f .1) (getD goals k 0) holds (λ o. let z : _≡_ {A = ℕ} 0 1 = cc in omega arith)
-                    (H .waiting .over k (omega (arith, i, z))));
+                    (holds-stays (gOf w) l (f .1) (getD goals k 0) (H .waiting .over k (omega (arith, i, z))));
               }
 
           -- ---- at the end
@@ -261,25 +258,24 @@ module _ {x goals w m m₀ : List ℕ} {n l : ℕ} (I : Indexed x n) (H : Holds 
             abbrev r₅ : ℕ → ℕ
             r₅ = tail w₅
 
+            tail₅ : (i : ℕ) → (trailAt + i ≡ deniedAt → ⊥) → r₅ i ≡ tail w₄ i
+            tail₅ i d = A .other (trailAt + i) (λ e. omega (arith, e)) d
+
             same₅ : (i : ℕ) → trailAt + i < deniedAt → (i ≡ basesAt + (h + 1) → ⊥) → r₅ i ≡ r₁ i
-            same₅ i b d = A .other (trailAt + i) (λ e. omega (arith, e)) (λ e. omega (arith, e, b)) ∙ same₄ i (omega (arith, b)) d
+            same₅ i b d = tail₅ i (λ e. omega (arith, e, b)) ∙ same₄ i (omega (arith, b)) d
 
             pub ready₅ : Ready n w₅
             ready₅ =
-                ready-same (I .few) ready₄ (A .size) (λ i k. A .other (trailAt + i) (λ e. omega (arith, e)) (λ e. omega (arith, e, k)))
-                (λ k i. A .other (trailAt + (valuesAt + k)) (λ e. omega (arith, e)) (λ e. omega (arith, e, i)))
+                ready-same (I .few) ready₄ (A .size) (λ i k. tail₅ i (λ e. omega (arith, e, k))) (λ k i. tail₅ (valuesAt + k) (λ e. omega (arith, e, i)))
 
             pub list₅ : gOf w₅ ≡ l ∷ gOf w
-            list₅ = held-still (I .few) (ready₄ .trail) (λ i k. A .other (trailAt + i) (λ e. omega (arith, e)) (λ e. omega (arith, e, k))) ∙ list₄
+            list₅ = held-still (I .few) (ready₄ .trail) (λ i k. tail₅ i (λ e. omega (arith, e, k))) ∙ list₄
 
             count₅ : r₅ 0 ≡ suc h
             count₅ = same₅ 0 (omega arith) (λ e. omega (arith, e)) ∙ P .count
 
             lits₅ : (q : ℕ) → q < h → litAt r₅ q ≡ litAt r q
             lits₅ q i = same₅ (literalsAt + q) (omega (arith, i, room)) (λ e. omega (arith, e, i, room)) ∙ lits₁ q i
-
-            top₅ : litAt r₅ h ≡ l
-            top₅ = same₅ (literalsAt + h) (omega (arith, room)) (λ e. omega (arith, e, room)) ∙ P .top
 
             trail₅ : (q : ℕ) → q ≤ h → trail q r₅ ≡ trail q r
             trail₅ q i = trail-same q r₅ r (λ k b. lits₅ k (omega arith))
@@ -295,11 +291,17 @@ module _ {x goals w m m₀ : List ℕ} {n l : ℕ} (I : Indexed x n) (H : Holds 
             states₅ : (q : ℕ) → q < suc h → statesAt t (gOf w₅) r₅ q ≡ statesAt t (gOf w₃) (tail w₃) q
             states₅ q i = ap (λ (G : List ℕ). statesOf t G (litAt r₅ q)) lists₅ ∙ ap (statesOf t (gOf w₃)) (literal₅ q i)
 
+            codes₅ : (q : ℕ) → codeAt r₅ q ≡ codeAt (tail w₄) q
+            codes₅ q = tail₅ (codesAt + q) (λ e. omega (arith, e))
+
             code₅ : (q : ℕ) → codeAt r₅ q ≡ codeAt (tail w₃) q
-            code₅ q = A .other (trailAt + (codesAt + q)) (λ e. omega (arith, e)) (λ e. omega (arith, e)) ∙ other₄ (trailAt + (codesAt + q)) (λ e. omega (arith, e, room))
+            code₅ q = codes₅ q ∙ other₄ (trailAt + (codesAt + q)) (λ e. omega (arith, e, room))
+
+            conflicts₅ : conflictOf w₅ ≡ conflictOf w₄
+            conflicts₅ = A .other 1 (λ e. omega (arith, e)) (λ e. omega (arith, e))
 
             conflict₅ : conflictOf w₅ ≡ conflictOf w₃
-            conflict₅ = A .other 1 (λ e. omega (arith, e)) (λ e. omega (arith, e)) ∙ other₄ 1 (λ e. omega (arith, e))
+            conflict₅ = conflicts₅ ∙ other₄ 1 (λ e. omega (arith, e))
 
             cursor₅ : cursorOf w₅ ≡ cursorOf w
             cursor₅ = A .other 0 (λ e. omega (arith, e)) (λ e. omega (arith, e)) ∙ cell₄ 0 (omega arith) (λ e. omega (arith, e))
@@ -320,9 +322,6 @@ module _ {x goals w m m₀ : List ℕ} {n l : ℕ} (I : Indexed x n) (H : Holds 
                 let c : tail w₃ 0 ≡ suc h = same₃ 0 (omega arith) ∙ P .count in
                 rw conflict₅ (closed-still t (gOf w₃) (gOf w₅) (tail w₃) r₅ (conflictOf w₃) (count₅ ∙ sym c) (λ q i. states₅ q (omega (arith, i, c))) (K .closed))
 
-            clear₅ : (q : ℕ) → r₅ 0 ≤ q → q < positions → member m₃ q ≡ 0
-            clear₅ q i b = clear₄ q (omega (arith, i, count₅)) b
-
             -- met clauses stay so
             met₅ : AllMet t (gOf w₅) r₅ (cursorOf w₅)
             met₅ q i =
@@ -332,7 +331,8 @@ module _ {x goals w m m₀ : List ℕ} {n l : ℕ} (I : Indexed x n) (H : Holds 
             cursors₅ : (q : ℕ) → q < r₅ 0 → (cursorAt r₅ q ≤ q) × AllMet t (trail q r₅) r₅ (cursorAt r₅ q)
             cursors₅ q i = go (ℕ-discrete q h)
               where
-                cursor-is : (c : ℕ) → cursorAt r₅ q ≡ c → c ≤ h → (c ≤ q) × AllMet t (trail q r) r c → (cursorAt r₅ q ≤ q) × AllMet t (trail q r₅) r₅ (cursorAt r₅ q)
+                cursor-is : (c : ℕ) → cursorAt r₅ q ≡ c → c ≤ h → (c ≤ q) × AllMet t (trail q r) r c
+                    → (cursorAt r₅ q ≤ q) × AllMet t (trail q r₅) r₅ (cursorAt r₅ q)
                 cursor-is c e k (a, b) = (
                   omega (arith, e, a),
                   λ p y.
@@ -349,15 +349,13 @@ module _ {x goals w m m₀ : List ℕ} {n l : ℕ} (I : Indexed x n) (H : Holds 
                     let b : q < h = omega (arith, i, count₅, e) in
                     let c = H .cursors q b in
                     cursor-is (cursorAt r q)
-                    (same₅ (cursorsAt + q) (omega (arith, room, b)) (λ y. omega (arith, y, room, b)) ∙ P .kept (trailAt + (cursorsAt + q)) (inr (inr (inr (omega arith, λ y. e (omega (arith, y)))))))
+                    (same₅ (cursorsAt + q) (omega (arith, room, b)) (λ y. omega (arith, y, room, b))
+                    ∙ P .kept (trailAt + (cursorsAt + q)) (inr (inr (inr (omega arith, λ y. e (omega (arith, y)))))))
                     (omega (arith, c .0, b)) c
 
             numbered₅ : Numbered t goals r₅
             numbered₅ q i = go (ℕ-discrete q (suc h))
               where
-                base₃ : baseOf (tail w₃) h ≡ baseOf r h
-                base₃ = same₃ (basesAt + h) (omega (arith, room)) ∙ P .kept (trailAt + (basesAt + h)) (inr (inr (inl (omega arith, omega (arith, room)))))
-
                 go : Dec (q ≡ suc h) → baseOf r₅ q ≡ length (clauses (expand t) goals (trail q r₅))
                 go (yes e) =
                     ap (baseOf r₅) (e ∙ sym (add-one h)) ∙ A .other (trailAt + (basesAt + (h + 1))) (λ y. omega (arith, y)) (λ y. omega (arith, y, room)) ∙ base₄
@@ -372,16 +370,13 @@ module _ {x goals w m m₀ : List ℕ} {n l : ℕ} (I : Indexed x n) (H : Holds 
                     ∙ P .kept (trailAt + (basesAt + q)) (inr (inr (inl (omega arith, omega (arith, b, room)))))
                     ∙ H .numbered q b ∙ ap (λ (F : List ℕ). length (clauses (expand t) goals F)) (sym (trail₅ q b))
 
-            waiting₅ : Waiting goals (gOf w₅) (waitingOf w₅)
-            waiting₅ = rw (list₅, ← list₄) (A .waiting)
-
             -- where none waited, all goals were true; else none was false, and the negation of l is none of them
             denied₅ : deniedOf w₅ ≡ 0 → NoneDenied goals (gOf w₅)
             denied₅ z = subst (NoneDenied goals) (sym list₅) (⊎-elim true-all apart (A .denied z))
               where
                 before : deniedOf w₄ ≡ deniedOf w
                 before =
-                    other₄ deniedAt (λ e. omega (arith, e, room)) ∙ K .beside .other deniedAt (λ e. omega (arith, e)) (omega arith) ∙ R .beside .other deniedAt (λ e. omega (arith, e)) (omega arith)
+                    other₄ deniedAt (λ e. omega (arith, e, room)) ∙ beside₃ .other deniedAt (λ e. omega (arith, e)) (omega arith)
                     ∙ P .kept deniedAt (inr (inr (inr (omega arith, λ e. omega (arith, e, room)))))
 
                 true-all : waitingOf w₄ ≡ 0 → NoneDenied goals (l ∷ gOf w)
@@ -394,68 +389,44 @@ module _ {x goals w m m₀ : List ℕ} {n l : ℕ} (I : Indexed x n) (H : Holds 
             -- ---- after the set is tidied
 
             module _ {m₄ : List ℕ} {u : ℕ} (Z₄ : Tidied w₄ m₃ m₄ u) where
-              codes₅ : (q : ℕ) → codeAt r₅ q ≡ codeAt (tail w₄) q
-              codes₅ q = A .other (trailAt + (codesAt + q)) (λ e. omega (arith, e)) (λ e. omega (arith, e))
-
               values₅ : (q : ℕ) → valueOf (gOf w₅) (codeAt r₅ q % 4096) ≡ valueOf (gOf w₄) (codeAt (tail w₄) q % 4096)
               values₅ q = rw (codes₅ q, list₅, list₄)
-
-              conflicts₅ : conflictOf w₅ ≡ conflictOf w₄
-              conflicts₅ = A .other 1 (λ e. omega (arith, e)) (λ e. omega (arith, e))
-
-              Z : Tidied w₅ m₃ m₄ u
-              Z = record {
-                dropped = record {
-                  units = Z₄ .dropped .units;
-                  less = Z₄ .dropped .less;
-                  from = Z₄ .dropped .from;
-                  kept = λ q i y v. Z₄ .dropped .kept q i y (sym (values₅ q) ∙ v);
-                };
-                first = λ d q y. values₅ q ∙ Z₄ .first (omega (arith, d, conflicts₅)) q y;
-                next = λ y. let (a, b, c) = Z₄ .next y in (omega (arith, a, conflicts₅), b, codes₅ _ ∙ c);
-              }
 
               entered₆ : (q : ℕ) → q < r₅ 0 → Entered t (gOf w₅) r₅ (conflictOf w₅) m₄ q
               entered₆ q i = record {
                 unit = λ d y.
-                    let (a, b) = entered₅ q i .unit d y in
-                    (Z .dropped .kept q (omega (arith, i, count₅, room)) a (rw (b .literal) (first-undecided (gOf w₅) (expand t (litAt r₅ q)) y)), b);
+                    let (a, b) = entered₅ q i .unit d y in (
+                      Z₄ .dropped .kept q (omega (arith, i, count₅, room)) a
+                          (sym (values₅ q) ∙ rw (b .literal) (first-undecided (gOf w₅) (expand t (litAt r₅ q)) y)),
+                      b,
+                    );
                 conflict = entered₅ q i .conflict;
               }
 
               late₆ : (q : ℕ) → q < r₅ 0 → Late t n (gOf w₅) r₅ (conflictOf w₅) m₄ q
               late₆ q i =
                   let b : q < positions = omega (arith, i, count₅, room) in
-                  record { low = λ y. late₅ q i .low (Z .dropped .from q b y); live = λ d y v. late₅ q i .live d (Z .dropped .from q b y) v }
+                  record { low = λ y. late₅ q i .low (Z₄ .dropped .from q b y); live = λ d y v. late₅ q i .live d (Z₄ .dropped .from q b y) v }
 
               pub assumed : Holds t n goals w₅ m₄
               assumed = record {
                 ready = ready₅;
                 numbered = numbered₅;
-                units = Z .dropped .units;
+                units = Z₄ .dropped .units;
                 entered = entered₆;
                 late = late₆;
-                first = Z .first;
-                clear = λ q i b. Z .dropped .less q b (clear₅ q i b);
+                first = λ d q y. values₅ q ∙ Z₄ .first (omega (arith, d, conflicts₅)) q y;
+                clear = λ q i b. Z₄ .dropped .less q b (clear₄ q (omega (arith, i, count₅)) b);
                 closed = closed₅;
                 cursor = omega (arith, cursor₅, H .cursor, count₅);
                 met-before = met₅;
                 cursors = cursors₅;
-                waiting = waiting₅;
+                waiting = rw (list₅, ← list₄) (A .waiting);
                 denied = denied₅;
               }
 
               pub picked : waitingOf w₅ ≡ 0 → Picks w₅ m₄ u
-              picked e d = let (a, b, c) = Z .next d in record { waiting = e; free = a; first = b; kept = c }
-
--- where no goal waits, none is waited for
-pub awaited-none : {goals w : List ℕ} {l : ℕ} → Served goals w → waitingOf w ≡ 0 → Awaited goals l w w
-awaited-none {goals} {w} v e = record {
-  size = refl;
-  waiting = record { few = omega (arith, e); over = v .over; on = λ z. absurd (z e) };
-  denied = λ z. inl e;
-  other = λ i d k. refl;
-}
+              picked e d = let (a, b, c) = Z₄ .next d in record { waiting = e; free = omega (arith, a, conflicts₅); first = b; kept = codes₅ _ ∙ c }
 
 -- all of it together
 module _ {x goals w m m₀ w′ m′ : List ℕ} {n l u : ℕ} (I : Indexed x n) (H : Holds (indexNode x) n goals w m) (N : Taken w m l m₀) (f : Fresh n (gOf w) l)
@@ -464,23 +435,37 @@ module _ {x goals w m m₀ w′ m′ : List ℕ} {n l u : ℕ} (I : Indexed x n)
   C = sym (trail-length (tail w 0) (tail w))
 
   pub ready-attached : Ready n w′
-  ready-attached = ready₄ I H N f (a .pushed) (a .own) (a .parents) (a .more) C (a .based)
+  ready-attached = ready₄ I H N f C (a .pushed) (a .own) (a .parents) (a .more) (a .based)
 
   pub served-attached : Served goals w′
-  served-attached = served I H N f (a .pushed) (a .own) (a .parents) (a .more) C (a .based)
+  served-attached = served I H N f C (a .pushed) (a .own) (a .parents) (a .more) (a .based)
 
-  pub waiting-attached : waitingOf w′ ≡ waitingOf w
-  waiting-attached = cell₄ I H N f (a .pushed) (a .own) (a .parents) (a .more) C (a .based) 2 (omega arith) (λ e. omega (arith, e))
+  pub list-now : gOf w′ ≡ l ∷ gOf w
+  list-now = list₄ I H N f C (a .pushed) (a .own) (a .parents) (a .more) (a .based)
 
   module _ {w″ : List ℕ} (A : Awaited goals l w′ w″) where
     pub holds-attached : Holds (indexNode x) n goals w″ m′
-    holds-attached = assumed I H N f (a .pushed) (a .own) (a .parents) (a .more) C (a .based) A (a .clauses) (a .tidied)
+    holds-attached = assumed I H N f C (a .pushed) (a .own) (a .parents) (a .more) (a .based) A (a .clauses) (a .tidied)
 
     pub list-attached : gOf w″ ≡ l ∷ gOf w
-    list-attached = list₅ I H N f (a .pushed) (a .own) (a .parents) (a .more) C (a .based) A (a .clauses)
+    list-attached = list₅ I H N f C (a .pushed) (a .own) (a .parents) (a .more) (a .based) A (a .clauses)
 
     pub picks-attached : waitingOf w″ ≡ 0 → Picks w″ m′ u
-    picks-attached = picked I H N f (a .pushed) (a .own) (a .parents) (a .more) C (a .based) A (a .clauses) (a .tidied)
+    picks-attached = picked I H N f C (a .pushed) (a .own) (a .parents) (a .more) (a .based) A (a .clauses) (a .tidied)
+
+  -- where no goal waits, none is waited for
+  module _ (e : waitingOf w ≡ 0) where
+    none-waits : waitingOf w′ ≡ 0
+    none-waits = cell₄ I H N f C (a .pushed) (a .own) (a .parents) (a .more) (a .based) 2 (omega arith) (λ e. omega (arith, e)) ∙ e
+
+    pub holds-joined : Holds (indexNode x) n goals w′ m′
+    holds-joined = holds-attached (awaited-none served-attached none-waits)
+
+    pub list-joined : gOf w′ ≡ l ∷ gOf w
+    list-joined = list-attached (awaited-none served-attached none-waits)
+
+    pub picks-joined : Picks w′ m′ u
+    picks-joined = picks-attached (awaited-none served-attached none-waits) none-waits
 
 -- ---- what is taken out of the set
 
@@ -497,11 +482,11 @@ pub taken-none : {w m : List ℕ} {l : ℕ} → Units m → Taken w m l m
 taken-none u = record { units = u; same = λ q i. inl refl }
 
 -- a position that forces l
-pub taken-one : {w m m₀ : List ℕ} {l q : ℕ} → member m q ≡ 1 → codeAt (tail w) q % 4096 ≡ l → Putted m q 0 m₀ → Taken w m l m₀
-taken-one {w} {m} {m₀} {l} {q} y k p = record { units = p .units; same = λ j i. go j i (ℕ-discrete j q) }
+pub taken-one : {w m m₀ : List ℕ} {k l q : ℕ} → member m q ≡ 1 → k ≡ codeAt (tail w) q → k % 4096 ≡ l → Putted m q 0 m₀ → Taken w m l m₀
+taken-one {w} {m} {m₀} {k} {l} {q} y c d p = record { units = p .units; same = λ j i. go j i (ℕ-discrete j q) }
   where
     go : (j : ℕ) → j < positions → Dec (j ≡ q) → (member m₀ j ≡ member m j) ⊎ ((member m₀ j ≡ 0) × (member m j ≡ 1) × (codeAt (tail w) j % 4096 ≡ l))
-    go j i (yes e) = inr (rw e (p .here), rw e y, rw e k)
+    go j i (yes e) = inr (rw e (p .here), rw e y, rw (e, ← c) d)
     go j i (no e) = inl (p .other j i e)
 
 -- the unit that is the next move
@@ -523,4 +508,4 @@ module _ {t : ℕ → Node} {n u : ℕ} {goals w m : List ℕ} (few : n ≤ most
   picked-fresh = (omega (arith, at-literal, H .late at at-held .low (k .first .here)), rw at-literal at (H .first (k .free) at (k .first)))
 
   pub picked-taken : {m₀ : List ℕ} → Putted m at 0 m₀ → Taken w m (u % 4096) m₀
-  picked-taken = taken-one (k .first .here) at-literal
+  picked-taken = taken-one (k .first .here) refl at-literal

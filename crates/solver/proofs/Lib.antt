@@ -6,3 +6,4 @@ pub mod Lives
 pub mod Settles
 pub mod Assumes
 pub mod Undoes
+pub mod Goals

@@ -9,7 +9,7 @@ use Rattle.units.specs.Units.{positions, member, Units, Empty, Putted, First}
 use Rattle.index.specs.Index.{mostNodes}
 use Rattle.state.specs.Work.{tail, codeAt, conflictOf, gOf, valueCode}
 use Rattle.state.specs.Picked.{noUnit}
-use Rattle.solver.specs.Changes.{Dropped, Lived, Tidied}
+use Rattle.solver.specs.Changes.{Dropped, Forcing, Lived, Tidied}
 
 -- how many of the first k positions are in the set: the measure
 unfoldable pub sizeBelow : List ℕ → ℕ → ℕ
@@ -47,11 +47,19 @@ pub dropped-starts : {w m : List ℕ} → Units m → Dropped w m m
 dropped-starts u = record { units = u; less = λ q i e. e; from = λ q i e. e; kept = λ q i e y. e }
 
 module _ {w m₀ m : List ℕ} {q : ℕ} (d : Dropped w m₀ m) (f : First m q) where
-  pub was-in : member m₀ q ≡ 1
+  was-in : member m₀ q ≡ 1
   was-in = d .from q (f .low) (f .here)
 
-  pub dropped-goes : {m′ : List ℕ} {v : ℕ} → v ≡ valueCode (valueOf (gOf w) (codeAt (tail w) q % 4096)) → (v ≡ 0 → ⊥) → Putted m q 0 m′ → Dropped w m₀ m′
-  dropped-goes {m′} e z p = record {
+  -- what it forces is a literal of the nodes
+  pub forced-at : (n : ℕ) → Forcing n w m₀ → q < mostNodes
+  forced-at n F = F q (f .low) was-in .0
+
+  pub forced-low : (n : ℕ) {k : ℕ} → Forcing n w m₀ → k ≡ codeAt (tail w) q → k % 4096 < 2 * n
+  forced-low n F e = rw e (F q (f .low) was-in .1)
+
+  pub dropped-goes : {m′ : List ℕ} {k v : ℕ} → k ≡ codeAt (tail w) q → v ≡ valueCode (valueOf (gOf w) (k % 4096)) → (v ≡ 0 → ⊥) → Putted m q 0 m′
+      → Dropped w m₀ m′
+  dropped-goes {m′} {k} o e z p = record {
     units = p .units;
     less = λ j i y. less j i (d .less j i y) (ℕ-discrete j q);
     from = λ j i y. from j i y (ℕ-discrete j q);
@@ -67,7 +75,9 @@ module _ {w m₀ m : List ℕ} {q : ℕ} (d : Dropped w m₀ m) (f : First m q) 
       from j i y (no o) = d .from j i (sym (p .other j i o) ∙ y)
 
       kept : (j : ℕ) → j < positions → member m j ≡ 1 → valueOf (gOf w) (codeAt (tail w) j % 4096) ≡ undecided → Dec (j ≡ q) → member m′ j ≡ 1
-      kept j i y u (yes o) = absurd (z (e ∙ ap valueCode (ap (λ (k : ℕ). valueOf (gOf w) (codeAt (tail w) k % 4096)) (sym o) ∙ u)))
+      kept j i y u (yes a) =
+          let s : k ≡ codeAt (tail w) j = rw a o in
+          absurd (z (e ∙ ap (λ (i : ℕ). valueCode (valueOf (gOf w) (i % 4096))) s ∙ ap valueCode u))
       kept j i y u (no o) = p .other j i o ∙ y
 
   first-only : (j : ℕ) → First m j → j ≡ q

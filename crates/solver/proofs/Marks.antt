@@ -1,24 +1,25 @@
 -- A position is entered by its code. Assumes nothing.
 use mathlib.Core.Path.{_≡_, refl, sym, ap, _∙_, subst}
-use mathlib.Core.Bool.{Bool, true, false, false≢true, cond}
+use mathlib.Core.Bool.{Bool, true, false, false≢true}
 use mathlib.Core.Logic.{_⊎_, inl, inr}
 use mathlib.Core.List.{List}
 use Prim.Native.Nat.{ℕ, _+_, _-_, _*_, _/_, _%_, _<_, _≤_}
 use native.Mathlib.Omega.{arith}
 use native.Mathlib.Decide.{ℕ-discrete}
-use lib.Dec.{eqb}
 use lib.ListN.{length, getD, set, length-set}
 use lib.Seq.{getD-set-same, getD-set-other}
 use Rattle.scope.specs.declared.Node.{Node}
 use Rattle.scope.specs.Table.{operands}
-use Rattle.calculus.specs.Expansion.{neg, chosen}
+use Rattle.calculus.specs.Expansion.{chosen}
 use Rattle.calculus.specs.Order.{State, isEmpty, isOne, some, bit}
-use Rattle.calculus.specs.Model.{All, Table}
-use Rattle.calculus.proofs.Lists.{all-at}
+use Rattle.calculus.specs.Model.{Table}
+use Rattle.calculus.proofs.Lists.{all-imply}
+use Rattle.calculus.proofs.Literals.{neg-below}
+use Rattle.calculus.proofs.Fresh.{chosen-all}
 use Rattle.index.specs.Index.{mostNodes}
 use Rattle.units.specs.Units.{member, Units}
 use Rattle.clause.specs.Coded.{statesOf, Coded}
-use Rattle.state.specs.Work.{tail, litAt, entryOf, codeAt, gOf, conflictOf, Ready, trailAt, literalsAt, valuesAt, codesAt}
+use Rattle.state.specs.Work.{tail, litAt, entryOf, codeAt, gOf, conflictOf, Ready, trailAt, literalsAt, valuesAt, codesAt, area}
 use Rattle.state.specs.Holds.{statesAt, Forces, Entered, Late, Closed}
 use Rattle.state.proofs.Areas.{count-most, held-still, ready-same}
 use Rattle.solver.specs.Changes.{Beside, Lowered, Flagged, Renewed, Visited}
@@ -30,18 +31,6 @@ bit-true false e = absurd (omega arith)
 bit-false : (b : Bool) → (bit b ≡ 1 → ⊥) → b ≡ false
 bit-false true e = absurd (e refl)
 bit-false false e = refl
-
--- a choice of an operand is below what the operands are
-chosen-under : (i : ℕ) (x : Node) → All (λ l. l / 2 < i) (operands x) → (c : ℕ) → c / 2 < length (operands x) → chosen x c / 2 < i
-unfolding chosen
-chosen-under i x h c k = go (eqb (c % 2) 0) (all-at (λ l. l / 2 < i) (operands x) (c / 2) 0 h k)
-  where
-    l : ℕ
-    l = getD (operands x) (c / 2) 0
-
-    go : (p : Bool) → l / 2 < i → cond p l (neg l) / 2 < i
-    go true b = b
-    go false b = omega arith
 
 pub beside-same : (w : List ℕ) → Beside w w
 beside-same w = record { size = refl; other = λ i e k. refl }
@@ -88,9 +77,9 @@ closed-still t G G′ r r′ c n z o i = let (a, b) = o i in (omega (arith, a, n
 
 -- ---- what `conflict` and `unit` do
 
-pub lowered-here : (w : List ℕ) (q : ℕ) → 1 < length w → q < conflictOf w → Lowered w q (set w 1 q)
-lowered-here w q size k =
-    let e : getD (set w 1 q) 1 0 ≡ q = getD-set-same w 1 q 0 size in
+pub lowered-here : {w : List ℕ} {q : ℕ} → area ≤ length w → q < conflictOf w → Lowered w q (set w 1 q)
+lowered-here {w} {q} size k =
+    let e : getD (set w 1 q) 1 0 ≡ q = getD-set-same w 1 q 0 (omega (arith, size)) in
     record {
       size = length-set w 1 q;
       other = λ i d. getD-set-other w 1 i q 0 d;
@@ -99,10 +88,13 @@ lowered-here w q size k =
       from = inr e;
     }
 
-pub lowered-before : (w : List ℕ) (q : ℕ) → conflictOf w ≤ q → Lowered w q w
-lowered-before w q k = record { size = refl; other = λ i d. refl; lower = omega arith; least = k; from = inl refl }
+pub lowered-before : {w : List ℕ} {q : ℕ} → conflictOf w ≤ q → Lowered w q w
+lowered-before k = record { size = refl; other = λ i d. refl; lower = omega arith; least = k; from = inl refl }
 
 -- ---- a position is entered, by what the states of its clauses are
+
+pub held-low : {n : ℕ} {w : List ℕ} {q : ℕ} → n ≤ mostNodes → Ready n w → q < tail w 0 → q < mostNodes
+held-low few h b = omega (arith, b, count-most h, few)
 
 module _ (t : ℕ → Node) {n : ℕ} {w : List ℕ} {q : ℕ} (few : n ≤ mostNodes) (h : Ready n w) (b : q < tail w 0) where
   abbrev r : ℕ → ℕ
@@ -111,9 +103,6 @@ module _ (t : ℕ → Node) {n : ℕ} {w : List ℕ} {q : ℕ} (few : n ≤ most
   abbrev ss : List State
   ss = statesAt t (gOf w) r q
 
-  low : q < mostNodes
-  low = omega (arith, b, count-most h, few)
-
   -- a clause is all false
   pub renewed-empty : {m w′ : List ℕ} → Units m → some isEmpty ss ≡ true → Lowered w q w′ → Renewed t n w m q w′ m
   renewed-empty {m} {w′} u y k = record {
@@ -121,8 +110,8 @@ module _ (t : ℕ → Node) {n : ℕ} {w : List ℕ} {q : ℕ} (few : n ≤ most
     units = u;
     lower = k .lower;
     closed = λ o. closed-still t (gOf w) (gOf w′) r (tail w′) (conflictOf w′) (still-at few h beside 0 (omega arith)) (still-states few h beside t) (go o (k .from));
-    here = record { unit = λ f o. absurd (omega (arith, f, k .least, low)); conflict = λ o. k .least };
-    late = λ e. record { low = λ o. rw (code q) (e .low o); live = λ f o v. absurd (omega (arith, f, k .least, low)) };
+    here = record { unit = λ f o. absurd (omega (arith, f, k .least, held-low few h b)); conflict = λ o. k .least };
+    late = λ e. record { low = λ o. rw (code q) (e .low o); live = λ f o v. absurd (omega (arith, f, k .least, held-low few h b)) };
     else = λ j i d. (refl, code j);
   }
     where
@@ -161,7 +150,7 @@ module _ (t : ℕ → Node) {n : ℕ} {w : List ℕ} {q : ℕ} (few : n ≤ most
       other j d = rw (g .stored) (getD-set-other w (trailAt + (codesAt + q)) j k 0 d)
 
       stored : codeAt (tail w′) q ≡ k
-      stored = rw (g .stored) (getD-set-same w (trailAt + (codesAt + q)) k 0 (omega (arith, h .size, low)))
+      stored = rw (g .stored) (getD-set-same w (trailAt + (codesAt + q)) k 0 (omega (arith, h .size, held-low few h b)))
 
       beside : Beside w w′
       beside = record { size = rw (g .stored) (length-set w (trailAt + (codesAt + q)) k); other = λ j d o. other j (λ e. omega (arith, e, o)) }
@@ -190,46 +179,65 @@ module _ (t : ℕ → Node) {n : ℕ} (T : Table n t) {w : List ℕ} {q p : ℕ}
   abbrev states : List State
   states = statesAt t (gOf w) (tail w) q
 
-  pub code-empty : code / 2 % 2 ≡ 1 → some isEmpty states ≡ true
-  code-empty e = bit-true (some isEmpty states) (sym (c .conflict) ∙ e)
+  one : code % 2 ≡ 1 → some isOne states ≡ true
+  one e = bit-true (some isOne states) (sym (c .unit) ∙ e)
 
-  pub code-fine : (code / 2 % 2 ≡ 1 → ⊥) → some isEmpty states ≡ false
-  code-fine e = bit-false (some isEmpty states) (λ y. e (c .conflict ∙ y))
+  fine : (code / 2 % 2 ≡ 1 → ⊥) → some isEmpty states ≡ false
+  fine e = bit-false (some isEmpty states) (λ y. e (c .conflict ∙ y))
 
-  pub code-one : code % 2 ≡ 1 → some isOne states ≡ true
-  code-one e = bit-true (some isOne states) (sym (c .unit) ∙ e)
+  pub coded-empty : {m w′ : List ℕ} → Units m → code / 2 % 2 ≡ 1 → Lowered w q w′ → Renewed t n w m q w′ m
+  coded-empty u e = renewed-empty t few h b u (bit-true (some isEmpty states) (sym (c .conflict) ∙ e))
 
-  pub code-none : (code % 2 ≡ 1 → ⊥) → some isOne states ≡ false
-  code-none e = bit-false (some isOne states) (λ y. e (c .unit ∙ y))
+  pub coded-same : {m : List ℕ} → Units m → (code / 2 % 2 ≡ 1 → ⊥) → (code % 2 ≡ 1 → ⊥) → Renewed t n w m q w m
+  coded-same u d e = renewed-same t few h b u (fine d) (bit-false (some isOne states) (λ y. e (c .unit ∙ y)))
 
-  pub choice-low : code % 2 ≡ 1 → code / 32 % 8 / 2 < length (operands (t p))
-  choice-low e = c .unit-literal (code-one e) .0
+  module _ (e : code % 2 ≡ 1) where
+    pub choice-low : code / 32 % 8 / 2 < length (operands (t p))
+    choice-low = c .unit-literal (one e) .0
 
-  chosen-low : code % 2 ≡ 1 → chosen (t p) (code / 32 % 8) < 2 * n
-  chosen-low e = omega (arith, chosen-under p (t p) (T .earlier p i) (code / 32 % 8) (choice-low e), i)
+    module _ {l : ℕ} (v : l ≡ chosen (t p) (code / 32 % 8)) where
+      abbrev kept : ℕ
+      kept = l + 4096 * (code / 8 % 4)
 
-  module _ (e : code % 2 ≡ 1) {l : ℕ} (v : l ≡ chosen (t p) (code / 32 % 8)) where
-    pub code-low : (l + 4096 * (code / 8 % 4)) % 4096 < 2 * n
-    code-low = omega (arith, v, chosen-low e, few)
+      low : l < 2 * n
+      low =
+          rw v (chosen-all (λ l. l < 2 * n) (neg-below n) (t p)
+          (all-imply (λ l. l / 2 < p) (λ l. l < 2 * n) (λ l y. omega (arith, y, i)) (operands (t p)) (T .earlier p i)) (code / 32 % 8) choice-low)
 
-    pub code-small : l < 4096
-    code-small = omega (arith, v, chosen-low e, few)
+      pub code-small : l < 4096
+      code-small = omega (arith, low, few)
 
-    pub code-forces : Forces states (l + 4096 * (code / 8 % 4))
-    code-forces = record {
-      column = div ∙ c .unit-clause (code-one e);
-      literal = rem ∙ c .unit-literal (code-one e) .1;
-    }
-      where
-        div : (l + 4096 * (code / 8 % 4)) / 4096 ≡ code / 8 % 4
-        div = omega (arith, code-small)
+      forces : Forces states kept
+      forces = record {
+        column = div ∙ c .unit-clause (one e);
+        literal = rem ∙ v ∙ c .unit-literal (one e) .1;
+      }
+        where
+          div : kept / 4096 ≡ code / 8 % 4
+          div = omega (arith, code-small)
 
-        rem : (l + 4096 * (code / 8 % 4)) % 4096 ≡ chosen (t p) (code / 32 % 8)
-        rem = omega (arith, v, code-small)
+          rem : kept % 4096 ≡ l
+          rem = omega (arith, code-small)
+
+      pub coded-unit : {m w′ m′ : List ℕ} → (code / 2 % 2 ≡ 1 → ⊥) → Flagged w m q kept w′ m′ → Renewed t n w m q w′ m′
+      coded-unit d = renewed-unit t few h b (fine d) (one e) forces (omega (arith, low, few))
 
 -- ---- what `visit` does
 
-module _ (t : ℕ → Node) {n : ℕ} {w : List ℕ} {p : ℕ} (h : Ready n w) (b : p < n) where
+-- nothing, where the position is entered
+pub visited-same : {t : ℕ → Node} {n p : ℕ} {w m : List ℕ} → Units m
+    → ((q : ℕ) → q < tail w 0 → litAt (tail w) q / 2 ≡ p → Entered t (gOf w) (tail w) (conflictOf w) m q) → Visited t n w m p w m
+visited-same {w = w} u here = record {
+  beside = beside-same w;
+  units = u;
+  lower = omega arith;
+  closed = λ k. k;
+  here = here;
+  late = λ q i e. e;
+  else = λ q i k. (refl, refl);
+}
+
+module _ {n : ℕ} {w : List ℕ} {p : ℕ} (h : Ready n w) (b : p < n) where
   abbrev r₀ : ℕ → ℕ
   r₀ = tail w
 
@@ -238,16 +246,8 @@ module _ (t : ℕ → Node) {n : ℕ} {w : List ℕ} {p : ℕ} (h : Ready n w) (
   only q i e = sym (ap (entryOf r₀) e) ∙ h .trail .place q i
 
   -- no literal of it is held
-  pub visited-none : {m : List ℕ} → Units m → entryOf r₀ p ≡ 0 → Visited t n w m p w m
-  visited-none u z = record {
-    beside = beside-same w;
-    units = u;
-    lower = omega arith;
-    closed = λ k. k;
-    here = λ q i e. absurd (omega (arith, only q i e, z));
-    late = λ q i e. e;
-    else = λ q i k. (refl, refl);
-  }
+  pub visited-none : {t : ℕ → Node} {m : List ℕ} {e : ℕ} → Units m → e ≡ entryOf r₀ p → e ≡ 0 → Visited t n w m p w m
+  visited-none u k z = visited-same u (λ q i e. absurd (omega (arith, only q i e, k, z)))
 
   module _ {e : ℕ} (entry : e ≡ entryOf r₀ p) (some-e : e ≡ 0 → ⊥) where
     abbrev at : ℕ
@@ -265,8 +265,8 @@ module _ (t : ℕ → Node) {n : ℕ} {w : List ℕ} {p : ℕ} (h : Ready n w) (
     at-only : (q : ℕ) → q < r₀ 0 → litAt r₀ q / 2 ≡ p → q ≡ at
     at-only q i k = omega (arith, only q i k, entry)
 
-    pub visited : n ≤ mostNodes → {m w′ m′ : List ℕ} → Renewed t n w m at w′ m′ → Visited t n w m p w′ m′
-    visited few {m} {w′} {m′} k = record {
+    pub visited : n ≤ mostNodes → {t : ℕ → Node} {m w′ m′ : List ℕ} → Renewed t n w m at w′ m′ → Visited t n w m p w′ m′
+    visited few {t} {m} {w′} {m′} k = record {
       beside = k .beside;
       units = k .units;
       lower = k .lower;

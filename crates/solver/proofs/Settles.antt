@@ -8,13 +8,17 @@ use Prim.Native.Nat.{ℕ, _+_, _-_, _*_, _<_, _≤_}
 use native.Mathlib.Omega.{arith}
 use native.Mathlib.Decide.{ℕ-discrete}
 use lib.ListN.{length, getD, set, length-set}
+use borrow.Author.Count.{below-more}
 use lib.Seq.{getD-set-same, getD-set-other}
 use Rattle.scope.specs.declared.Node.{Node}
 use Rattle.calculus.specs.Expansion.{neg}
 use Rattle.calculus.specs.Order.{Value, holds, fails, undecided, valueOf, isEmpty, isOne, some}
+use Rattle.calculus.specs.Model.{Goals}
+use Rattle.calculus.proofs.Lists.{all-at}
 use Rattle.units.specs.Units.{Units, Empty}
 use Rattle.trail.proofs.Trails.{trail-length}
-use Rattle.state.specs.Work.{tail, litAt, baseOf, cursorAt, gOf, trail, valueCode, cursorOf, waitingOf, held, Ready, Numbered, trailAt, literalsAt, basesAt, valuesAt, cursorsAt}
+use Rattle.state.specs.Work.{tail, litAt, baseOf, cursorAt, gOf, trail, valueCode, cursorOf, waitingOf, held, Ready, Numbered}
+use Rattle.state.specs.Work.{trailAt, literalsAt, basesAt, valuesAt, cursorsAt, area}
 use Rattle.state.specs.Holds.{Holds, AllMet, Waiting, statesAt, deniedAt, NoneDenied}
 use Rattle.state.specs.Changes.{Popped}
 use Rattle.state.proofs.Areas.{count-most, held-below, ready-same}
@@ -35,12 +39,20 @@ waiting-on k v i f e d = record {
   on = λ z. (k, i, λ y. d (e ∙ ap valueCode y));
 }
 
-pub waiting-over : {goals G : List ℕ} → ((k : ℕ) → k < length goals → valueOf G (getD goals k 0) ≡ holds) → Waiting goals G 0
-waiting-over f = record { few = omega arith; over = λ k b. f k (omega (arith, b)); on = λ z. absurd (z refl) }
+pub waiting-over : {goals G : List ℕ} {k : ℕ} → length goals ≤ k → ((i : ℕ) → i < k → valueOf G (getD goals i 0) ≡ holds) → Waiting goals G 0
+waiting-over d f = record { few = omega arith; over = λ i b. f i (omega (arith, b, d)); on = λ z. absurd (z refl) }
+
+-- one goal more is true
+pub true-more : (goals G : List ℕ) {k v : ℕ} → ((i : ℕ) → i < k → valueOf G (getD goals i 0) ≡ holds) → v ≡ valueCode (valueOf G (getD goals k 0)) → v ≡ 1
+    → (i : ℕ) → i < k + 1 → valueOf G (getD goals i 0) ≡ holds
+true-more goals G f e z = below-more _ _ f (code-holds _ (sym e ∙ z))
+
+pub goal-low : {n k : ℕ} {goals : List ℕ} → Goals n goals → k < length goals → getD goals k 0 < 2 * n
+goal-low {n} {k} {goals} g i = all-at (λ l. l < 2 * n) goals k 0 (g .below) i
 
 -- ---- the cells are set
 
-module _ {w m′ : List ℕ} {c v : ℕ} (size : 2 < length w) (u : Units m′ × Empty m′) where
+module _ {w m′ : List ℕ} {c v : ℕ} (size : area ≤ length w) (u : Units m′ × Empty m′) where
   pub settled : Settled w c v (set (set (set w 0 c) 1 mostNodes) 2 v) m′
   settled = record {
     units = u;
@@ -48,8 +60,10 @@ module _ {w m′ : List ℕ} {c v : ℕ} (size : 2 < length w) (u : Units m′ �
     cursor =
         getD-set-other (set (set w 0 c) 1 mostNodes) 2 0 v 0 (λ e. omega (arith, e)) ∙ getD-set-other (set w 0 c) 1 0 mostNodes 0 (λ e. omega (arith, e))
         ∙ getD-set-same w 0 c 0 (omega (arith, size));
-    conflict = getD-set-other (set (set w 0 c) 1 mostNodes) 2 1 v 0 (λ e. omega (arith, e)) ∙ getD-set-same (set w 0 c) 1 mostNodes 0 (simp length-set (omega (arith, size)));
-    waiting = getD-set-same (set (set w 0 c) 1 mostNodes) 2 v 0 (simp length-set size);
+    conflict =
+        getD-set-other (set (set w 0 c) 1 mostNodes) 2 1 v 0 (λ e. omega (arith, e))
+        ∙ getD-set-same (set w 0 c) 1 mostNodes 0 (simp length-set (omega (arith, size)));
+    waiting = getD-set-same (set (set w 0 c) 1 mostNodes) 2 v 0 (simp length-set (omega (arith, size)));
     rest = λ i k.
         getD-set-other (set (set w 0 c) 1 mostNodes) 2 i v 0 (λ e. omega (arith, e, k)) ∙ getD-set-other (set w 0 c) 1 i mostNodes 0 (λ e. omega (arith, e, k))
         ∙ getD-set-other w 0 i c 0 (λ e. omega (arith, e, k));
@@ -108,21 +122,20 @@ pub record Leaving (n to : ℕ) (w₀ w : List ℕ) : Type 0 where
   pub bases : (q : ℕ) → q ≤ mostNodes → baseOf (tail w) q ≡ baseOf (tail w₀) q
   pub cursors : (q : ℕ) → cursorAt (tail w) q ≡ cursorAt (tail w₀) q
 
-pub leaving-starts : {n to : ℕ} {w : List ℕ} → Ready n w → to ≤ tail w 0 → Leaving n to w w
-leaving-starts h b = record { ready = h; size = refl; low = omega (arith, b); lits = λ q i. refl; bases = λ q i. refl; cursors = λ q. refl }
-
 module _ {n to : ℕ} {w₀ w : List ℕ} (few : n ≤ mostNodes) (v : Leaving n to w₀ w) {c : ℕ} (count : c ≡ length (gOf w)) where
   count-is : c ≡ tail w 0
   count-is = count ∙ trail-length (tail w 0) (tail w)
 
   module _ (b : to < c) where
     -- what `pop` asks
-    pub pop-asked : (Ready n w × (((n ≤ mostNodes) × (0 < tail w 0) × (tail w 0 ≤ mostNodes)) × (litAt (tail w) (tail w 0 - 1) < 2 * mostNodes)))
-    pop-asked =
-        let p : 0 < tail w 0 = omega (arith, count-is, b) in (
-          v .ready,
-          ((few, p, omega (arith, count-most (v .ready), few)), omega (arith, held-below (v .ready) (tail w 0 - 1) (omega (arith, p)), few)),
-        )
+    pub held-some : 0 < tail w 0
+    held-some = omega (arith, count-is, b)
+
+    pub held-few : tail w 0 ≤ mostNodes
+    held-few = omega (arith, count-most (v .ready), few)
+
+    pub newest-few : litAt (tail w) (tail w 0 - 1) < 2 * mostNodes
+    newest-few = omega (arith, held-below (v .ready) (tail w 0 - 1) (omega (arith, held-some)), few)
 
     pub leaving-goes : {w′ : List ℕ} → Popped n w w′ → Leaving n to w₀ w′
     leaving-goes k = record {
@@ -134,18 +147,10 @@ module _ {n to : ℕ} {w₀ w : List ℕ} (few : n ≤ mostNodes) (v : Leaving n
       cursors = λ q. k .kept (trailAt + (cursorsAt + q)) (inr (inr (inr (omega arith)))) ∙ v .cursors q;
     }
 
-    pub leaving-less : {w′ : List ℕ} → Popped n w w′ → tail w′ 0 < tail w 0
-    leaving-less k = omega (arith, k .count)
-
   pub leaving-ends : c ≤ to → Left n to w₀ w
-  leaving-ends d = record {
-    ready = v .ready;
-    size = v .size;
-    count = omega (arith, count-is, v .low, d);
-    lits = v .lits;
-    bases = v .bases;
-    cursors = v .cursors;
-  }
+  leaving-ends d =
+      let count : tail w 0 ≡ to = omega (arith, count-is, v .low, d) in
+      search
 
 -- ---- the goals are looked at anew
 
@@ -153,12 +158,12 @@ module _ {n to : ℕ} {w₀ w : List ℕ} (few : n ≤ mostNodes) (v : Leaving n
 pub awaited-none : {goals w : List ℕ} {l : ℕ} → Served goals w → waitingOf w ≡ 0 → Awaited goals l w w
 awaited-none {goals} {w} s z = record {
   size = refl;
-  waiting = rw z (waiting-over (λ k i. s .over k (omega (arith, i, z))));
+  waiting = rw z (waiting-over {k = length goals} (omega arith) (λ k i. s .over k (omega (arith, i, z))));
   denied = λ e. inl z;
   other = λ i d e. refl;
 }
 
-module _ {goals w : List ℕ} {l v : ℕ} (b : deniedAt < length w) (a : Waiting goals (gOf w) v) where
+module _ {goals w : List ℕ} {l v : ℕ} (b : area ≤ length w) (a : Waiting goals (gOf w) v) where
   -- the negation of l is none of them
   pub awaited-apart : Apart goals l → Awaited goals l w (set w 2 v)
   awaited-apart f = record {
@@ -171,7 +176,7 @@ module _ {goals w : List ℕ} {l v : ℕ} (b : deniedAt < length w) (a : Waiting
   -- it may be one of them
   pub awaited-denied : Awaited goals l w (set (set w 2 v) deniedAt 1)
   awaited-denied =
-      let size : deniedAt < length (set w 2 v) = simp length-set b in
+      let size : deniedAt < length (set w 2 v) = simp length-set (omega (arith, b)) in
       record {
         size = length-set (set w 2 v) deniedAt 1 ∙ length-set w 2 v;
         waiting = rw (getD-set-other (set w 2 v) deniedAt 2 1 0 (λ y. omega (arith, y)), getD-set-same w 2 v 0 (omega arith)) a;
@@ -186,11 +191,9 @@ pub record Denying (goals : List ℕ) (l : ℕ) (found : Bool) (j : ℕ) : Type 
   pub turns : j ≤ length goals
   pub apart : found ≡ false → (k : ℕ) → k < j → getD goals k 0 ≡ neg l → ⊥
 
-pub denying-none : (goals : List ℕ) (l : ℕ) → Denying goals l false 0
-denying-none goals l = record { turns = omega arith; apart = λ e k i. absurd (omega (arith, i)) }
-
 module _ {goals : List ℕ} {l j : ℕ} {found : Bool} (d : Denying goals l found j) where
-  pub denying-more : {other : ℕ} {r : Bool} → j < length goals → other ≡ neg l → (r ≡ false → (found ≡ false) × (getD goals j 0 ≡ other → ⊥)) → Denying goals l r (j + 1)
+  pub denying-more : {other : ℕ} {r : Bool} → j < length goals → other ≡ neg l → (r ≡ false → (found ≡ false) × (getD goals j 0 ≡ other → ⊥))
+      → Denying goals l r (j + 1)
   denying-more {r = r} h e f = record { turns = omega arith; apart = λ z k i. go z k i (ℕ-discrete k j) }
     where
       go : r ≡ false → (k : ℕ) → k < j + 1 → Dec (k ≡ j) → getD goals k 0 ≡ neg l → ⊥

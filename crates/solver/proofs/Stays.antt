@@ -1,25 +1,102 @@
 -- What stays of the clauses' states as a literal joins. Assumes nothing.
 use mathlib.Core.Path.{_≡_, refl, sym, ap, _∙_}
-use mathlib.Core.Bool.{Bool, true, false, cond, _||_, false≢true, or-true}
+use mathlib.Core.Bool.{Bool, true, false, cond, or-true}
 use mathlib.Core.Logic.{_⊎_, inl, inr, ⊎-elim}
 use mathlib.Core.List.{List, [], _∷_, map}
-use Prim.Native.Nat.{ℕ, suc, _+_, _*_, _/_, _%_, _<_}
+use Prim.Native.Nat.{ℕ, zero, suc, _+_, _*_, _/_, _%_, _<_}
 use native.Mathlib.Omega.{arith}
 use native.Mathlib.Decide.{ℕ-discrete}
 use lib.Dec.{eqb}
-use lib.ListN.{getD, drop}
+use lib.ListN.{length, getD, length-map}
 use Rattle.scope.specs.declared.Node.{Node}
 use Rattle.scope.specs.Table.{operands}
 use Rattle.scope.proofs.Operands.{arity-most, operands-length}
 use Rattle.calculus.specs.Expansion.{neg, chosen, expand}
-use Rattle.calculus.specs.Order.{Value, holds, fails, undecided, valueOf, State, met, empty, one, many, joined, stateOf, isEmpty, isOne, some, firstOf, literalAt}
+use Rattle.calculus.specs.Order.{Value, holds, fails, undecided, valueOf, State, met, empty, one, many, joined, stateOf}
+use Rattle.calculus.specs.Order.{literalOf, isEmpty, isOne, some, firstOf, literalAt}
 use Rattle.calculus.specs.Model.{All, Table}
 use Rattle.calculus.proofs.Lists.{all-map, all-imply, getD-map}
 use Rattle.calculus.proofs.Literals.{value-joined, value-other, undecided-neg}
+use Rattle.calculus.proofs.Moves.{first-found, empty-state, one-state}
+use Rattle.calculus.proofs.Complete.{joined-met}
 use Rattle.calculus.proofs.Rows.{rowOf, Within, row-within}
 use Rattle.index.specs.Index.{none, opNode}
 use Rattle.clause.specs.Coded.{statesOf}
 use Rattle.solver.specs.Changes.{Pending}
+
+-- the three values differ
+pub holds-fails : holds ≡ fails → ⊥
+holds-fails y = let z : _≡_ {A = ℕ} 0 1 = cc in omega arith
+
+pub holds-undecided : holds ≡ undecided → ⊥
+holds-undecided y = let z : _≡_ {A = ℕ} 0 1 = cc in omega arith
+
+pub fails-undecided : fails ≡ undecided → ⊥
+fails-undecided y = let z : _≡_ {A = ℕ} 0 1 = cc in omega arith
+
+-- ---- what a clause's state says of its first literal and of the others
+
+met-joined : (v : Value) (m : ℕ) → joined v m met ≡ met
+met-joined holds m = refl
+met-joined fails m = refl
+met-joined undecided m = refl
+
+joined-empty : (v : Value) (m : ℕ) (s : State) → joined v m s ≡ empty → (v ≡ fails) × (s ≡ empty)
+joined-empty holds m s e = (cc, cc)
+joined-empty fails m s e = (refl, e)
+joined-empty undecided m met e = (cc, cc)
+joined-empty undecided m empty e = (cc, refl)
+joined-empty undecided m (one k) e = (cc, cc)
+joined-empty undecided m (many k) e = (cc, cc)
+
+joined-one : (v : Value) (m : ℕ) (s : State) (k : ℕ) → joined v m s ≡ one k → ((v ≡ fails) × (s ≡ one k)) ⊎ ((v ≡ undecided) × (s ≡ empty) × (m ≡ k))
+joined-one holds m s k e = inl (cc, cc)
+joined-one fails m s k e = inl (refl, e)
+joined-one undecided m met k e = inl (cc, cc)
+joined-one undecided m empty k e = inr (refl, refl, cc)
+joined-one undecided m (one j) k e = inl (cc, cc)
+joined-one undecided m (many j) k e = inl (cc, cc)
+
+-- the literal of a unit is undecided
+one-undecided : (G c : List ℕ) (k : ℕ) → stateOf G c ≡ one k → valueOf G k ≡ undecided
+unfolding stateOf
+one-undecided G [] k e = cc
+one-undecided G (m ∷ c) k e =
+    ⊎-elim (λ (v, s). one-undecided G c k s) (λ (v, s, i). ap (valueOf G) (sym i) ∙ v) (joined-one (valueOf G m) m (stateOf G c) k e)
+
+-- ---- the first clause that passes a test
+
+module _ (p : State → Bool) (G : List ℕ) (cs : List (List ℕ)) (e : some p (map (stateOf G) cs) ≡ true) where
+  abbrev first : ℕ
+  first = firstOf p (map (stateOf G) cs)
+
+  first-low : first < length cs
+  first-low = omega (arith, first-found p (map (stateOf G) cs) e .0, length-map cs (stateOf G))
+
+  first-state : getD (map (stateOf G) cs) first met ≡ stateOf G (getD cs first [])
+  first-state = getD-map (stateOf G) cs first [] met first-low
+
+  first-passes : p (stateOf G (getD cs first [])) ≡ true
+  first-passes = sym (ap p first-state) ∙ first-found p (map (stateOf G) cs) e .1
+
+-- a clause that passes is one
+some-at : (p : State → Bool) (G : List ℕ) (cs : List (List ℕ)) (k : ℕ) (s : State) → k < length cs → stateOf G (getD cs k []) ≡ s → p s ≡ true
+    → some p (map (stateOf G) cs) ≡ true
+unfolding some
+some-at p G [] k s b e y = absurd (omega arith)
+some-at p G (c ∷ cs) zero s b e y = rw (e, y)
+some-at p G (c ∷ cs) (suc k) s b e y = rw (some-at p G cs k s (omega arith) e y) (or-true (p (stateOf G c)))
+
+-- the literal of the first unit
+module _ (G : List ℕ) (cs : List (List ℕ)) (e : some isOne (map (stateOf G) cs) ≡ true) where
+  abbrev unit : ℕ
+  unit = literalAt (map (stateOf G) cs) (firstOf isOne (map (stateOf G) cs))
+
+  first-unit : stateOf G (getD cs (firstOf isOne (map (stateOf G) cs)) []) ≡ one unit
+  first-unit = one-state _ (first-passes isOne G cs e) ∙ ap (λ (s : State). one (literalOf s)) (sym (first-state isOne G cs e))
+
+  pub first-undecided : valueOf G unit ≡ undecided
+  first-undecided = one-undecided G _ unit first-unit
 
 -- ---- l joins G, where it is undecided
 
@@ -35,189 +112,81 @@ module _ (G : List ℕ) (l : ℕ) (f : valueOf G l ≡ undecided) where
           let z : m ≡ neg l = omega (arith, k, q) in
           absurd (d (sym e ∙ ap (valueOf G) z ∙ undecided-neg G l f))
 
+  pub holds-stays : (m : ℕ) → valueOf G m ≡ holds → valueOf (l ∷ G) m ≡ holds
+  holds-stays m = value-stays m holds holds-undecided
+
+  fails-stays : (m : ℕ) → valueOf G m ≡ fails → valueOf (l ∷ G) m ≡ fails
+  fails-stays m = value-stays m fails fails-undecided
+
   -- a literal that is undecided now was so before
   pub was-undecided : (m : ℕ) → valueOf (l ∷ G) m ≡ undecided → valueOf G m ≡ undecided
   was-undecided m e = go (valueOf G m) refl
     where
       go : (v : Value) → valueOf G m ≡ v → valueOf G m ≡ undecided
       go undecided y = y
-      go holds y =
-          let o : undecided ≡ holds = sym e ∙ value-stays m holds (λ o. let z : _≡_ {A = ℕ} 0 1 = cc in omega arith) y in
-          absurd (let z : _≡_ {A = ℕ} 0 1 = cc in omega arith)
-      go fails y =
-          let o : undecided ≡ fails = sym e ∙ value-stays m fails (λ o. let z : _≡_ {A = ℕ} 0 1 = cc in omega arith) y in
-          absurd (let z : _≡_ {A = ℕ} 0 1 = cc in omega arith)
+      go holds y = cc (holds-stays m y)
+      go fails y = cc (fails-stays m y)
 
   -- a literal that is false now was so before, but for the negation of l
   pub fails-joined : (m : ℕ) → (m ≡ neg l → ⊥) → valueOf (l ∷ G) m ≡ fails → valueOf G m ≡ fails
   fails-joined m d e = go (ℕ-discrete (m / 2) (l / 2))
     where
-      never : holds ≡ fails → ⊥
-      never y = let z : _≡_ {A = ℕ} 0 1 = cc in omega arith
-
       go : Dec (m / 2 ≡ l / 2) → valueOf G m ≡ fails
       go (no k) = sym (value-other G l m k) ∙ e
       go (yes k) =
           let z : m ≡ l = omega (arith, k, d) in
-          absurd (never (sym (ap (valueOf (l ∷ G)) z ∙ value-joined G l) ∙ e))
+          cc (ap (valueOf (l ∷ G)) z ∙ value-joined G l)
 
-  joined-met : (v : Value) (m : ℕ) → joined v m met ≡ met
-  joined-met holds m = refl
-  joined-met fails m = refl
-  joined-met undecided m = refl
-
-  -- a clause that is met stays so
-  pub met-stays : (c : List ℕ) → stateOf G c ≡ met → stateOf (l ∷ G) c ≡ met
+  -- a clause that is met stays so, and so does one that is all false
+  met-stays : (c : List ℕ) → stateOf G c ≡ met → stateOf (l ∷ G) c ≡ met
   unfolding stateOf
-  met-stays [] e = absurd (let z : _≡_ {A = ℕ} 0 1 = cc in omega arith)
-  met-stays (m ∷ c) e = go (valueOf G m) refl e (stateOf G c) refl (met-stays c)
-    where
-      go : (v : Value) → valueOf G m ≡ v → joined v m (stateOf G c) ≡ met → (s : State) → stateOf G c ≡ s → (stateOf G c ≡ met → stateOf (l ∷ G) c ≡ met)
-          → joined (valueOf (l ∷ G) m) m (stateOf (l ∷ G) c) ≡ met
-      go holds x y s z f = rw (value-stays m holds (λ o. let z : _≡_ {A = ℕ} 0 1 = cc in omega arith) x)
-      go fails x y s z f = rw (f y) (joined-met (valueOf (l ∷ G) m) m)
-      go undecided x y met z f = rw (f z) (joined-met (valueOf (l ∷ G) m) m)
-      go undecided x y empty z f = absurd (let z : _≡_ {A = ℕ} 0 1 = cc in omega arith)
-      go undecided x y (one k) z f = absurd (let z : _≡_ {A = ℕ} 0 1 = cc in omega arith)
-      go undecided x y (many k) z f = absurd (let z : _≡_ {A = ℕ} 0 1 = cc in omega arith)
+  met-stays [] e = cc
+  met-stays (m ∷ c) e =
+      ⊎-elim (λ v. rw (holds-stays m v)) (λ s. rw (met-stays c s) (met-joined (valueOf (l ∷ G) m) m)) (joined-met (valueOf G m) m (stateOf G c) e)
 
-  -- so does one that is all false
-  pub empty-stays : (c : List ℕ) → stateOf G c ≡ empty → stateOf (l ∷ G) c ≡ empty
+  empty-stays : (c : List ℕ) → stateOf G c ≡ empty → stateOf (l ∷ G) c ≡ empty
   unfolding stateOf
   empty-stays [] e = refl
-  empty-stays (m ∷ c) e = go (valueOf G m) refl e (stateOf G c) refl (empty-stays c)
-    where
-      go : (v : Value) → valueOf G m ≡ v → joined v m (stateOf G c) ≡ empty → (s : State) → stateOf G c ≡ s → (stateOf G c ≡ empty → stateOf (l ∷ G) c ≡ empty)
-          → joined (valueOf (l ∷ G) m) m (stateOf (l ∷ G) c) ≡ empty
-      go holds x y s z f = absurd (let z : _≡_ {A = ℕ} 0 1 = cc in omega arith)
-      go fails x y s z f = rw (value-stays m fails (λ o. let z : _≡_ {A = ℕ} 0 1 = cc in omega arith) x) (f y)
-      go undecided x y met z f = absurd (let z : _≡_ {A = ℕ} 0 1 = cc in omega arith)
-      go undecided x y empty z f = absurd (let z : _≡_ {A = ℕ} 0 1 = cc in omega arith)
-      go undecided x y (one k) z f = absurd (let z : _≡_ {A = ℕ} 0 1 = cc in omega arith)
-      go undecided x y (many k) z f = absurd (let z : _≡_ {A = ℕ} 0 1 = cc in omega arith)
+  empty-stays (m ∷ c) e =
+      let (v, s) = joined-empty (valueOf G m) m (stateOf G c) e in
+      rw (fails-stays m v, empty-stays c s)
 
   pub all-met-stays : (cs : List (List ℕ)) → All (λ s. s ≡ met) (map (stateOf G) cs) → All (λ s. s ≡ met) (map (stateOf (l ∷ G)) cs)
   all-met-stays [] h = tt
   all-met-stays (c ∷ cs) h = (met-stays c (h .0), all-met-stays cs (h .1))
 
   pub some-empty-stays : (cs : List (List ℕ)) → some isEmpty (map (stateOf G) cs) ≡ true → some isEmpty (map (stateOf (l ∷ G)) cs) ≡ true
-  unfolding some
-  some-empty-stays [] e = absurd (false≢true e)
-  some-empty-stays (c ∷ cs) e = go (stateOf G c) refl e (some-empty-stays cs)
-    where
-      go : (s : State) → stateOf G c ≡ s → (isEmpty s || some isEmpty (map (stateOf G) cs)) ≡ true
-          → (some isEmpty (map (stateOf G) cs) ≡ true → some isEmpty (map (stateOf (l ∷ G)) cs) ≡ true)
-          → (isEmpty (stateOf (l ∷ G) c) || some isEmpty (map (stateOf (l ∷ G)) cs)) ≡ true
-      go empty z y f = rw (empty-stays c z)
-      go met z y f = rw (f y) (or-true (isEmpty (stateOf (l ∷ G) c)))
-      go (one k) z y f = rw (f y) (or-true (isEmpty (stateOf (l ∷ G) c)))
-      go (many k) z y f = rw (f y) (or-true (isEmpty (stateOf (l ∷ G) c)))
+  some-empty-stays cs e =
+      some-at isEmpty (l ∷ G) cs _ empty (first-low isEmpty G cs e) (empty-stays _ (empty-state _ (first-passes isEmpty G cs e))) refl
 
   -- a unit stays one while its literal is undecided, and is met where that joins
   one-stays : (c : List ℕ) (k : ℕ) → stateOf G c ≡ one k → valueOf (l ∷ G) k ≡ undecided → stateOf (l ∷ G) c ≡ one k
   unfolding stateOf
-  one-stays [] k e u = absurd (let z : _≡_ {A = ℕ} 0 1 = cc in omega arith)
-  one-stays (m ∷ c) k e u = go (valueOf G m) refl e (stateOf G c) refl (one-stays c k)
-    where
-      go : (v : Value) → valueOf G m ≡ v → joined v m (stateOf G c) ≡ one k → (s : State) → stateOf G c ≡ s
-          → (stateOf G c ≡ one k → valueOf (l ∷ G) k ≡ undecided → stateOf (l ∷ G) c ≡ one k) → joined (valueOf (l ∷ G) m) m (stateOf (l ∷ G) c) ≡ one k
-      go holds x y s z f = absurd (let z : _≡_ {A = ℕ} 0 1 = cc in omega arith)
-      go fails x y s z f = rw (value-stays m fails (λ o. let z : _≡_ {A = ℕ} 0 1 = cc in omega arith) x) (f y u)
-      go undecided x y met z f = absurd (let z : _≡_ {A = ℕ} 0 1 = cc in omega arith)
-      go undecided x y empty z f =
-          let e : m ≡ k = cc in
-          rw (empty-stays c z, ap (valueOf (l ∷ G)) e ∙ u) (ap one e)
-      go undecided x y (one j) z f = absurd (let z : _≡_ {A = ℕ} 0 1 = cc in omega arith)
-      go undecided x y (many j) z f = absurd (let z : _≡_ {A = ℕ} 0 1 = cc in omega arith)
+  one-stays [] k e u = cc
+  one-stays (m ∷ c) k e u =
+      ⊎-elim (λ (v, s). rw (fails-stays m v, one-stays c k s u)) (λ (v, s, i). rw (empty-stays c s, ap (valueOf (l ∷ G)) i ∙ u) (ap one i))
+      (joined-one (valueOf G m) m (stateOf G c) k e)
 
   one-met : (c : List ℕ) → stateOf G c ≡ one l → stateOf (l ∷ G) c ≡ met
   unfolding stateOf
-  one-met [] e = absurd (let z : _≡_ {A = ℕ} 0 1 = cc in omega arith)
-  one-met (m ∷ c) e = go (valueOf G m) refl e (stateOf G c) refl (one-met c)
-    where
-      go : (v : Value) → valueOf G m ≡ v → joined v m (stateOf G c) ≡ one l → (s : State) → stateOf G c ≡ s
-          → (stateOf G c ≡ one l → stateOf (l ∷ G) c ≡ met) → joined (valueOf (l ∷ G) m) m (stateOf (l ∷ G) c) ≡ met
-      go holds x y s z f = absurd (let z : _≡_ {A = ℕ} 0 1 = cc in omega arith)
-      go fails x y s z f = rw (f y) (joined-met (valueOf (l ∷ G) m) m)
-      go undecided x y met z f = absurd (let z : _≡_ {A = ℕ} 0 1 = cc in omega arith)
-      go undecided x y empty z f =
-          let e : m ≡ l = cc in
-          rw (ap (valueOf (l ∷ G)) e ∙ value-joined G l)
-      go undecided x y (one j) z f = absurd (let z : _≡_ {A = ℕ} 0 1 = cc in omega arith)
-      go undecided x y (many j) z f = absurd (let z : _≡_ {A = ℕ} 0 1 = cc in omega arith)
+  one-met [] e = cc
+  one-met (m ∷ c) e =
+      ⊎-elim (λ (v, s). rw (one-met c s) (met-joined (valueOf (l ∷ G) m) m)) (λ (v, s, i). rw (ap (valueOf (l ∷ G)) i ∙ value-joined G l))
+      (joined-one (valueOf G m) m (stateOf G c) l e)
 
   -- so with the first unit among clauses
-  pub first-stays : (cs : List (List ℕ)) → some isOne (map (stateOf G) cs) ≡ true
-      → valueOf (l ∷ G) (literalAt (map (stateOf G) cs) (firstOf isOne (map (stateOf G) cs))) ≡ undecided → some isOne (map (stateOf (l ∷ G)) cs) ≡ true
-  unfolding some firstOf
-  first-stays [] e u = absurd (false≢true e)
-  first-stays (c ∷ cs) e u = go (stateOf G c) refl e u (first-stays cs)
-    where
-      go : (s : State) → stateOf G c ≡ s → (isOne s || some isOne (map (stateOf G) cs)) ≡ true
-          → valueOf (l ∷ G) (literalAt (s ∷ map (stateOf G) cs) (cond (isOne s) 0 (suc (firstOf isOne (map (stateOf G) cs))))) ≡ undecided
-          → (some isOne (map (stateOf G) cs) ≡ true → valueOf (l ∷ G) (literalAt (map (stateOf G) cs) (firstOf isOne (map (stateOf G) cs))) ≡ undecided
-          → some isOne (map (stateOf (l ∷ G)) cs) ≡ true)
-          → (isOne (stateOf (l ∷ G) c) || some isOne (map (stateOf (l ∷ G)) cs)) ≡ true
-      go (one k) z y u f = rw (one-stays c k z u)
-      go met z y u f = rw (f y u) (or-true (isOne (stateOf (l ∷ G) c)))
-      go empty z y u f = rw (f y u) (or-true (isOne (stateOf (l ∷ G) c)))
-      go (many k) z y u f = rw (f y u) (or-true (isOne (stateOf (l ∷ G) c)))
+  module _ (cs : List (List ℕ)) (e : some isOne (map (stateOf G) cs) ≡ true) where
+    pub first-stays : valueOf (l ∷ G) (unit G cs e) ≡ undecided → some isOne (map (stateOf (l ∷ G)) cs) ≡ true
+    first-stays u = some-at isOne (l ∷ G) cs _ (one (unit G cs e)) (first-low isOne G cs e) (one-stays _ (unit G cs e) (first-unit G cs e) u) refl
 
-  -- where l is its literal, the states do not stay
-  pub first-changes : (cs : List (List ℕ)) → some isOne (map (stateOf G) cs) ≡ true
-      → literalAt (map (stateOf G) cs) (firstOf isOne (map (stateOf G) cs)) ≡ l → map (stateOf (l ∷ G)) cs ≡ map (stateOf G) cs → ⊥
-  unfolding some firstOf
-  first-changes [] e k o = false≢true e
-  first-changes (c ∷ cs) e k o = go (stateOf G c) refl e k (first-changes cs)
-    where
-      first : stateOf (l ∷ G) c ≡ stateOf G c
-      first = ap (λ (ss : List State). getD ss 0 met) o
-
-      rest : map (stateOf (l ∷ G)) cs ≡ map (stateOf G) cs
-      rest = ap (λ (ss : List State). drop 1 ss) o
-
-      go : (s : State) → stateOf G c ≡ s → (isOne s || some isOne (map (stateOf G) cs)) ≡ true
-          → literalAt (s ∷ map (stateOf G) cs) (cond (isOne s) 0 (suc (firstOf isOne (map (stateOf G) cs)))) ≡ l
-          → (some isOne (map (stateOf G) cs) ≡ true → literalAt (map (stateOf G) cs) (firstOf isOne (map (stateOf G) cs)) ≡ l
-          → map (stateOf (l ∷ G)) cs ≡ map (stateOf G) cs → ⊥) → ⊥
-      go (one j) z y k f =
-          let m : stateOf (l ∷ G) c ≡ met = one-met c (z ∙ ap one k) in
-          let o : met ≡ one j = sym m ∙ first ∙ z in
-          let z : _≡_ {A = ℕ} 0 1 = cc in omega arith
-      go met z y k f = f y k rest
-      go empty z y k f = f y k rest
-      go (many j) z y k f = f y k rest
-
--- the literal of the first unit is undecided
-one-undecided : (G c : List ℕ) (k : ℕ) → stateOf G c ≡ one k → valueOf G k ≡ undecided
-unfolding stateOf
-one-undecided G [] k e = absurd (let z : _≡_ {A = ℕ} 0 1 = cc in omega arith)
-one-undecided G (m ∷ c) k e = go (valueOf G m) refl e (stateOf G c) refl (one-undecided G c k)
-  where
-    go : (v : Value) → valueOf G m ≡ v → joined v m (stateOf G c) ≡ one k → (s : State) → stateOf G c ≡ s
-        → (stateOf G c ≡ one k → valueOf G k ≡ undecided) → valueOf G k ≡ undecided
-    go holds x y s z f = absurd (let z : _≡_ {A = ℕ} 0 1 = cc in omega arith)
-    go fails x y s z f = f y
-    go undecided x y met z f = absurd (let z : _≡_ {A = ℕ} 0 1 = cc in omega arith)
-    go undecided x y empty z f =
-        let e : k ≡ m = cc in
-        ap (valueOf G) e ∙ x
-    go undecided x y (one j) z f = absurd (let z : _≡_ {A = ℕ} 0 1 = cc in omega arith)
-    go undecided x y (many j) z f = absurd (let z : _≡_ {A = ℕ} 0 1 = cc in omega arith)
-
-pub first-undecided : (G : List ℕ) (cs : List (List ℕ)) → some isOne (map (stateOf G) cs) ≡ true
-    → valueOf G (literalAt (map (stateOf G) cs) (firstOf isOne (map (stateOf G) cs))) ≡ undecided
-unfolding some firstOf
-first-undecided G [] e = absurd (false≢true e)
-first-undecided G (c ∷ cs) e = go (stateOf G c) refl e (first-undecided G cs)
-  where
-    go : (s : State) → stateOf G c ≡ s → (isOne s || some isOne (map (stateOf G) cs)) ≡ true
-        → (some isOne (map (stateOf G) cs) ≡ true → valueOf G (literalAt (map (stateOf G) cs) (firstOf isOne (map (stateOf G) cs))) ≡ undecided)
-        → valueOf G (literalAt (s ∷ map (stateOf G) cs) (cond (isOne s) 0 (suc (firstOf isOne (map (stateOf G) cs))))) ≡ undecided
-    go (one k) z y f = one-undecided G c k z
-    go met z y f = f y
-    go empty z y f = f y
-    go (many k) z y f = f y
+    -- where l is its literal, the states do not stay
+    pub first-changes : unit G cs e ≡ l → map (stateOf (l ∷ G)) cs ≡ map (stateOf G) cs → ⊥
+    first-changes k o =
+        let first = firstOf isOne (map (stateOf G) cs) in
+        let a = one-met (getD cs first []) (first-unit G cs e ∙ ap one k) in
+        let b = getD-map (stateOf (l ∷ G)) cs first [] met (first-low isOne G cs e) in
+        let d : met ≡ one l = sym a ∙ sym b ∙ ap (λ (ss : List State). getD ss first met) o ∙ first-state isOne G cs e ∙ first-unit G cs e ∙ ap one k in
+        let z : _≡_ {A = ℕ} 0 1 = cc in omega arith
 
 -- ---- clauses that do not name l's node keep their states
 

@@ -5,18 +5,21 @@ use mathlib.Core.Bool.{false, false≢true}
 use mathlib.Core.List.{List, []}
 use Prim.Native.Nat.{ℕ, zero, suc, _+_, _-_, _<_, _≤_}
 use native.Mathlib.Omega.{arith}
-use lib.ListN.{length, getD, set, drop, length-set}
+use lib.ListN.{length, getD, set, drop, replicate, length-set, getD-replicate}
 use lib.Seq.{getD-set-same, getD-set-other}
 use Rattle.scope.specs.declared.Node.{Node}
 use Rattle.calculus.specs.Expansion.{expand}
 use Rattle.calculus.specs.Order.{Value, holds, fails, undecided, valueOf, mem, empty, joined, isEmpty, isOne, some, clauses, move}
 use Rattle.trail.proofs.Trails.{trail-length, trail-same}
 use Rattle.state.specs.Work.{tail, cursorAt, gOf, trail, Numbered, trailAt, basesAt, valuesAt}
-use Rattle.state.specs.Holds.{Holds, AllMet, Waiting, Splits, deniedAt, NoneDenied}
+use Rattle.units.specs.Units.{words, Units, Empty}
+use Rattle.units.proofs.Sets.{cleared}
+use Rattle.state.specs.Holds.{Holds, AllMet, Waiting, Splits, statesAt, deniedAt, NoneDenied}
 use Rattle.state.specs.Changes.{Blank}
 use Rattle.state.proofs.Areas.{count-most, ready-same}
 use Rattle.state.proofs.Clauses.{sofar, sofar-length, none-at, none-goals, none-position, goal-state, goals-length, split-none}
 use Rattle.solver.specs.Changes.{Settled, Left}
+use Rattle.solver.proofs.Stays.{holds-fails}
 use Rattle.solver.proofs.Settles.{waiting-over, settled-list, settled-holds}
 
 -- the first literals of a trail, from those held
@@ -34,9 +37,6 @@ goal-holds : (v : Value) (l : ℕ) → isEmpty (joined v l empty) ≡ false → 
 goal-holds holds l a b = refl
 goal-holds fails l a b = absurd (false≢true (sym a))
 goal-holds undecided l a b = absurd (false≢true (sym b))
-
-holds-fails : holds ≡ fails → ⊥
-holds-fails y = let z : _≡_ {A = ℕ} 0 1 = cc in omega arith
 
 -- ---- back to a split
 
@@ -64,7 +64,7 @@ module _ {t : ℕ → Node} {n to : ℕ} {goals w m w₁ : List ℕ} (few : n �
 
   waiting : Waiting goals (gOf w₁) 0
   waiting =
-      waiting-over (λ i b.
+      waiting-over {k = length goals} (omega arith) (λ i b.
       let z : i < length (sofar t goals (gOf w₁) (tail w₁) 0) = omega (arith, b, goals-length t goals (gOf w₁) (tail w₁)) in
       let a = none-at isEmpty (sofar t goals (gOf w₁) (tail w₁) 0) i (none-goals t goals (gOf w₁) (tail w₁) isEmpty (tail w₁ 0) (none .0)) z in
       let o = none-at isOne (sofar t goals (gOf w₁) (tail w₁) 0) i (none-goals t goals (gOf w₁) (tail w₁) isOne (tail w₁ 0) (none .1)) z in
@@ -80,27 +80,63 @@ module _ {t : ℕ → Node} {n to : ℕ} {goals w m w₁ : List ℕ} (few : n �
       )
 
   module _ {c : ℕ} {w₂ m₂ : List ℕ} (e : c ≡ cursorAt (tail w₁) to) (z : Settled w₁ c 0 w₂ m₂) where
-    pub undone : Holds t n goals w₂ m₂ × (gOf w₂ ≡ drop (length (gOf w) - to) (gOf w))
-    undone = (
-      settled-holds few (k .ready) z
-          (λ q i. k .bases q (omega (arith, i, k .count, under, most)) ∙ H .numbered q (omega (arith, i, k .count, under))
-          ∙ ap (λ (F : List ℕ). length (clauses (expand t) goals F)) (sym (trails q (omega (arith, i, k .count)))))
-          (omega (arith, e, met-before to (omega arith) .0, k .count))
-          (subst (λ (j : ℕ). AllMet t (trail j (tail w₁)) (tail w₁) c) (sym (k .count))
-          (subst (AllMet t (trail to (tail w₁)) (tail w₁)) (sym e) (met-before to (omega arith) .1)))
-          (λ q i. met-before q (omega (arith, i, k .count)))
-          waiting
-          (λ i b y. holds-fails (sym (waiting .over i (omega (arith, b))) ∙ y))
-          (λ q i. (none-position t goals (gOf w₁) (tail w₁) isEmpty q (tail w₁ 0) i (none .0), none-position t goals (gOf w₁) (tail w₁) isOne q (tail w₁ 0) i (none .1))),
-      settled-list few (k .ready) z ∙ list,
-    )
+    pub undone : Holds t n goals w₂ m₂
+    undone =
+        settled-holds few (k .ready) z
+        (λ q i. k .bases q (omega (arith, i, k .count, under, most)) ∙ H .numbered q (omega (arith, i, k .count, under))
+        ∙ ap (λ (F : List ℕ). length (clauses (expand t) goals F)) (sym (trails q (omega (arith, i, k .count)))))
+        (omega (arith, e, met-before to (omega arith) .0, k .count))
+        (subst (λ (j : ℕ). AllMet t (trail j (tail w₁)) (tail w₁) c) (sym (k .count))
+        (subst (AllMet t (trail to (tail w₁)) (tail w₁)) (sym e) (met-before to (omega arith) .1)))
+        (λ q i. met-before q (omega (arith, i, k .count)))
+        waiting
+        (λ i b y. holds-fails (sym (waiting .over i (omega (arith, b))) ∙ y))
+        (λ q i. (
+          none-position t goals (gOf w₁) (tail w₁) isEmpty q (tail w₁ 0) i (none .0),
+          none-position t goals (gOf w₁) (tail w₁) isOne q (tail w₁ 0) i (none .1),
+        ))
+
+    pub undone-list : gOf w₂ ≡ drop (length (gOf w) - to) (gOf w)
+    undone-list = settled-list few (k .ready) z ∙ list
 
   pub cursor-low : to < mostNodes
   cursor-low = omega (arith, under, most)
 
+-- ---- a set anew
+
+-- at a split an empty set will do, as no clause is a unit
+module _ {t : ℕ → Node} {n : ℕ} {goals w m : List ℕ} (few : n ≤ mostNodes) (H : Holds t n goals w m) (s : Splits (expand t) goals (gOf w)) where
+  no-one : (q : ℕ) → q < tail w 0 → some isOne (statesAt t (gOf w) (tail w) q) ≡ false
+  unfolding move
+  no-one q i = none-position t goals (gOf w) (tail w) isOne q (tail w 0) i (split-none (sofar t goals (gOf w) (tail w) (tail w 0)) (s .0) (s .1) .1)
+
+  emptied : {m′ : List ℕ} → Units m′ × Empty m′ → Holds t n goals w m′
+  emptied {m′} (u, e) = record {
+    ready = H .ready;
+    numbered = H .numbered;
+    units = u;
+    entered = λ q i. record { unit = λ d y. absurd (false≢true (sym (no-one q i) ∙ y)); conflict = H .entered q i .conflict };
+    late = λ q i.
+        let z = e q (omega (arith, i, count-most (H .ready), few)) in
+        record { low = λ y. absurd (omega (arith, y, z)); live = λ d y. absurd (omega (arith, y, z)) };
+    first = λ d q f. absurd (omega (arith, f .here, e q (f .low)));
+    clear = λ q i b. e q b;
+    closed = H .closed;
+    cursor = H .cursor;
+    met-before = H .met-before;
+    cursors = H .cursors;
+    waiting = H .waiting;
+    denied = H .denied;
+  }
+
+  -- so will one that was just made
+  pub split-anew : Holds t n goals w (replicate words 0)
+  split-anew = emptied (cleared (replicate words 0) refl (λ i b. getD-replicate words i 0 0 b))
+
 -- ---- nothing is held
 
-module _ (t : ℕ → Node) (goals : List ℕ) {n : ℕ} {w w′ m′ : List ℕ} (few : n ≤ mostNodes) (b : Blank n (length goals) w) (z : Settled w 0 (length goals) w′ m′) where
+module _ (t : ℕ → Node) (goals : List ℕ) {n : ℕ} {w w′ m′ : List ℕ} (few : n ≤ mostNodes) (b : Blank n (length goals) w)
+    (z : Settled w 0 (length goals) w′ m′) where
   empty-list : gOf w ≡ []
   unfolding trail
   empty-list = ap (λ (q : ℕ). trail q (tail w)) (b .count)
@@ -110,47 +146,42 @@ module _ (t : ℕ → Node) (goals : List ℕ) {n : ℕ} {w w′ m′ : List ℕ
       let e : q ≡ 0 = omega (arith, i, b .count) in
       rw e (b .base ∙ sym (goals-length t goals [] (tail w)) ∙ sofar-length t goals [] (tail w) 0)
 
-  waits : Waiting goals (gOf w) (length goals)
+  no-value : (l : ℕ) → valueOf (gOf w) l ≡ undecided
   unfolding valueOf mem
+  no-value l = ap (λ (G : List ℕ). valueOf G l) empty-list
+
+  waits : Waiting goals (gOf w) (length goals)
   waits = record {
     few = omega arith;
     over = λ k i. absurd (omega (arith, i));
-    on = λ e. (0, omega (arith, e), λ y. never (sym (ap (λ (G : List ℕ). valueOf G (getD goals 0 0)) empty-list) ∙ y));
+    on = λ e. (0, omega (arith, e), λ y. let z : _≡_ {A = ℕ} 0 1 = cc (no-value (getD goals 0 0)) in omega arith);
   }
-    where
-      never : undecided ≡ holds → ⊥
-      never y = let z : _≡_ {A = ℕ} 0 1 = cc in omega arith
 
   undenied : NoneDenied goals (gOf w)
-  unfolding valueOf mem
-  undenied k i y = never (sym (ap (λ (G : List ℕ). valueOf G (getD goals k 0)) empty-list) ∙ y)
-    where
-      never : undecided ≡ fails → ⊥
-      never y = let z : _≡_ {A = ℕ} 0 1 = cc in omega arith
+  undenied k i y = let z : _≡_ {A = ℕ} 0 1 = cc (no-value (getD goals k 0)) in omega arith
 
-  pub started : Holds t n goals w′ m′ × (gOf w′ ≡ [])
-  started = (
-    settled-holds few (b .ready) z numbered (omega arith) (λ q i. absurd (omega (arith, i))) (λ q i. absurd (omega (arith, i, b .count))) waits
-        undenied (λ q i. absurd (omega (arith, i, b .count))),
-    settled-list few (b .ready) z ∙ empty-list,
-  )
+  pub started : Holds t n goals w′ m′
+  started =
+      settled-holds few (b .ready) z numbered (omega arith) (λ q i. absurd (omega (arith, i))) (λ q i. absurd (omega (arith, i, b .count))) waits
+      undenied (λ q i. absurd (omega (arith, i, b .count)))
+
+  pub started-list : gOf w′ ≡ []
+  started-list = settled-list few (b .ready) z ∙ empty-list
 
 -- all literals have left: with the clauses before the first literal's the area is as good as blank
-module _ {n : ℕ} {w w₁ : List ℕ} (c : ℕ) (few : n ≤ mostNodes) (k : Left n 0 w w₁) where
-  abbrev w₂ : List ℕ
-  w₂ = set (set w₁ (trailAt + basesAt) c) deniedAt 0
+module _ (c : ℕ) {n : ℕ} {w w₁ w₂ w₃ : List ℕ} (few : n ≤ mostNodes) (k : Left n 0 w w₁)
+    (p : w₂ ≡ set w₁ (trailAt + basesAt) c) (q : w₃ ≡ set w₂ deniedAt 0) where
+  kept : (i : ℕ) → (i ≡ trailAt + basesAt → ⊥) → (i ≡ deniedAt → ⊥) → getD w₃ i 0 ≡ getD w₁ i 0
+  kept i d e = rw (q, p) (getD-set-other (set w₁ (trailAt + basesAt) c) deniedAt i 0 0 e ∙ getD-set-other w₁ (trailAt + basesAt) i c 0 d)
 
-  kept : (i : ℕ) → (i ≡ trailAt + basesAt → ⊥) → (i ≡ deniedAt → ⊥) → getD w₂ i 0 ≡ getD w₁ i 0
-  kept i d e = getD-set-other (set w₁ (trailAt + basesAt) c) deniedAt i 0 0 e ∙ getD-set-other w₁ (trailAt + basesAt) i c 0 d
-
-  pub rebased : Blank n c w₂
+  pub rebased : Blank n c w₃
   rebased = record {
     ready =
-        ready-same few (k .ready) (length-set (set w₁ (trailAt + basesAt) c) deniedAt 0 ∙ length-set w₁ (trailAt + basesAt) c)
-        (λ i b. kept (trailAt + i) (λ e. omega (arith, e, b)) (λ e. omega (arith, e, b)))
+        ready-same few (k .ready) (rw (q, p) (simp length-set)) (λ i b. kept (trailAt + i) (λ e. omega (arith, e, b)) (λ e. omega (arith, e, b)))
         (λ l b. kept (trailAt + (valuesAt + l)) (λ e. omega (arith, e)) (λ e. omega (arith, e, b)));
     count = kept (trailAt + 0) (λ e. omega (arith, e)) (λ e. omega (arith, e)) ∙ k .count;
     base =
-        getD-set-other (set w₁ (trailAt + basesAt) c) deniedAt (trailAt + basesAt) 0 0 (λ e. omega (arith, e))
-        ∙ getD-set-same w₁ (trailAt + basesAt) c 0 (omega (arith, k .ready .size));
+        rw (q, p)
+        (getD-set-other (set w₁ (trailAt + basesAt) c) deniedAt (trailAt + basesAt) 0 0 (λ e. omega (arith, e))
+        ∙ getD-set-same w₁ (trailAt + basesAt) c 0 (omega (arith, k .ready .size)));
   }

@@ -12,14 +12,15 @@ use Rattle.index.specs.Index.{mostNodes, indexNode}
 use Rattle.index.specs.Edges.{firstOf, midOf, endOf, PairAt, Parent, parentOf, edgeAt}
 use Rattle.index.specs.Indexed.{Indexed}
 use Rattle.units.specs.Units.{Units}
-use Rattle.clause.specs.Classed.{Forces, keptBy, Says, Classed}
+use Rattle.clause.specs.Classed.{keptBy, Says, Classed}
 use Rattle.state.specs.Work.{tail, litAt, entryOf, gOf, conflictOf, Ready}
 use Rattle.state.specs.Holds.{statesAt, Entered}
 use Rattle.state.proofs.Areas.{count-most, held-below}
 use Rattle.solver.specs.Changes.{Beside, Lowered, Flagged, Visited, Pending, PairFrom, ThreeFrom, Walk, Touchable, Touched}
 use Rattle.solver.proofs.Settles.{code-holds}
 use Rattle.solver.proofs.Lives.{code-undecided}
-use Rattle.solver.proofs.Marks.{beside-same, still-at, still-ready, still-literal, still-states, entered-still, renewed-empty, renewed-unit, renewed-same, at-low, at-node, visited}
+use Rattle.solver.proofs.Marks.{beside-same, still-at, still-ready, still-literal, still-states, entered-still, held-low}
+use Rattle.solver.proofs.Marks.{renewed-empty, renewed-unit, renewed-same, at-low, at-node, visited-same, visited}
 
 -- one change after another
 pub beside-on : {w₀ w w′ : List ℕ} → Beside w₀ w → Beside w w′ → Beside w₀ w′
@@ -120,9 +121,9 @@ module _ {x : List ℕ} {n node : ℕ} {w₀ : List ℕ} (I : Indexed x n) (h : 
           let e : j ≡ k → ⊥ = λ z. d (sym o ∙ ap (parentOf x) z) in
           inl (j, omega (arith, i, e, a .2, at .2), a, o)
 
-  pub pairs-end : {k : ℕ} {m₀ w m : List ℕ} → midOf x node ≤ k → Walk t n (λ p. PairFrom x node k p ⊎ ThreeFrom x node 0 p) w₀ m₀ w m
+  pub pairs-end : {e k : ℕ} {m₀ w m : List ℕ} → e ≡ midOf x node → e ≤ k → Walk t n (λ p. PairFrom x node k p ⊎ ThreeFrom x node 0 p) w₀ m₀ w m
       → Walk t n (ThreeFrom x node 0) w₀ m₀ w m
-  pairs-end {k} e v = walk-same v (λ p. ⊎-elim (λ (j, i, a, o). absurd (omega (arith, i, e, a .1))) (λ z. z))
+  pairs-end d e v = walk-same v (λ p. ⊎-elim (λ (j, i, a, o). absurd (omega (arith, i, d, e, a .1))) (λ z. z))
 
   -- then come those from nodes of three
   pub threes-start : {m₀ w m : List ℕ} → Walk t n (ThreeFrom x node 0) w₀ m₀ w m → Walk t n (ThreeFrom x node (midOf x node)) w₀ m₀ w m
@@ -141,62 +142,71 @@ module _ {x : List ℕ} {n node : ℕ} {w₀ : List ℕ} (I : Indexed x n) (h : 
       → Walk t n (ThreeFrom x node (k + 1)) w₀ m₀ w′ m′
   threes-seen {k} {p} {m₀} {w} {m} {w′} {m′} v e y = threes-go v (subst (λ (j : ℕ). Visited t n w m j w′ m′) e y)
 
-  pub threes-end : {k : ℕ} {m₀ w m : List ℕ} → endOf x node ≤ k → Walk t n (ThreeFrom x node k) w₀ m₀ w m → Touched t n w₀ m₀ w m
-  threes-end e v = walk-same v (λ p (j, i, a, o). absurd (omega (arith, i, e, a .1)))
+  pub threes-end : {e k : ℕ} {m₀ w m : List ℕ} → e ≡ endOf x node → e ≤ k → Walk t n (ThreeFrom x node k) w₀ m₀ w m → Touched t n w₀ m₀ w m
+  threes-end d e v = walk-same v (λ p (j, i, a, o). absurd (omega (arith, i, d, e, a .1)))
 
 -- ---- what an edge's class does to the position of its parent
 
-module _ {t : ℕ → Node} {n : ℕ} {w : List ℕ} {p o c : ℕ} (few : n ≤ mostNodes) (h : Ready n w) (b : p < n) (C : Classed t n (gOf w) p o c) where
+module _ {t : ℕ → Node} {n : ℕ} {w : List ℕ} {p o c : ℕ} (few : n ≤ mostNodes) (h : Ready n w) (C : Classed t n (gOf w) p o c) where
   -- a literal that is held is true
   held-true : (q : ℕ) → q < tail w 0 → valueOf (gOf w) (litAt (tail w) q) ≡ holds
   held-true q i =
       let l = litAt (tail w) q in
       let e = h .trail .place q i in
-      code-holds (valueOf (gOf w) l) (sym (side-true (entryOf (tail w) (l / 2)) (l % 2) (valueOf (gOf w) l) (λ z. omega (arith, z, e)) (omega (arith, e)) (h .trail .vals l (held-below h q i))))
+      code-holds (valueOf (gOf w) l)
+      (sym (side-true (entryOf (tail w) (l / 2)) (l % 2) (valueOf (gOf w) l) (λ z. omega (arith, z, e)) (omega (arith, e))
+      (h .trail .vals l (held-below h q i))))
 
   -- what the class says of the position of a literal of p
   says : (q : ℕ) → q < tail w 0 → litAt (tail w) q / 2 ≡ p → Says n (statesAt t (gOf w) (tail w) q) o c
   says q i e = C .held (litAt (tail w) q) e (held-true q i)
 
-  pub class-held : (c ≡ 0 → ⊥) → entryOf (tail w) p ≡ 0 → ⊥
-  class-held d z =
-      let k : 2 * p / 2 ≡ p = omega arith in
-      let e : entryOf (tail w) (2 * p / 2) ≡ 0 = rw k z in
-      d (C .idle (code-undecided (valueOf (gOf w) (2 * p)) (sym (side-none (entryOf (tail w) (2 * p / 2)) (2 * p % 2) (valueOf (gOf w) (2 * p)) e (h .trail .vals (2 * p) (omega (arith, b)))))))
-
   -- nothing
   pub looked-none : {m : List ℕ} → Units m → c ≡ 0 → Visited t n w m p w m
-  looked-none u z = record {
-    beside = beside-same w;
-    units = u;
-    lower = omega arith;
-    closed = λ k. k;
-    here = λ q i e. let s = says q i e .none z in renewed-same t few h i u (s .1) (s .0) .here;
-    late = λ q i e. e;
-    else = λ q i k. (refl, refl);
-  }
+  looked-none u z =
+      visited-same u (λ q i e.
+      let s = says q i e .none z in
+      renewed-same t few h i u (s .1) (s .0) .here)
 
-  module _ {e : ℕ} (entry : e ≡ entryOf (tail w) p) (d : c ≡ 0 → ⊥) where
-    some-e : e ≡ 0 → ⊥
-    some-e z = class-held d (sym entry ∙ z)
+  -- the parent's entry is read
+  module _ {r e : ℕ} (parent : (r ≡ p) × (r < n)) (entry : e ≡ entryOf (tail w) r) (d : c ≡ 0 → ⊥) where
+    b : p < n
+    b = omega (arith, parent)
+
+    entry-is : e ≡ entryOf (tail w) p
+    entry-is = entry ∙ ap (entryOf (tail w)) (parent .0)
+
+    pub looked-some : e ≡ 0 → ⊥
+    looked-some z =
+        let k : 2 * p / 2 ≡ p = omega arith in
+        let y : entryOf (tail w) (2 * p / 2) ≡ 0 = rw k (sym entry-is ∙ z) in
+        d (C .idle (code-undecided (valueOf (gOf w) (2 * p))
+        (sym (side-none (entryOf (tail w) (2 * p / 2)) (2 * p % 2) (valueOf (gOf w) (2 * p)) y (h .trail .vals (2 * p) (omega (arith, b)))))))
 
     abbrev at : ℕ
     at = (e - 1) / 2
 
-    pub looked-low : at < tail w 0
-    looked-low = at-low t h b entry some-e
+    at-held : at < tail w 0
+    at-held = at-low h b entry-is looked-some
+
+    pub looked-low : at < mostNodes
+    looked-low = held-low few h at-held
 
     at-says : Says n (statesAt t (gOf w) (tail w) at) o c
-    at-says = says at looked-low (at-node t h b entry some-e)
+    at-says = says at at-held (at-node h b entry-is looked-some)
 
     pub looked-conflict : {m w′ : List ℕ} → Units m → c ≡ 1 → Lowered w at w′ → Visited t n w m p w′ m
-    looked-conflict u z k = visited t h b entry some-e few (renewed-empty t few h looked-low u (at-says .conflict z) k)
+    looked-conflict u z k = visited h b entry-is looked-some few (renewed-empty t few h at-held u (at-says .conflict z) k)
 
-    pub looked-kept : (c ≡ 1 → ⊥) → keptBy o c < 65536
-    looked-kept z = at-says .kept-low (omega (arith, d, z)) .0
+    module _ {o′ : ℕ} (other : o′ ≡ o) (z : c ≡ 1 → ⊥) where
+      unit : 2 ≤ c
+      unit = omega (arith, d, z)
 
-    pub looked-unit : {m w′ m′ : List ℕ} {k : ℕ} → (c ≡ 1 → ⊥) → k ≡ keptBy o c → Flagged w m at k w′ m′ → Visited t n w m p w′ m′
-    looked-unit {m} {w′} {m′} {k} z y g =
-        let i : 2 ≤ c = omega (arith, d, z) in
-        visited t h b entry some-e few
-        (renewed-unit t few h looked-low (at-says .free i) (at-says .unit i) (subst (Forces (statesAt t (gOf w) (tail w) at)) (sym y) (at-says .kept i)) (rw y (at-says .kept-low i .1)) g)
+      pub looked-kept : keptBy o′ c < 65536
+      looked-kept = rw other (at-says .kept-low unit .0)
+
+      pub looked-unit : {m w′ m′ : List ℕ} {k : ℕ} → k ≡ keptBy o′ c → Flagged w m at k w′ m′ → Visited t n w m p w′ m′
+      looked-unit y g =
+          let s = y ∙ ap (λ (i : ℕ). keptBy i c) other in
+          visited h b entry-is looked-some few
+          (renewed-unit t few h at-held (at-says .free unit) (at-says .unit unit) (rw s (at-says .kept unit)) (rw s (at-says .kept-low unit .1)) g)

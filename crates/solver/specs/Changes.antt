@@ -1,13 +1,15 @@
 -- What each function leaves of the work area w and its set m. Assumes nothing.
 use mathlib.Core.Path.{_≡_}
 use mathlib.Core.Logic.{_⊎_}
-use mathlib.Core.List.{List}
+use mathlib.Core.Bool.{Bool, true, false}
+use mathlib.Core.List.{List, [], _∷_}
 use Prim.Native.Nat.{ℕ, _+_, _-_, _*_, _/_, _%_, _<_, _≤_}
 use lib.ListN.{getD, length}
 use Rattle.scope.specs.declared.Node.{Node}
 use Rattle.calculus.specs.Expansion.{neg, expand}
 use Rattle.calculus.specs.Model.{Goals}
-use Rattle.calculus.specs.Order.{holds, undecided, valueOf}
+use Rattle.calculus.specs.Order.{holds, fails, undecided, valueOf, move}
+use Rattle.calculus.specs.declared.Move.the-variants.{Conflict}
 use Rattle.index.specs.Index.{mostNodes, opNode}
 use Rattle.index.specs.Edges.{PairAt, ThreeAt, parentOf, edgeAt}
 use Rattle.units.specs.Units.{positions, member, Units, Empty, Putted, First}
@@ -150,6 +152,26 @@ pub record Awaited (goals : List ℕ) (l : ℕ) (w w′ : List ℕ) : Type 0 whe
   pub waiting : Waiting goals (gOf w) (waitingOf w′)
   pub denied : deniedOf w′ ≡ 0 → (waitingOf w ≡ 0) ⊎ ((deniedOf w ≡ 0) × Apart goals l)
   pub other : (i : ℕ) → (i ≡ 2 → ⊥) → (i ≡ deniedAt → ⊥) → getD w′ i 0 ≡ getD w i 0
+
+-- while the goals join, which of them wait is not looked at: the work area holds for other goals, as many; none is noted as waiting, or
+-- nothing has joined
+pub record Stands (t : ℕ → Node) (n : ℕ) (goals w m : List ℕ) : Type 0 where
+  pub others : List ℕ
+  pub many : length others ≡ length goals
+  pub below : Goals n others
+  pub holds-them : Holds t n others w m
+  pub idle : (waitingOf w ≡ 0) ⊎ (gOf w ≡ [])
+
+-- the next move from G is a conflict
+abbrev pub Shuts : (ℕ → List (List ℕ)) → List ℕ → List ℕ → Type 0
+Shuts expand goals G = (k : ℕ) × (move expand goals G ≡ Conflict k)
+
+-- a goal l has joined, or was true; or it is false, or closes with what is held
+pub record Enlisted (t : ℕ → Node) (n : ℕ) (goals : List ℕ) (l : ℕ) (w w′ m′ : List ℕ) (r : Bool) : Type 0 where
+  pub ready : Ready n w′
+  pub on : r ≡ true → Stands t n goals w′ m′ × (mostNodes ≤ conflictOf w′)
+  pub list : r ≡ true → ((valueOf (gOf w) l ≡ holds) × (gOf w′ ≡ gOf w)) ⊎ ((valueOf (gOf w) l ≡ undecided) × (gOf w′ ≡ l ∷ gOf w))
+  pub shut : r ≡ false → (valueOf (gOf w) l ≡ fails) ⊎ ((valueOf (gOf w) l ≡ undecided) × Shuts (expand t) goals (l ∷ gOf w))
 
 -- ---- undo and start
 

@@ -1,24 +1,24 @@
-// The solver's state changes: start, restart, assume, join, undo_to. A literal that joins changes what the clauses of its node's held parents come
-// to, and nothing else. Nothing is noted for the way back: what undo_to goes back to had a split as its move, so no clause was a unit or all
+// The solver's state changes: start, restart, assume, join_goal, join, undo_to. A literal that joins changes what the clauses of its node's
+// held parents come to, and nothing else. Nothing is noted for the way back: what undo_to goes back to had a split as its move, so no clause was a unit or all
 // false there.
 // The work area's layout is in crate state, specs/Work.antt, the index's in crate index.
 ghost use mathlib.Core.Path.{_≡_};
 ghost use mathlib.Core.Bool.{false};
 ghost use mathlib.Core.List.{[], _∷_};
 ghost use Prim.Native.Nat.{ℕ, _+_, _-_, _*_, _/_, _%_, _≤_, _<_};
-ghost use lib.ListN.{length, set, drop};
+ghost use lib.ListN.{length, getD, set, drop};
 ghost use Rattle.calculus.specs.Expansion.{expand};
 ghost use Rattle.calculus.specs.Order.{holds, valueOf};
-ghost use Rattle.calculus.specs.Model.{Goals, Fresh};
+ghost use Rattle.calculus.specs.Model.{Goals, Fresh, questionSize};
 ghost use Rattle.index.specs.Index.{mostNodes, indexNode};
 ghost use Rattle.index.specs.Edges.{PairAt, parentOf};
 ghost use Rattle.index.specs.Indexed.{Indexed};
 ghost use Rattle.units.specs.Units.{words, positions, member, Units, Empty};
 ghost use Rattle.clause.specs.Coded.{Coded};
-ghost use Rattle.state.specs.Work.{area, tail, litAt, gOf, Ready, trailAt, basesAt};
+ghost use Rattle.state.specs.Work.{area, tail, litAt, gOf, conflictOf, Ready, trailAt, basesAt};
 ghost use Rattle.state.specs.Holds.{Holds, Splits, Waiting, statesAt, deniedAt};
 ghost use Rattle.state.specs.Picked.{Picked, Picks};
-ghost use Rattle.solver.specs.Changes.{Lowered, Flagged, Renewed, Visited, ThreeFrom, Walk, Touchable, Touched, Forcing, Lived, Tidied, Taken, Held, Attached, Served, Awaited, Settled, Left, Apart};
+ghost use Rattle.solver.specs.Changes.{Lowered, Flagged, Renewed, Visited, ThreeFrom, Walk, Touchable, Touched, Forcing, Lived, Tidied, Taken, Held, Attached, Served, Awaited, Stands, Enlisted, Settled, Left, Apart};
 
 // The cells of the work area.
 const CURSOR: usize = 0;
@@ -343,6 +343,57 @@ pub fn join(x: &[u16], n: usize, goals: &[u16], work: &mut [u16], masks: &mut [u
 {
     units::leave(masks, (u / 65536) as usize);
     attach(x, n, work, masks, (u % 4096) as u16)
+}
+
+// A goal, which is undecided, joins. Which of the others wait is not looked at: no goal is noted as waiting.
+fn enlist(x: &[u16], n: usize, goals: &[u16], work: &mut [u16], masks: &mut [u64], l: u16)
+    requires { ⌜ Indexed (now x) n ⌝ }
+    requires { ⌜ Stands (indexNode (now x)) n (now goals) (now work) (now masks) ⌝ }
+    requires { ⌜ Fresh n (gOf (now work)) l ⌝ }
+    ensures { λ _. ⌜ Stands (indexNode (now (x .entry))) n (now (goals .entry)) (now (work .exit)) (now (masks .exit)) ⌝ }
+    ensures { λ _. ⌜ gOf (now (work .exit)) ≡ l ∷ gOf (now (work .entry)) ⌝ }
+{
+    attach(x, n, work, masks, l);
+    work[WAITING] = 0;
+}
+
+// The goals from k on are noted as waiting.
+fn put_off(goals: &[u16], work: &mut [u16], k: usize)
+    requires { ⌜ (area ≤ length (now work)) × (length (now goals) ≤ questionSize) × (k < length (now goals)) ⌝ }
+    ensures { λ _. ⌜ now (work .exit) ≡ set (now (work .entry)) 2 (length (now (goals .entry)) - k) ⌝ }
+{
+    work[WAITING] = (goals.len() - k) as u16;
+}
+
+// Goal k joins, if it is undecided. Whether it is true then and no clause is all false; else it is noted where this ended.
+pub fn join_goal(
+    x: &[u16],
+    n: usize,
+    goals: &[u16],
+    work: &mut [u16],
+    masks: &mut [u64],
+    k: usize,
+) -> bool
+    requires { ⌜ Indexed (now x) n ⌝ }
+    requires { ⌜ Goals n (now goals) × (k < length (now goals)) ⌝ }
+    requires { ⌜ Stands (indexNode (now x)) n (now goals) (now work) (now masks) × (mostNodes ≤ conflictOf (now work)) ⌝ }
+    ensures { λ r. ⌜ Enlisted (indexNode (now (x .entry))) n (now (goals .entry)) (getD (now (goals .entry)) k 0) (now (work .entry)) (now (work .exit)) (now (masks .exit)) r ⌝ }
+{
+    let l = goals[k];
+    let v = state::value(n, work, l);
+    if v == 1 {
+        return true;
+    }
+    if v == 2 {
+        put_off(goals, work, k);
+        return false;
+    }
+    enlist(x, n, goals, work, masks, l);
+    if NONE <= work[CONFLICT] {
+        return true;
+    }
+    put_off(goals, work, k);
+    false
 }
 
 // No clause is a unit.

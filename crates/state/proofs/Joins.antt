@@ -1,7 +1,7 @@
 -- A literal joins what is held, and the newest leaves. Assumes nothing.
 use Rattle.index.specs.Index.{mostNodes}
 use mathlib.Core.Path.{_≡_, refl, sym, ap, _∙_, subst}
-use mathlib.Core.Logic.{_⊎_, inl, inr}
+use mathlib.Core.Logic.{inl, inr}
 use mathlib.Core.List.{List, _∷_}
 use Prim.Native.Nat.{ℕ, _+_, _-_, _/_, _<_, _≤_}
 use native.Mathlib.Omega.{arith}
@@ -15,9 +15,9 @@ use Rattle.trail.proofs.Trails.{trail-same, empty-trail, empty-held}
 use Rattle.trail.proofs.Joins.{Joins, joins}
 use Rattle.trail.proofs.Leaves.{Leaves, leaves, dropped}
 use Rattle.state.specs.Work.{tail, valueAt, cursorAt, cursorOf, litAt, gOf, held, trail, Ready, trailAt, literalsAt, entriesAt, entriesEnd, basesAt, valuesAt, valuesSize, cursorsAt, area}
-use Rattle.state.specs.Changes.{valuesSet, entrySet, Kept, Pushed, Popped, Wiped, Blank}
+use Rattle.state.specs.Changes.{valuesSet, entrySet, Kept, Still, Pushed, Popped, Wiped, Blank}
 use Rattle.state.proofs.Areas.{count-most, room-left, held-below, trail-still}
-use Rattle.state.proofs.Values.{number, number-nil, number-joined, number-negated, number-before, number-before-neg, number-other, set-other, set-first, set-second, set-length}
+use Rattle.state.proofs.Values.{number, number-nil, number-joined, number-negated, number-before, number-before-neg, number-other, set-other, set-as, set-length}
 
 -- ---- a literal joins: its values, the cursor, its entry
 
@@ -42,7 +42,8 @@ module _ {n : ℕ} {w : List ℕ} {l : ℕ} (few : n ≤ mostNodes) (h : Ready n
   unfolding u v
   u-size = length-set v (trailAt + (cursorsAt + H)) (cursorOf w) ∙ set-length w l 1 2 low (omega (arith, h .size))
 
-  u-other : (i : ℕ) → (i ≡ trailAt + (valuesAt + l) → ⊥) → (i ≡ trailAt + (valuesAt + neg l) → ⊥) → (i ≡ trailAt + (cursorsAt + H) → ⊥) → getD u i 0 ≡ getD w i 0
+  u-other : (i : ℕ) → (i ≡ trailAt + (valuesAt + l) → ⊥) → (i ≡ trailAt + (valuesAt + neg l) → ⊥) → (i ≡ trailAt + (cursorsAt + H) → ⊥)
+      → getD u i 0 ≡ getD w i 0
   unfolding u v
   u-other i a b c = getD-set-other v (trailAt + (cursorsAt + H)) i (cursorOf w) 0 c ∙ set-other w l 1 2 low (omega (arith, h .size)) i a b
 
@@ -59,20 +60,10 @@ module _ {n : ℕ} {w : List ℕ} {l : ℕ} (few : n ≤ mostNodes) (h : Ready n
   values : (k : ℕ) → k < valuesSize → valueAt (tail (entrySet u H l)) k ≡ number (held (tail (entrySet u H l))) k
   unfolding v
   values k i =
-      j .else (trailAt + (valuesAt + k)) (inr (omega arith)) ∙ u-value k i ∙ go (ℕ-discrete k l) (ℕ-discrete k (neg l))
+      j .else (trailAt + (valuesAt + k)) (inr (omega arith)) ∙ u-value k i
+      ∙ set-as w l 1 2 low (omega (arith, h .size)) (number (l ∷ gOf w)) (sym (number-joined (gOf w) l (f .1))) (sym (number-negated (gOf w) l (f .1)))
+      (λ k i e d. h .values k i ∙ sym (number-other (gOf w) l (f .1) k e d)) k i
       ∙ ap (λ (G : List ℕ). number G k) (sym (j .list))
-    where
-      size : trailAt + cursorsAt ≤ length w
-      size = omega (arith, h .size)
-
-      go : Dec (k ≡ l) → Dec (k ≡ neg l) → valueAt (tail (valuesSet w l 1 2)) k ≡ number (l ∷ gOf w) k
-      go (yes e) d =
-          ap (valueAt (tail (valuesSet w l 1 2))) e ∙ set-first w l 1 2 low size ∙ sym (number-joined (gOf w) l (f .1)) ∙ ap (number (l ∷ gOf w)) (sym e)
-      go (no e) (yes d) =
-          ap (valueAt (tail (valuesSet w l 1 2))) d ∙ set-second w l 1 2 low size ∙ sym (number-negated (gOf w) l (f .1)) ∙ ap (number (l ∷ gOf w)) (sym d)
-      go (no e) (no d) =
-          set-other w l 1 2 low size (trailAt + (valuesAt + k)) (λ x. e (omega (arith, x))) (λ x. d (omega (arith, x)))
-          ∙ h .values k i ∙ sym (number-other (gOf w) l (f .1) k e d)
 
   kept : (i : ℕ) → Kept H i → getD (entrySet u H l) i 0 ≡ getD w i 0
   unfolding H
@@ -157,23 +148,13 @@ module _ {n : ℕ} {w : List ℕ} {l : ℕ} (few : n ≤ mostNodes) (h : Ready n
 
   leave-values : (k : ℕ) → k < valuesSize → valueAt (tail (dropped 4 o l)) k ≡ number (held (tail (dropped 4 o l))) k
   unfolding o
-  leave-values k i = g .else (trailAt + (valuesAt + k)) (inr (omega arith)) ∙ go (ℕ-discrete k l) (ℕ-discrete k (neg l))
-    where
-      size : trailAt + cursorsAt ≤ length w
-      size = omega (arith, h .size)
+  leave-values k i =
+      let F = held (tail (dropped 4 (valuesSet w l 0 0) l)) in
+      g .else (trailAt + (valuesAt + k)) (inr (omega arith))
+      ∙ set-as w l 0 0 newest-low (omega (arith, h .size)) (number F) (sym (number-before F l fresh)) (sym (number-before-neg F l fresh))
+      (λ k i e d. h .values k i ∙ ap (λ (G : List ℕ). number G k) list ∙ number-other F l fresh k e d) k i
 
-      F : List ℕ
-      F = held (tail (dropped 4 (valuesSet w l 0 0) l))
-
-      go : Dec (k ≡ l) → Dec (k ≡ neg l) → valueAt (tail (valuesSet w l 0 0)) k ≡ number F k
-      go (yes e) d = ap (valueAt (tail (valuesSet w l 0 0))) e ∙ set-first w l 0 0 newest-low size ∙ sym (number-before F l fresh) ∙ ap (number F) (sym e)
-      go (no e) (yes d) =
-          ap (valueAt (tail (valuesSet w l 0 0))) d ∙ set-second w l 0 0 newest-low size ∙ sym (number-before-neg F l fresh) ∙ ap (number F) (sym d)
-      go (no e) (no d) =
-          set-other w l 0 0 newest-low size (trailAt + (valuesAt + k)) (λ x. e (omega (arith, x))) (λ x. d (omega (arith, x)))
-          ∙ h .values k i ∙ ap (λ (G : List ℕ). number G k) list ∙ number-other F l fresh k e d
-
-  leave-kept : (i : ℕ) → (i < trailAt) ⊎ (((trailAt < i) × (i < trailAt + entriesAt)) ⊎ (((trailAt + basesAt ≤ i) × (i < trailAt + valuesAt)) ⊎ (trailAt + cursorsAt ≤ i))) → getD (dropped 4 o l) i 0 ≡ getD w i 0
+  leave-kept : (i : ℕ) → Still i → getD (dropped 4 o l) i 0 ≡ getD w i 0
   leave-kept i (inl b) = g .else i (inl b) ∙ o-other i (λ e. omega (arith, e, b)) (λ e. omega (arith, e, b))
   leave-kept i (inr (inl b)) =
       getD-set-other (set o (trailAt + (entriesAt + l / 2)) 0) 4 i (getD o 4 0 - 1) 0 (λ e. omega (arith, e, b))
@@ -202,41 +183,58 @@ module _ {n : ℕ} {w : List ℕ} {l : ℕ} (few : n ≤ mostNodes) (h : Ready n
 abbrev firstBase : ℕ
 firstBase = trailAt + basesAt
 
-pub wiped-starts : (w : List ℕ) → Wiped w 0 w
-wiped-starts w = record { size = refl; zero = λ i b. absurd (omega (arith, b)) }
+pub wiped-starts : (w : List ℕ) (from : ℕ) → Wiped w from 0 w
+wiped-starts w from = record { size = refl; zero = λ i a b. absurd (omega (arith, a, b)); kept = λ i d. refl }
 
-pub wiped-goes : {w w₁ : List ℕ} {k : ℕ} → Wiped w k w₁ → k < length w₁ → Wiped w (k + 1) (set w₁ k 0)
-wiped-goes {w} {w₁} {k} z b = record { size = length-set w₁ k 0 ∙ z .size; zero = λ i a. go i a (ℕ-discrete i k) }
+pub wiped-goes : {w w₁ : List ℕ} {from k : ℕ} → Wiped w from k w₁ → from + k < length w₁ → Wiped w from (k + 1) (set w₁ (from + k) 0)
+wiped-goes {w} {w₁} {from} {k} z b = record {
+  size = length-set w₁ (from + k) 0 ∙ z .size;
+  zero = λ i a c. go i a c (ℕ-discrete i (from + k));
+  kept = λ i d. getD-set-other w₁ (from + k) i 0 0 (λ e. d (omega (arith, e)) (omega (arith, e))) ∙ z .kept i (λ a c. d a (omega (arith, c)));
+}
   where
-    go : (i : ℕ) → i < k + 1 → Dec (i ≡ k) → getD (set w₁ k 0) i 0 ≡ 0
-    go i a (yes e) = rw e (getD-set-same w₁ k 0 0 b)
-    go i a (no e) = getD-set-other w₁ k i 0 0 e ∙ z .zero i (omega (arith, a, e))
+    go : (i : ℕ) → from ≤ i → i < from + (k + 1) → Dec (i ≡ from + k) → getD (set w₁ (from + k) 0) i 0 ≡ 0
+    go i a c (yes e) = rw e (getD-set-same w₁ (from + k) 0 0 b)
+    go i a c (no e) = getD-set-other w₁ (from + k) i 0 0 e ∙ z .zero i a (omega (arith, c, e))
 
-module _ {n : ℕ} {w w₁ : List ℕ} (more : ℕ) (few : n ≤ mostNodes) (size : area ≤ length w) (z : Wiped w (trailAt + cursorsAt) w₁) where
+module _ {n : ℕ} {w w₁ w₂ : List ℕ} (more : ℕ) (few : n ≤ mostNodes) (size : area ≤ length w) (y : Wiped w (trailAt + entriesAt) n w₁)
+    (z : Wiped w₁ (trailAt + valuesAt) valuesSize w₂) where
   b : List ℕ
-  b = set w₁ firstBase more
+  b = set (set w₂ (trailAt + 0) 0) firstBase more
 
-  b-zero : (i : ℕ) → i < trailAt + cursorsAt → (i ≡ firstBase → ⊥) → getD b i 0 ≡ 0
+  b-other : (i : ℕ) → (i ≡ firstBase → ⊥) → (i ≡ 4 → ⊥) → getD b i 0 ≡ getD w₂ i 0
   unfolding b
-  b-zero i l d = getD-set-other w₁ firstBase i more 0 d ∙ z .zero i l
+  b-other i d e = getD-set-other (set w₂ (trailAt + 0) 0) firstBase i more 0 d ∙ getD-set-other w₂ (trailAt + 0) i 0 0 e
 
   none : tail b 0 ≡ 0
-  none = b-zero 4 (omega arith) (λ e. omega (arith, e))
+  unfolding b
+  none =
+      getD-set-other (set w₂ (trailAt + 0) 0) firstBase (trailAt + 0) more 0 (λ e. omega (arith, e))
+      ∙ getD-set-same w₂ (trailAt + 0) 0 0 (omega (arith, z .size, y .size, size))
+
+  entry-zero : (m : ℕ) → m < n → getD b (trailAt + (entriesAt + m)) 0 ≡ 0
+  entry-zero m i =
+      b-other (trailAt + (entriesAt + m)) (λ e. omega (arith, e, i, few)) (λ e. omega (arith, e))
+      ∙ z .kept (trailAt + (entriesAt + m)) (λ a c. omega (arith, a, i, few))
+      ∙ y .zero (trailAt + (entriesAt + m)) (omega arith) (omega (arith, i))
+
+  value-zero : (l : ℕ) → l < valuesSize → getD b (trailAt + (valuesAt + l)) 0 ≡ 0
+  value-zero l i =
+      b-other (trailAt + (valuesAt + l)) (λ e. omega (arith, e)) (λ e. omega (arith, e))
+      ∙ z .zero (trailAt + (valuesAt + l)) (omega arith) (omega (arith, i))
 
   blanked′ : Blank n more b
   unfolding b
   blanked′ = record {
     ready = record {
-      size = omega (arith, length-set w₁ firstBase more, z .size, size);
-      trail = empty-trail n (tail b) none (λ m i. b-zero (trailAt + (entriesAt + m)) (omega (arith, i, few)) (λ x. omega (arith, x, i, few)));
-      values = λ l i.
-          b-zero (trailAt + (valuesAt + l)) (omega (arith, i)) (λ x. omega (arith, x)) ∙ sym (number-nil l)
-          ∙ ap (λ (G : List ℕ). number G l) (sym (empty-held n (tail b) none));
+      size = omega (arith, length-set (set w₂ (trailAt + 0) 0) firstBase more, length-set w₂ (trailAt + 0) 0, z .size, y .size, size);
+      trail = empty-trail n (tail b) none entry-zero;
+      values = λ l i. value-zero l i ∙ sym (number-nil l) ∙ ap (λ (G : List ℕ). number G l) (sym (empty-held n (tail b) none));
     };
     count = none;
-    base = getD-set-same w₁ firstBase more 0 (omega (arith, z .size, size));
+    base = getD-set-same (set w₂ (trailAt + 0) 0) firstBase more 0 (omega (arith, length-set w₂ (trailAt + 0) 0, z .size, y .size, size));
   }
 
-  pub blanked : Blank n more (set w₁ (trailAt + basesAt) more)
+  pub blanked : Blank n more (set (set w₂ (trailAt + 0) 0) (trailAt + basesAt) more)
   unfolding b
   blanked = blanked′

@@ -3,6 +3,7 @@ use mathlib.Core.Path.{_≡_, refl, ap, _∙_}
 use mathlib.Core.List.{List, [], _∷_}
 use Prim.Native.Nat.{ℕ, _+_, _<_, _≤_}
 use native.Mathlib.Omega.{arith}
+use native.Mathlib.Decide.{ℕ-discrete}
 use lib.ListN.{length, getD, set, length-set}
 use lib.Seq.{getD-set-same, getD-set-other}
 use Rattle.calculus.specs.Expansion.{neg}
@@ -45,13 +46,23 @@ module _ (w : List ℕ) (l v u : ℕ) (b : l < valuesSize) (size : trailAt + cur
   pub set-other : (i : ℕ) → (i ≡ trailAt + (valuesAt + l) → ⊥) → (i ≡ trailAt + (valuesAt + neg l) → ⊥) → getD (valuesSet w l v u) i 0 ≡ getD w i 0
   set-other i a c = getD-set-other (set w (trailAt + (valuesAt + l)) v) (trailAt + (valuesAt + neg l)) i u 0 c ∙ getD-set-other w (trailAt + (valuesAt + l)) i v 0 a
 
-  pub set-first : valueAt (tail (valuesSet w l v u)) l ≡ v
+  set-first : valueAt (tail (valuesSet w l v u)) l ≡ v
   set-first =
       getD-set-other (set w (trailAt + (valuesAt + l)) v) (trailAt + (valuesAt + neg l)) (trailAt + (valuesAt + l)) u 0 (λ e. omega (arith, e))
       ∙ getD-set-same w (trailAt + (valuesAt + l)) v 0 (omega (arith, size, b))
 
-  pub set-second : valueAt (tail (valuesSet w l v u)) (neg l) ≡ u
+  set-second : valueAt (tail (valuesSet w l v u)) (neg l) ≡ u
   set-second = getD-set-same (set w (trailAt + (valuesAt + l)) v) (trailAt + (valuesAt + neg l)) u 0 (simp length-set (omega (arith, size, b)))
+
+  -- so they are as F says, where they were but for these two
+  pub set-as : (F : ℕ → ℕ) → v ≡ F l → u ≡ F (neg l) → ((k : ℕ) → k < valuesSize → (k ≡ l → ⊥) → (k ≡ neg l → ⊥) → valueAt (tail w) k ≡ F k)
+      → (k : ℕ) → k < valuesSize → valueAt (tail (valuesSet w l v u)) k ≡ F k
+  set-as F a c f k i = go (ℕ-discrete k l) (ℕ-discrete k (neg l))
+    where
+      go : Dec (k ≡ l) → Dec (k ≡ neg l) → valueAt (tail (valuesSet w l v u)) k ≡ F k
+      go (yes e) d = rw e (set-first ∙ a)
+      go (no e) (yes d) = rw d (set-second ∙ c)
+      go (no e) (no d) = set-other (trailAt + (valuesAt + k)) (λ x. e (omega (arith, x))) (λ x. d (omega (arith, x))) ∙ f k i e d
 
   pub set-length : length (valuesSet w l v u) ≡ length w
   set-length = simp length-set

@@ -25,7 +25,15 @@ codeSet w q code = set w (trailAt + (codesAt + q)) code
 
 -- a number that neither a joining nor a leaving literal changes: a cell, an earlier literal, a base, a cursor but that at h
 abbrev pub Kept : ℕ → ℕ → Type 0
-Kept h i = (i < trailAt) ⊎ (((trailAt < i) × (i < trailAt + literalsAt + h)) ⊎ (((trailAt + basesAt ≤ i) × (i < trailAt + valuesAt)) ⊎ ((trailAt + cursorsAt ≤ i) × (i ≡ trailAt + cursorsAt + h → ⊥))))
+Kept h i =
+    (i < trailAt) ⊎ (((trailAt < i) × (i < trailAt + literalsAt + h))
+    ⊎ (((trailAt + basesAt ≤ i) × (i < trailAt + valuesAt)) ⊎ ((trailAt + cursorsAt ≤ i) × (i ≡ trailAt + cursorsAt + h → ⊥))))
+
+-- one that a leaving literal does not change: a cell, a literal, a base, a cursor, a code
+abbrev pub Still : ℕ → Type 0
+Still i =
+    (i < trailAt) ⊎ (((trailAt < i) × (i < trailAt + entriesAt))
+    ⊎ (((trailAt + basesAt ≤ i) × (i < trailAt + valuesAt)) ⊎ (trailAt + cursorsAt ≤ i)))
 
 -- l has joined at the position that was the count
 pub record Pushed (n l : ℕ) (w w′ : List ℕ) : Type 0 where
@@ -42,12 +50,13 @@ pub record Popped (n : ℕ) (w w′ : List ℕ) : Type 0 where
   pub ready : Ready n w′
   pub size : length w′ ≡ length w
   pub count : tail w 0 ≡ suc (tail w′ 0)
-  pub kept : (i : ℕ) → (i < trailAt) ⊎ (((trailAt < i) × (i < trailAt + entriesAt)) ⊎ (((trailAt + basesAt ≤ i) × (i < trailAt + valuesAt)) ⊎ (trailAt + cursorsAt ≤ i))) → getD w′ i 0 ≡ getD w i 0
+  pub kept : (i : ℕ) → Still i → getD w′ i 0 ≡ getD w i 0
 
--- the first k numbers are 0
-pub record Wiped (w : List ℕ) (k : ℕ) (w′ : List ℕ) : Type 0 where
+-- so many numbers from a place on are 0, and the others are as they were
+pub record Wiped (w : List ℕ) (from many : ℕ) (w′ : List ℕ) : Type 0 where
   pub size : length w′ ≡ length w
-  pub zero : (i : ℕ) → i < k → getD w′ i 0 ≡ 0
+  pub zero : (i : ℕ) → from ≤ i → i < from + many → getD w′ i 0 ≡ 0
+  pub kept : (i : ℕ) → (from ≤ i → i < from + many → ⊥) → getD w′ i 0 ≡ getD w i 0
 
 -- nothing is held, and so many clauses stand before those of the first literal
 pub record Blank (n more : ℕ) (w : List ℕ) : Type 0 where

@@ -5,11 +5,14 @@ ghost use lib.ListN.{length};
 ghost use Rattle.calculus.specs.Model.{Fresh};
 ghost use Rattle.calculus.specs.Order.{valueOf};
 ghost use Rattle.index.specs.Index.{mostNodes};
-ghost use Rattle.state.specs.Work.{area, tail, litAt, entryOf, baseOf, cursorAt, codeAt, gOf, valueCode, Ready};
+ghost use Rattle.state.specs.Work.{area, tail, litAt, entryOf, baseOf, cursorAt, codeAt, gOf, waitingOf, valueCode, Ready};
 ghost use Rattle.state.specs.Changes.{valuesSet, entrySet, baseSet, codeSet, Pushed, Popped, Wiped, Blank};
 
 // The cursor: every clause of the positions before it is met.
 const CURSOR: usize = 0;
+
+// How many goals wait.
+const WAITING: usize = 2;
 
 // The trail: the count of the literals held, the literals, each node's entry (2 * position + sign + 1, or 0), how many clauses stand before
 // each literal's, each literal's value, the cursor as each literal joined, what is kept of its units.
@@ -23,9 +26,19 @@ const BASES: usize = 4034;
 
 const VALUES: usize = 6051;
 
+const VALUES_SIZE: usize = 4032;
+
 const CURSORS: usize = 10083;
 
 const CODES: usize = 12100;
+
+// How many goals wait, as last noted.
+pub fn waiting(work: &[u16]) -> u16
+    requires { ⌜ area ≤ length (now work) ⌝ }
+    ensures { λ r. ⌜ r ≡ waitingOf (now (work .entry)) ⌝ }
+{
+    work[WAITING]
+}
 
 // How many literals are held.
 pub fn count(work: &[u16]) -> u16
@@ -147,23 +160,25 @@ pub fn pop(n: usize, work: &mut [u16])
     work[TRAIL] = h;
 }
 
-// The first k numbers become 0.
-fn wipe(work: &mut [u16], k: usize)
-    requires { ⌜ k ≤ length (now work) ⌝ }
-    ensures { λ _. ⌜ Wiped (now (work .entry)) k (now (work .exit)) ⌝ }
+// So many numbers from a place on become 0.
+fn wipe(work: &mut [u16], from: usize, many: usize)
+    requires { ⌜ from + many ≤ length (now work) ⌝ }
+    ensures { λ _. ⌜ Wiped (now (work .entry)) from many (now (work .exit)) ⌝ }
 {
     let mut i = 0;
-    while i < k {
-        work[i] = 0;
+    while i < many {
+        work[from + i] = 0;
         i += 1;
     }
 }
 
-// Nothing is held; so many clauses stand before those of the first literal.
+// Nothing is held; so many clauses stand before those of the first literal. No entry is read but those of the n nodes.
 pub fn blank(n: usize, work: &mut [u16], clauses: u16)
     requires { ⌜ (area ≤ length (now work)) × (n ≤ mostNodes) ⌝ }
     ensures { λ _. ⌜ Blank n clauses (now (work .exit)) ⌝ }
 {
-    wipe(work, TRAIL + CURSORS);
+    wipe(work, TRAIL + ENTRIES, n);
+    wipe(work, TRAIL + VALUES, VALUES_SIZE);
+    work[TRAIL] = 0;
     work[TRAIL + BASES] = clauses;
 }

@@ -1,4 +1,5 @@
 -- `clause::choose` meets its contract. The number that is read is a literal of the table, and a choice's parity its sign. Assumes nothing.
+use Prim.Native.Nat.{_<_}
 use Rattle.clause.proofs.Rows.{six, operand-chosen}
 use Rattle.clause.proofs.Signs.{xor-choice}
 use native.Mathlib.Omega.{arith}
@@ -6,27 +7,8 @@ use borrow.Author.Needs.{needs}
 use Rattle.clause.proofs.choose.Statement.{statement}
 use Rattle.clause.proofs.choose.Tie as tie
 
-mul-l : tie.Need-mul-l
-mul-l c = search needs
-
-add-l : tie.Need-add-l
-add-l c = search needs
-
-add-l-2 : tie.Need-add-l-2
-add-l-2 c = search needs
-
-mul-l-2 : tie.Need-mul-l-2
-mul-l-2 c =
-    let s = c in
-    omega (arith, s .pre .0 .few, six (s .pre .0) (s .args .node) (s .pre .1 .0) (s .args .c) (s .pre .1 .1))
-
-shared-slice-read-l : tie.Need-shared-slice-read-l
-shared-slice-read-l c =
-    let s = c .before in
-    omega (arith, s .pre .0 .few, s .pre .0 .size, six (s .pre .0) (s .args .node) (s .pre .1 .0) (s .args .c) (s .pre .1 .1))
-
-cast-result : tie.Need-cast-result
-cast-result c = search needs
+low : (s : tie.Start) → s .args .c < 6
+low s = six (s .pre .0) (s .args .node) (s .pre .1 .0) (s .args .c) (s .pre .1 .1)
 
 returns : tie.Need-returns
 returns c =
@@ -34,4 +16,11 @@ returns c =
     xor-choice _ (s .args .c) (operand-chosen (s .pre .0) (s .args .node) (s .pre .1 .0) (s .args .c) (s .pre .1 .1))
 
 pub choose-spec : {M : Type 1} → statement M
-choose-spec = tie.close (tie.spec mul-l add-l add-l-2 mul-l-2 shared-slice-read-l cast-result returns)
+choose-spec =
+    tie.close
+    (tie.spec
+    (λ c. search needs) (λ c. search needs) (λ c. search needs)
+    (λ c. omega (arith, low c))
+    (λ c. omega (arith, low (c .before)))
+    (λ c. search needs)
+    returns)

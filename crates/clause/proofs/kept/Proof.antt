@@ -7,24 +7,9 @@ use borrow.Author.Needs.{needs}
 use Rattle.clause.proofs.kept.Statement.{statement}
 use Rattle.clause.proofs.kept.Tie as tie
 
-mul-result : tie.Need-mul-result
-mul-result c = search needs
-
-add-result : tie.Need-add-result
-add-result c = search needs
-
 returns : tie.Need-returns
 unfolding keptBy
 returns c = rw (c .if1 .taken)
-
-negated-requires : tie.Need-negated-requires
-negated-requires c κs = search needs
-
-mul-result-2 : tie.Need-mul-result-2
-mul-result-2 c = search needs
-
-add-result-2 : tie.Need-add-result-2
-add-result-2 c = search needs
 
 returns-2 : tie.Need-returns-2
 unfolding keptBy
@@ -33,4 +18,4 @@ returns-2 c = rw (ne-eqb (c .before .before .args .class % 2) 0 (c .before .if1 
 pub kept-spec : {M : Type 1} → statement M
 kept-spec =
     tie.close
-    (tie.spec mul-result add-result returns negated-requires mul-result-2 add-result-2 returns-2)
+    (tie.spec (λ c. search needs) (λ c. search needs) returns (λ c κs. search needs) (λ c. search needs) (λ c. search needs) returns-2)

@@ -1,26 +1,25 @@
 -- `clause::parent` meets its contract: the parent is below n, as that of each edge. Assumes nothing.
 use mathlib.Core.Path.{refl}
+use Prim.Native.Nat.{_<_}
+use Rattle.index.specs.Index.{mostEdges}
 use Rattle.clause.proofs.Classes.{pair-within}
 use native.Mathlib.Omega.{arith}
 use borrow.Author.Needs.{needs}
 use Rattle.clause.proofs.parent.Statement.{statement}
 use Rattle.clause.proofs.parent.Tie as tie
 
-add-result : tie.Need-add-result
-add-result c = omega (arith, pair-within (c .pre .0) (c .args .node) (c .args .k) (c .pre .1 .0) (c .pre .1 .1), c .pre .0 .size)
-
-mul-result : tie.Need-mul-result
-mul-result c = omega (arith, pair-within (c .pre .0) (c .args .node) (c .args .k) (c .pre .1 .0) (c .pre .1 .1), c .pre .0 .size)
-
-shared-slice-read-result : tie.Need-shared-slice-read-result
-shared-slice-read-result c = omega (arith, pair-within (c .before .pre .0) (c .before .args .node) (c .before .args .k) (c .before .pre .1 .0) (c .before .pre .1 .1), c .before .pre .0 .size)
-
-cast-result : tie.Need-cast-result
-cast-result c = search needs
+within : (s : tie.Start) → s .args .k < mostEdges
+within s = pair-within (s .pre .0) (s .args .node) (s .args .k) (s .pre .1 .0) (s .pre .1 .1)
 
 returns : tie.Need-returns
 returns c = (refl, c .before .pre .0 .edges .pairs (c .before .args .node) (c .before .args .k) (c .before .pre .1 .0) (c .before .pre .1 .1) .low)
 
 pub parent-spec : {M : Type 1} → statement M
 parent-spec =
-    tie.close (tie.spec add-result mul-result shared-slice-read-result cast-result returns)
+    tie.close
+    (tie.spec
+    (λ c. omega (arith, within c))
+    (λ c. omega (arith, within c))
+    (λ c. omega (arith, within (c .before)))
+    (λ c. search needs)
+    returns)

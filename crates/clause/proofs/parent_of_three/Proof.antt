@@ -1,25 +1,28 @@
 -- `clause::parent_of_three` meets its contract: the parent is below n, as that of each edge. Assumes nothing.
 use mathlib.Core.Path.{refl}
+use Prim.Native.Nat.{_<_}
+use Rattle.index.specs.Index.{mostEdges}
+use Rattle.index.specs.Edges.{edgeAt}
 use Rattle.clause.proofs.Classes.{three-within}
 use native.Mathlib.Omega.{arith}
 use Rattle.clause.proofs.parent_of_three.Statement.{statement}
 use Rattle.clause.proofs.parent_of_three.Tie as tie
 
-add-result : tie.Need-add-result
-add-result c = omega (arith, three-within (c .pre .0) (c .args .node) (c .args .k) (c .pre .1 .0) (c .pre .1 .1), c .pre .0 .size)
+within : (s : tie.Start) → s .args .k < mostEdges
+within s = three-within (s .pre .0) (s .args .node) (s .args .k) (s .pre .1 .0) (s .pre .1 .1)
 
-mul-result : tie.Need-mul-result
-mul-result c = omega (arith, three-within (c .pre .0) (c .args .node) (c .args .k) (c .pre .1 .0) (c .pre .1 .1), c .pre .0 .size)
-
-shared-slice-read-result : tie.Need-shared-slice-read-result
-shared-slice-read-result c = omega (arith, three-within (c .before .pre .0) (c .before .args .node) (c .before .args .k) (c .before .pre .1 .0) (c .before .pre .1 .1), c .before .pre .0 .size)
-
-cast-result : tie.Need-cast-result
-cast-result c = omega (arith, c .before .pre .0 .edges .threes (c .before .args .node) (c .before .args .k) (c .before .pre .1 .0) (c .before .pre .1 .1), c .before .pre .0 .few)
+below : (s : tie.Start) → edgeAt (s .args .x .now) (s .args .k) < s .args .n
+below s = s .pre .0 .edges .threes (s .args .node) (s .args .k) (s .pre .1 .0) (s .pre .1 .1)
 
 returns : tie.Need-returns
-returns c = (refl, c .before .pre .0 .edges .threes (c .before .args .node) (c .before .args .k) (c .before .pre .1 .0) (c .before .pre .1 .1))
+returns c = (refl, below (c .before))
 
 pub parent-of-three-spec : {M : Type 1} → statement M
 parent-of-three-spec =
-    tie.close (tie.spec add-result mul-result shared-slice-read-result cast-result returns)
+    tie.close
+    (tie.spec
+    (λ c. omega (arith, within c))
+    (λ c. omega (arith, within c))
+    (λ c. omega (arith, within (c .before)))
+    (λ c. omega (arith, below (c .before), c .before .pre .0 .few))
+    returns)

@@ -7,19 +7,10 @@ use borrow.Author.Needs.{needs}
 use Rattle.clause.proofs.template.Statement.{statement}
 use Rattle.clause.proofs.template.Tie as tie
 
-mul-result : tie.Need-mul-result
-mul-result c = search needs
-
-index-1-result : tie.Need-index-1-result
-index-1-result c = search needs
-
-index-2-result : tie.Need-index-2-result
-index-2-result c = search needs
-
 returns : tie.Need-returns
 returns c =
     let s = c .before in
     ap (λ (t : List (List ℕ)). getD (getD t (s .args .row) []) (s .args .column) 0) (s .pre .0)
 
 pub template-spec : {M : Type 1} → statement M
-template-spec = tie.close (tie.spec mul-result index-1-result index-2-result returns)
+template-spec = tie.close (tie.spec (λ c. search needs) (λ c. search needs) (λ c. search needs) returns)

@@ -1,10 +1,12 @@
--- `index::build_below` meets its contract: of the nodes loaded no edge is counted yet, and linking keeps them. Assumes nothing.
-use Prim.Native.Nat.{_+_, _*_, _<_}
+-- `index::build_below` meets its contract: of the nodes loaded the edges have their places, and putting them keeps the nodes. Assumes nothing.
+use Prim.Native.Nat.{_*_, _<_}
+use Rattle.calculus.proofs.Lists.{all-imply}
+use Rattle.index.specs.Index.{mostNodes}
+use Rattle.index.specs.Marks.{markAll}
+use Rattle.index.proofs.Marks.{pruned}
+use Rattle.index.proofs.Falls.{fits-none, marks-zeros, sinks-whole, sunk-placing}
 use native.Mathlib.Omega.{arith}
 use borrow.Author.Needs.{needs}
-use Rattle.calculus.proofs.Lists.{all-imply}
-use Rattle.index.specs.Index.{midAt, endAt, mostNodes}
-use Rattle.index.proofs.Marks.{sinks-whole, sunk-known, pruned}
 use Rattle.index.proofs.build_below.Statement.{statement}
 use Rattle.index.proofs.build_below.Tie as tie
 
@@ -15,17 +17,16 @@ mark-all-requires c κs =
     (p .1 .1 .0, all-imply (λ l. l < 2 * s .args .n) (λ l. l < 2 * mostNodes) (λ l h. omega (arith, h, p .0 .0)) (s .args .ls .now) (p .1 .0))
 
 sink-requires : tie.Need-sink-requires
-sink-requires c κs = search needs
+sink-requires c κs =
+    let s = c .before .before .before .before .before .before .before .before in
+    let p = s .pre in
+    (p .0, (search needs, rw (c .before .before .before .mark-all .ensures) (fits-none (s .args .n) (markAll (s .args .x .now) (s .args .ls .now)) (p .0 .0) (marks-zeros (s .args .n) (s .args .x .now) (s .args .ls .now) (p .0 .0) (p .1 .0) (p .1 .1 .1)))))
 
-link-requires : tie.Need-link-requires
-link-requires c κs =
-    let k = c .before .before .before in
-    let m = k .before .before .before .before in
-    let s = m .before .before .before .before .before in
-    let w = sinks-whole (s .args .t .now) (s .args .ls .now) (s .args .n) (s .args .x .now) _ _ (s .pre .0 .0) (s .pre .0 .2) (s .pre .1 .0) (s .pre .1 .1 .0) (s .pre .1 .1 .1) (m .mark-all .ensures) (k .sink .ensures) in (
-      (w .size, s .pre .0 .0, sunk-known _ _ _ _ (s .pre .0 .2) w),
-      λ i h. (w .blank (midAt + i) (omega arith) (omega (arith, h, s .pre .0 .0)), w .blank (endAt + i) (omega arith) (omega (arith, h, s .pre .0 .0))),
-    )
+fill-requires : tie.Need-fill-requires
+fill-requires c κs =
+    let s = c .before .before .before .before .before .before .before .before .before .before .before .before in
+    let w = sinks-whole (s .args .t .now) (s .args .ls .now) (s .args .n) (s .args .x .now) _ _ (s .pre .0 .0) (s .pre .0 .2) (s .pre .1 .0) (s .pre .1 .1 .0) (s .pre .1 .1 .1) (c .before .before .before .before .before .before .before .mark-all .ensures) (c .before .before .before .sink .ensures) in
+    (s .pre .0 .0, sunk-placing _ _ _ _ (s .pre .0 .2) w)
 
 copy-codes-requires : tie.Need-copy-codes-requires
 copy-codes-requires c κs = search needs
@@ -45,7 +46,7 @@ returns c =
     let m = k .before .before .before .before in
     let s = m .before .before .before .before .before in
     let w = sinks-whole (s .args .t .now) (s .args .ls .now) (s .args .n) (s .args .x .now) _ _ (s .pre .0 .0) (s .pre .0 .2) (s .pre .1 .0) (s .pre .1 .1 .0) (s .pre .1 .1 .1) (m .mark-all .ensures) (k .sink .ensures) in
-    pruned (s .args .t .now) (s .args .ls .now) (s .args .n) _ _ _ _ (s .pre .0 .0) w (l .link .ensures) (y .copy-codes .ensures) (v .copy-classes .ensures)
+    pruned (s .args .t .now) (s .args .ls .now) (s .args .n) _ _ _ _ (s .pre .0 .0) (w .sinking) (l .fill .ensures) (y .copy-codes .ensures) (v .copy-classes .ensures)
 
 pub build-below-spec : {M : Type 1} → statement M
 build-below-spec =
@@ -53,7 +54,7 @@ build-below-spec =
     (tie.spec
     mark-all-requires
     sink-requires
-    link-requires
+    fill-requires
     copy-codes-requires
     copy-classes-requires
     same-length

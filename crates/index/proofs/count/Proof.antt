@@ -38,7 +38,7 @@ loop-again c =
     let l = c .before .before .before .before .before .loop in
     let h = c .before .before .before .before .loop-test .taken in
     let e = c .before .before .count-node .ensures in
-    (omega (arith, h), rw e (counted-more (s .pre .0 .1) (s .pre .0 .2) h (l .inv .1)), λ i b. rw e (count-same (l .x) (indexNode (l .x) (l .p)) i b ∙ l .inv .2 i b))
+    (omega (arith, h), rw e (counted-more (s .pre .0 .1) (s .pre .0 .2) h (l .inv .1)), λ i b. rw e (count-same (l .x) (indexNode (l .x) (l .p)) i (omega (arith, b)) ∙ l .inv .2 i b))
 
 same-length : tie.Need-same-length Inv-loop μ-loop
 same-length c = c .before .loop .inv .1 .size ∙ sym (c .before .before .before .pre .0 .0)

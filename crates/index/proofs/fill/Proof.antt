@@ -3,6 +3,7 @@ use mathlib.Core.Path.{_≡_, refl, sym, _∙_}
 use Prim.Native.Nat.{ℕ, _-_, _≤_}
 use Rattle.scope.specs.declared.Node.{Node}
 use Rattle.index.specs.Index.{firstAt, indexNode}
+use Rattle.index.specs.Edges.{firstOf}
 use Rattle.index.specs.Built.{Same, Known, pairsTo, threesTo}
 use Rattle.index.proofs.Fills.{Filled}
 use Rattle.index.proofs.Wholes.{Named, filled-none, fill-room, filled-more, edges-of, put-same}
@@ -12,7 +13,7 @@ use Rattle.index.proofs.fill.Statement.{statement}
 use Rattle.index.proofs.fill.Tie as tie
 
 abbrev Inv-loop : tie.InvT-loop
-Inv-loop x₀ n p₀ x p = (p ≤ n) × ((t : ℕ → Node) × Known t n × Filled t n (pairsTo t p) (threesTo t p) (Named t p) x) × Same firstAt x₀ x
+Inv-loop x₀ n p₀ x p = (p ≤ n) × ((t : ℕ → Node) × Known t n × Filled t n (firstOf x₀) (pairsTo t p) (threesTo t p) (Named t p) x) × Same firstAt x₀ x
 
 abbrev μ-loop : tie.MeasureT-loop
 μ-loop x₀ n p₀ x p = n - p

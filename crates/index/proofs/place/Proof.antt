@@ -7,7 +7,7 @@ use Rattle.scope.specs.declared.Node.{Node}
 use Rattle.index.specs.Index.{firstAt, midAt}
 use Rattle.index.specs.Built.{Same, Known, pairsTo, threesTo, startOf}
 use Rattle.index.proofs.Sums.{sum-next, total-low}
-use Rattle.index.proofs.Wholes.{Place, start-none, place-none, place-more, place-same}
+use Rattle.index.proofs.Wholes.{Place, start-none, place-none, place-more, place-same, places}
 use native.Mathlib.Omega.{arith}
 use borrow.Author.Needs.{needs}
 use Rattle.index.proofs.place.Statement.{statement}
@@ -31,7 +31,7 @@ mul-mid : tie.Need-mul-mid Inv-loop μ-loop
 mul-mid c = search needs
 
 slice-read-mid : tie.Need-slice-read-mid Inv-loop μ-loop
-slice-read-mid c = omega (arith, c .before .before .loop .inv .1 .2 .placed .size, c .before .loop-test .taken, c .before .before .before .pre .0)
+slice-read-mid c = omega (arith, c .before .before .loop .inv .1 .2 .size, c .before .loop-test .taken, c .before .before .before .pre .0)
 
 add-mid-2 : tie.Need-add-mid-2 Inv-loop μ-loop
 add-mid-2 c =
@@ -46,7 +46,7 @@ mul-end : tie.Need-mul-end Inv-loop μ-loop
 mul-end c = search needs
 
 slice-read-end : tie.Need-slice-read-end Inv-loop μ-loop
-slice-read-end c = omega (arith, c .before .before .before .loop .inv .1 .2 .placed .size, c .before .before .loop-test .taken, c .before .before .before .before .pre .0)
+slice-read-end c = omega (arith, c .before .before .before .loop .inv .1 .2 .size, c .before .before .loop-test .taken, c .before .before .before .before .pre .0)
 
 add-end-2 : tie.Need-add-end-2 Inv-loop μ-loop
 add-end-2 c =
@@ -61,7 +61,7 @@ mul-x : tie.Need-mul-x Inv-loop μ-loop
 mul-x c = search needs
 
 slice-write-x : tie.Need-slice-write-x Inv-loop μ-loop
-slice-write-x c = (omega (arith, c .before .before .before .loop .inv .1 .2 .placed .size, c .before .before .loop-test .taken, c .before .before .before .before .pre .0))
+slice-write-x c = (omega (arith, c .before .before .before .loop .inv .1 .2 .size, c .before .before .loop-test .taken, c .before .before .before .before .pre .0))
 
 add-x-2 : tie.Need-add-x-2 Inv-loop μ-loop
 add-x-2 c = search needs
@@ -70,7 +70,7 @@ mul-x-2 : tie.Need-mul-x-2 Inv-loop μ-loop
 mul-x-2 c = search needs
 
 slice-write-x-2 : tie.Need-slice-write-x-2 Inv-loop μ-loop
-slice-write-x-2 c = simp length-set (omega (arith, c .before .before .before .loop .inv .1 .2 .placed .size, c .before .before .loop-test .taken, c .before .before .before .before .pre .0))
+slice-write-x-2 c = simp length-set (omega (arith, c .before .before .before .loop .inv .1 .2 .size, c .before .before .loop-test .taken, c .before .before .before .before .pre .0))
 
 add-x-3 : tie.Need-add-x-3 Inv-loop μ-loop
 add-x-3 c = search needs
@@ -79,7 +79,7 @@ mul-x-3 : tie.Need-mul-x-3 Inv-loop μ-loop
 mul-x-3 c = search needs
 
 slice-write-x-3 : tie.Need-slice-write-x-3 Inv-loop μ-loop
-slice-write-x-3 c = simp length-set (omega (arith, c .before .before .before .loop .inv .1 .2 .placed .size, c .before .before .loop-test .taken, c .before .before .before .before .pre .0))
+slice-write-x-3 c = simp length-set (omega (arith, c .before .before .before .loop .inv .1 .2 .size, c .before .before .loop-test .taken, c .before .before .before .before .pre .0))
 
 add-m : tie.Need-add-m Inv-loop μ-loop
 add-m c = search needs
@@ -101,14 +101,14 @@ loop-again c =
     (omega (arith, h), (i .0, i .1, place-more few h (i .2) s e (i .3) e-is, omega (arith, next, mid, i .2 .rest-end (l .m) (omega arith) h, i .3)), λ k b. place-same few h (i .2) s e (i .3) e-is k b ∙ l .inv .2 k b)
 
 same-length : tie.Need-same-length Inv-loop μ-loop
-same-length c = c .before .loop .inv .1 .2 .placed .size ∙ sym (c .before .before .pre .1 .2 .size)
+same-length c = c .before .loop .inv .1 .2 .size ∙ sym (c .before .before .pre .1 .2 .size)
 
 returns : tie.Need-returns Inv-loop μ-loop
 returns c =
     let s = c .before .before in
     let i = c .before .loop .inv in
     let e : c .before .loop .m ≡ s .args .n = omega (arith, i .0, c .loop-test .left) in
-    ((i .1 .0, i .1 .1, rw e at (i .1 .2 .placed)), i .2)
+    ((i .1 .0, i .1 .1, places (s .pre .0) (rw e at (i .1 .2))), i .2)
 
 pub place-spec : {M : Type 1} → statement M
 place-spec =

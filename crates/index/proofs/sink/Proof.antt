@@ -2,22 +2,22 @@
 use mathlib.Core.Path.{_≡_, refl, sym, _∙_}
 use Prim.Native.Nat.{_≤_}
 use lib.ListN.{length}
+use Rattle.index.specs.Index.{indexSize}
+use Rattle.index.specs.Marks.{sunk, Fits}
+use Rattle.index.proofs.Marks.{sunk-none}
 use native.Mathlib.Omega.{arith}
 use borrow.Author.Needs.{needs}
-use Rattle.index.specs.Index.{indexSize}
-use Rattle.index.specs.Marks.{sunk}
-use Rattle.index.proofs.Marks.{sunk-none}
 use Rattle.index.proofs.sink.Statement.{statement}
 use Rattle.index.proofs.sink.Tie as tie
 
 abbrev Inv-loop : tie.InvT-loop
-Inv-loop t n x₀ end₀ x end = (end ≤ n) × (length x ≡ indexSize) × (sunk t x end ≡ sunk t x₀ n)
+Inv-loop t n x₀ end₀ start₀ x end start = (end ≤ n) × (length x ≡ indexSize) × (sunk t x start end ≡ sunk t x₀ 0 n) × Fits end start x
 
 abbrev μ-loop : tie.MeasureT-loop
-μ-loop t n x₀ end₀ x end = end
+μ-loop t n x₀ end₀ start₀ x end start = end
 
 loop-holds : tie.Need-loop-holds Inv-loop μ-loop
-loop-holds c = (omega arith, c .before .before .pre .1, refl)
+loop-holds c = (omega arith, c .before .before .pre .1 .0, refl, c .before .before .pre .1 .1)
 
 sub-base : tie.Need-sub-base Inv-loop μ-loop
 sub-base c = search needs
@@ -31,7 +31,7 @@ pass-block-requires c κs =
     let i = c .before .before .loop .inv in
     let h = c .before .loop-test .taken in (
       (omega arith, omega (arith, h), omega (arith, h), omega (arith, i .0, p .0 .0)),
-      (λ m b. p .0 .1 m (omega (arith, b, i .0)), λ m b. p .0 .2 m (omega (arith, b, i .0)), i .1),
+      ((λ m b. p .0 .1 m (omega (arith, b, i .0)), λ m b. p .0 .2 m (omega (arith, b, i .0)), i .1), i .3),
     )
 
 loop-less : tie.Need-loop-less Inv-loop μ-loop
@@ -41,16 +41,16 @@ loop-again : tie.Need-loop-again Inv-loop μ-loop
 loop-again c =
     let i = c .before .before .before .before .before .loop .inv in
     let e = c .before .before .pass-block .ensures in
-    (omega (arith, i .0, c .before .before .before .before .loop-test .taken), e .1, e .0 ∙ i .2)
+    (omega (arith, i .0, c .before .before .before .before .loop-test .taken), e .1, e .0 ∙ i .2, e .2)
 
 same-length : tie.Need-same-length Inv-loop μ-loop
-same-length c = c .before .loop .inv .1 ∙ sym (c .before .before .before .before .pre .1)
+same-length c = c .before .loop .inv .1 ∙ sym (c .before .before .before .before .pre .1 .0)
 
 returns : tie.Need-returns Inv-loop μ-loop
 returns c =
     let i = c .before .loop .inv in
     let e : c .before .loop .end ≡ 0 = omega (arith, c .loop-test .left) in
-    sym (sunk-none _ _) ∙ (rw e at (i .2))
+    sym (sunk-none _ _ _) ∙ (rw e at (i .2))
 
 pub sink-spec : {M : Type 1} → statement M
 sink-spec =

@@ -1,14 +1,30 @@
--- `searching::from_start` meets its contract: the units that join first, then the search from the first split, where the sets of the
--- literals held are empty. Assumes nothing.
-use Rattle.searching.proofs.Jumps.{jumps-closed, jumps-model, jumps-on, jumps-from, held-low, counted-whole}
-use Rattle.rests.proofs.Held.{cleared-same, cleared-sets}
-use native.Mathlib.Omega.{arith}
+-- `searching::from_start` meets its contract: the goals, the units that join then, and the search from the first split. Assumes nothing.
+use mathlib.Core.Path.{_∙_}
+use Rattle.searching.proofs.Jumps.{jumps-closed, jumps-model, counted-whole, counted-shut}
+use borrow.Author.Tests.{not-true, not-false}
 use borrow.Author.Needs.{needs}
 use Rattle.searching.proofs.from_start.Statement.{statement}
 use Rattle.searching.proofs.from_start.Tie as tie
 
+join-goals-requires : tie.Need-join-goals-requires
+join-goals-requires c κs = search needs
+
+same-length : tie.Need-same-length
+same-length c = search needs
+
+same-length-2 : tie.Need-same-length-2
+same-length-2 c = search needs
+
+returns : tie.Need-returns
+returns c =
+    let b = c .before .before .before .before .before .join-goals .ensures in
+    let (s, e) = b .shut (not-true _ (c .if1 .taken)) in
+    (counted-shut (b .ready) s e, c .before .before .before .before .before .before .before .before .before .before .before .before .before .pre .1 .1 .1)
+
 first-units-requires : tie.Need-first-units-requires
-first-units-requires c κs = search needs
+first-units-requires c κs =
+    let p = c .before .before .before .before .before .before .before .before .before .before .before .before .before .before .before .pre in
+    (p .0, (p .1 .0, c .before .before .before .before .before .before .before .join-goals .ensures .holds (not-false _ (c .before .before .if1 .left))))
 
 enum-told : tie.Need-enum-told
 enum-told c = search needs
@@ -19,34 +35,13 @@ enum-told-2 c = search needs
 enum-told-3 : tie.Need-enum-told-3
 enum-told-3 c = search needs
 
-count-requires : tie.Need-count-requires
-count-requires c κs = search needs
-
-cast-held : tie.Need-cast-held
-cast-held c = search needs
-
-clear-requires : tie.Need-clear-requires
-clear-requires c κs =
-    let p = c .before .before .before .before .before .before .before .before .before .before .before .before .before .before .before .before .before .pre in
-    let low = held-low (c .before .before .before .before .before .before .before .before .before .first-units .ensures .holds) (p .0 .few) in
-    omega (arith, low, c .before .count .ensures, p .1 .1 .1 .size)
-
-search-requires : tie.Need-search-requires
-search-requires c κs =
-    let p = c .before .before .before .before .before .before .before .before .before .before .before .before .before .before .before .before .before .before .before .before .before .before .before .pre in
-    let sets = cleared-sets (c .before .before .before .before .before .before .before .count .result) (p .1 .1 .1) (c .before .before .before .before .before .clear .ensures) in
-    (p .0, (p .1 .0, (c .before .before .before .before .before .before .before .before .before .before .before .before .before .before .before .first-units .ensures .holds, (sets, omega arith))))
-
-same-length : tie.Need-same-length
-same-length c = search needs
-
-same-length-2 : tie.Need-same-length-2
-same-length-2 c = search needs
-
-returns : tie.Need-returns
-returns c =
-    let p = c .before .before .before .before .before .before .before .before .before .before .before .before .before .before .pre in
-    (counted-whole (p .1 .1 .0 .1) (jumps-closed (c .before .before .before .before .before .before .first-units .ensures) 0 (c .enum-told .given .1)), p .1 .1 .1)
+from-split-requires : tie.Need-from-split-requires
+from-split-requires c κs =
+    let p = c .before .before .before .before .before .before .before .before .before .before .before .before .before .before .before .before .before .before .before .before .before .before .before .before .before .pre in
+    let same = c .before .before .before .before .before .before .before .before .before .before .before .before .before .before .before .before .before .join-goals .ensures .same (not-false _ (c .before .before .before .before .before .before .before .before .before .before .before .before .if1 .left)) in
+    let units = c .before .before .before .before .before .before .before .before .before .first-units .ensures in
+    let told = c .before .before .before .enum-told3 .given in
+    (p .0, (p .1 .0, (record { holds = units .holds; splits = (told .0 .0, units .forks (told .0 .0) (told .1)); same = units .same 0 ∙ same }, p .1 .1 .1)))
 
 same-length-3 : tie.Need-same-length-3
 same-length-3 c = search needs
@@ -56,8 +51,8 @@ same-length-4 c = search needs
 
 returns-2 : tie.Need-returns-2
 returns-2 c =
-    let p = c .before .before .before .before .before .before .before .before .before .before .before .before .before .before .pre in
-    (counted-whole (p .1 .1 .0 .1) (jumps-model (c .before .before .before .before .before .before .first-units .ensures) 0 (c .enum-told2 .given .1)), p .1 .1 .1)
+    let same = c .before .before .before .before .before .before .before .before .before .before .before .before .before .before .join-goals .ensures .same (not-false _ (c .before .before .before .before .before .before .before .before .before .if1 .left)) in
+    (counted-whole same (jumps-closed (c .before .before .before .before .before .before .first-units .ensures) 0 (c .enum-told .given .1)), c .before .before .before .before .before .before .before .before .before .before .before .before .before .before .before .before .before .before .before .before .before .before .pre .1 .1 .1)
 
 same-length-5 : tie.Need-same-length-5
 same-length-5 c = search needs
@@ -65,37 +60,43 @@ same-length-5 c = search needs
 same-length-6 : tie.Need-same-length-6
 same-length-6 c = search needs
 
+returns-3 : tie.Need-returns-3
+returns-3 c =
+    let same = c .before .before .before .before .before .before .before .before .before .before .before .before .before .before .join-goals .ensures .same (not-false _ (c .before .before .before .before .before .before .before .before .before .if1 .left)) in
+    (counted-whole same (jumps-model (c .before .before .before .before .before .before .first-units .ensures) 0 (c .enum-told2 .given .1)), c .before .before .before .before .before .before .before .before .before .before .before .before .before .before .before .before .before .before .before .before .before .before .pre .1 .1 .1)
+
 same-length-7 : tie.Need-same-length-7
 same-length-7 c = search needs
 
-returns-3 : tie.Need-returns-3
-returns-3 c =
-    let p = c .before .before .before .before .before .before .before .before .before .before .before .before .before .before .before .before .before .before .before .before .before .before .before .before .before .before .before .before .before .before .pre in
-    let units = c .before .before .before .before .before .before .before .before .before .before .before .before .before .before .before .before .before .before .before .before .before .before .first-units .ensures in
-    let low = held-low (units .holds) (p .0 .few) in
-    let cleared = cleared-same (c .before .before .before .before .before .before .before .before .before .before .before .before .before .before .count .result) (omega (arith, low, c .before .before .before .before .before .before .before .before .before .before .before .before .before .before .count .ensures)) (c .before .before .before .before .before .before .before .before .before .before .before .before .clear .ensures) in
-    let done = c .before .before .before .before .before .before .search .ensures in
-    (counted-whole (p .1 .1 .0 .1) (jumps-on units (jumps-from (λ q h. cleared q (omega (arith, h, c .before .before .before .before .before .before .before .before .before .before .before .before .before .before .count .ensures))) done)), done .sets)
+same-length-8 : tie.Need-same-length-8
+same-length-8 c = search needs
+
+same-length-9 : tie.Need-same-length-9
+same-length-9 c = search needs
+
+returns-4 : tie.Need-returns-4
+returns-4 c = search needs
 
 pub from-start-spec : {M : Type 1} → statement M
 from-start-spec =
     tie.close
     (tie.spec
+    join-goals-requires
+    same-length
+    same-length-2
+    returns
     first-units-requires
     enum-told
     enum-told-2
     enum-told-3
-    count-requires
-    cast-held
-    clear-requires
-    search-requires
-    same-length
-    same-length-2
-    returns
+    from-split-requires
     same-length-3
     same-length-4
     returns-2
     same-length-5
     same-length-6
+    returns-3
     same-length-7
-    returns-3)
+    same-length-8
+    same-length-9
+    returns-4)

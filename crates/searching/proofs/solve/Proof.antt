@@ -1,19 +1,23 @@
 -- `searching::solve` meets its contract: the search that jumps answers as the plain order does. Assumes nothing.
 use Rattle.searching.proofs.Jumps.{solved-plain}
-use Rattle.searching.specs.Jumps.{foundBy}
-use mathlib.Core.Path.{sym, ap}
+use mathlib.Core.Path.{refl, _∙_}
 use borrow.Author.Needs.{needs}
 use Rattle.searching.proofs.solve.Statement.{statement}
 use Rattle.searching.proofs.solve.Tie as tie
 
-solve-counted-requires : tie.Need-solve-counted-requires
-solve-counted-requires c κs = search needs
+put-requires : tie.Need-put-requires
+put-requires c κs =
+    let p = c .before .before .before .before .before .before .pre in
+    (p .0, (p .1 .0, (p .1 .1 .0, λ _. p .1 .1 .1)))
 
 enum-told : tie.Need-enum-told
 enum-told c = search needs
 
 enum-told-2 : tie.Need-enum-told-2
 enum-told-2 c = search needs
+
+enum-told-3 : tie.Need-enum-told-3
+enum-told-3 c = search needs
 
 same-length : tie.Need-same-length
 same-length c = search needs
@@ -24,8 +28,8 @@ same-length-2 c = search needs
 returns : tie.Need-returns
 returns c =
     let p = c .before .before .before .before .before .before .before .before .before .before .before .before .before .pre in
-    let e = c .before .before .before .before .before .before .solve-counted .ensures in
-    (solved-plain (p .0 .table) (p .1 .0 .below) (e .0) (sym (ap foundBy (c .enum-told .given .1))), e .1)
+    let a = c .before .before .before .before .before .before .put in
+    (solved-plain (p .0 .table) (p .1 .0 .below) (rw (c .enum-told .given .1) at (a .ensures .0)) refl, a .ensures .1 (a .kept .1 .1 .1 .1 .0 ∙ p .1 .1 .1 .size))
 
 same-length-3 : tie.Need-same-length-3
 same-length-3 c = search needs
@@ -36,19 +40,35 @@ same-length-4 c = search needs
 returns-2 : tie.Need-returns-2
 returns-2 c =
     let p = c .before .before .before .before .before .before .before .before .before .before .before .before .before .pre in
-    let e = c .before .before .before .before .before .before .solve-counted .ensures in
-    (solved-plain (p .0 .table) (p .1 .0 .below) (e .0) (sym (ap foundBy (c .enum-told2 .given .1))), e .1)
+    let a = c .before .before .before .before .before .before .put in
+    (solved-plain (p .0 .table) (p .1 .0 .below) (rw (c .enum-told2 .given .1) at (a .ensures .0)) refl, a .ensures .1 (a .kept .1 .1 .1 .1 .0 ∙ p .1 .1 .1 .size))
+
+same-length-5 : tie.Need-same-length-5
+same-length-5 c = search needs
+
+same-length-6 : tie.Need-same-length-6
+same-length-6 c = search needs
+
+returns-3 : tie.Need-returns-3
+returns-3 c =
+    let p = c .before .before .before .before .before .before .before .before .before .before .before .before .before .pre in
+    let z = rw (c .enum-told3 .given .1) at (c .before .before .before .before .before .before .put .ensures .0) in
+    absurd (z .0 (p .1 .1 .1 .size))
 
 pub solve-spec : {M : Type 1} → statement M
 solve-spec =
     tie.close
     (tie.spec
-    solve-counted-requires
+    put-requires
     enum-told
     enum-told-2
+    enum-told-3
     same-length
     same-length-2
     returns
     same-length-3
     same-length-4
-    returns-2)
+    returns-2
+    same-length-5
+    same-length-6
+    returns-3)

@@ -1,8 +1,7 @@
 -- `solver::denies` meets its contract. Assumes nothing.
 use Prim.Native.Nat.{_-_}
 use lib.ListN.{length}
-use Rattle.solver.proofs.Settles.{Denying, denying-none, denying-more, denying-all}
-use native.Mathlib.Omega.{arith}
+use Rattle.solver.proofs.Settles.{Denying, denying-more, denying-all}
 use borrow.Author.Needs.{needs}
 use Rattle.solver.proofs.denies.Statement.{statement}
 use Rattle.solver.proofs.denies.Tie as tie
@@ -13,45 +12,13 @@ Inv-loop goals l other found₀ j₀ found j = Denying goals l found j
 abbrev μ-loop : tie.MeasureT-loop
 μ-loop goals l other found₀ j₀ found j = length goals - j
 
-negated-requires : tie.Need-negated-requires Inv-loop μ-loop
-negated-requires c κs = search needs
-
-loop-holds : tie.Need-loop-holds Inv-loop μ-loop
-loop-holds c = denying-none _ _
-
-mul-hit : tie.Need-mul-hit Inv-loop μ-loop
-mul-hit c = search needs
-
-shared-slice-read-hit : tie.Need-shared-slice-read-hit Inv-loop μ-loop
-shared-slice-read-hit c = search needs
-
-hit-requires : tie.Need-hit-requires Inv-loop μ-loop
-hit-requires c κs = search needs
-
-add-j : tie.Need-add-j Inv-loop μ-loop
-add-j c = search needs
-
-loop-less : tie.Need-loop-less Inv-loop μ-loop
-loop-less c = search needs
-
-loop-again : tie.Need-loop-again Inv-loop μ-loop
-loop-again c = denying-more (c .before .before .before .loop .inv) (c .before .before .loop-test .taken) (c .before .before .before .before .negated .ensures) (c .hit .ensures)
-
-returns : tie.Need-returns Inv-loop μ-loop
-returns c = denying-all (c .before .loop .inv) (omega arith)
-
 pub denies-spec : {M : Type 1} → statement M
 denies-spec =
     tie.close
     (tie.spec
     Inv-loop
     μ-loop
-    negated-requires
-    loop-holds
-    mul-hit
-    shared-slice-read-hit
-    hit-requires
-    add-j
-    loop-less
-    loop-again
-    returns)
+    (λ c κs. search needs) (λ c. search needs) (λ c. search needs) (λ c. search needs)
+    (λ c κs. search needs) (λ c. search needs) (λ c. search needs)
+    (λ c. search (needs, denying-more))
+    (λ c. search (needs, denying-all)))

@@ -1,40 +1,31 @@
 -- `state::blank` meets its contract. Assumes nothing.
+use lib.ListN.{length-set}
 use Rattle.state.proofs.Joins.{blanked}
+use native.Mathlib.Omega.{arith}
 use borrow.Author.Needs.{needs}
 use Rattle.state.proofs.blank.Statement.{statement}
 use Rattle.state.proofs.blank.Tie as tie
 
-add-wipe : tie.Need-add-wipe
-add-wipe c = search needs
-
-wipe-requires : tie.Need-wipe-requires
-wipe-requires c κs = search needs
-
-add-work : tie.Need-add-work
-add-work c = search needs
-
-mul-work : tie.Need-mul-work
-mul-work c = search needs
-
-slice-write-work : tie.Need-slice-write-work
-slice-write-work c = search needs
+slice-write-work-2 : tie.Need-slice-write-work-2
+slice-write-work-2 c = simp length-set (omega (arith, c .before .before .wipe2 .ensures .size, c .before .before .before .before .before .before .wipe .ensures .size, c .before .before .before .before .before .before .before .before .before .pre .0))
 
 same-length : tie.Need-same-length
-same-length c = search needs
+same-length c = simp length-set (omega (arith, c .before .before .wipe2 .ensures .size, c .before .before .before .before .before .before .wipe .ensures .size))
 
 returns : tie.Need-returns
-returns c =
-    let s = c .before .before .before .before .before in
-    blanked (s .args .clauses) (s .pre .1) (s .pre .0) (c .before .before .wipe .ensures)
+returns c = blanked (c .before .before .before .before .before .before .before .before .before .args .clauses) (c .before .before .before .before .before .before .before .before .before .pre .1) (c .before .before .before .before .before .before .before .before .before .pre .0) (c .before .before .before .before .before .before .wipe .ensures) (c .before .before .wipe2 .ensures)
 
 pub blank-spec : {M : Type 1} → statement M
 blank-spec =
     tie.close
     (tie.spec
-    add-wipe
-    wipe-requires
-    add-work
-    mul-work
-    slice-write-work
+    (λ c. search needs)
+    (λ c κs. search needs)
+    (λ c. search needs)
+    (λ c κs. search needs)
+    (λ c. search needs)
+    (λ c. search needs)
+    (λ c. search needs)
+    slice-write-work-2
     same-length
     returns)

@@ -6,13 +6,10 @@ use borrow.Author.Needs.{needs}
 use Rattle.state.proofs.count.Statement.{statement}
 use Rattle.state.proofs.count.Tie as tie
 
-shared-slice-read-result : tie.Need-shared-slice-read-result
-shared-slice-read-result c = search needs
-
 returns : tie.Need-returns
 returns c =
     let w = c .before .args .work .now in
     sym (trail-length (tail w 0) (tail w))
 
 pub count-spec : {M : Type 1} → statement M
-count-spec = tie.close (tie.spec shared-slice-read-result returns)
+count-spec = tie.close (tie.spec (λ c. search needs) returns)

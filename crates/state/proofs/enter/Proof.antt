@@ -5,71 +5,21 @@ use borrow.Author.Needs.{needs}
 use Rattle.state.proofs.enter.Statement.{statement}
 use Rattle.state.proofs.enter.Tie as tie
 
-mul-work : tie.Need-mul-work
-mul-work c = search needs
-
-add-work : tie.Need-add-work
-add-work c = search needs
-
-add-work-2 : tie.Need-add-work-2
-add-work-2 c = search needs
-
-cast-work : tie.Need-cast-work
-cast-work c = search needs
-
-add-work-3 : tie.Need-add-work-3
-add-work-3 c = search needs
-
-add-work-4 : tie.Need-add-work-4
-add-work-4 c = search needs
-
-mul-work-2 : tie.Need-mul-work-2
-mul-work-2 c = search needs
-
-slice-write-work : tie.Need-slice-write-work
-slice-write-work c = search needs
-
-add-work-5 : tie.Need-add-work-5
-add-work-5 c = search needs
-
-add-work-6 : tie.Need-add-work-6
-add-work-6 c = search needs
-
-mul-work-3 : tie.Need-mul-work-3
-mul-work-3 c = search needs
-
 slice-write-work-2 : tie.Need-slice-write-work-2
 slice-write-work-2 c = simp length-set (omega arith)
 
-add-work-7 : tie.Need-add-work-7
-add-work-7 c = search needs
-
 slice-write-work-3 : tie.Need-slice-write-work-3
 slice-write-work-3 c = simp length-set (omega arith)
-
-same-length : tie.Need-same-length
-same-length c = search needs
-
-returns : tie.Need-returns
-returns c = search needs
 
 pub enter-spec : {M : Type 1} → statement M
 enter-spec =
     tie.close
     (tie.spec
-    mul-work
-    add-work
-    add-work-2
-    cast-work
-    add-work-3
-    add-work-4
-    mul-work-2
-    slice-write-work
-    add-work-5
-    add-work-6
-    mul-work-3
+    (λ c. search needs) (λ c. search needs) (λ c. search needs) (λ c. search needs) (λ c. search needs)
+    (λ c. search needs) (λ c. search needs) (λ c. search needs) (λ c. search needs) (λ c. search needs)
+    (λ c. search needs)
     slice-write-work-2
-    add-work-7
+    (λ c. search needs)
     slice-write-work-3
-    same-length
-    returns)
+    (λ c. search needs)
+    (λ c. search needs))

@@ -9,30 +9,6 @@ use borrow.Author.Needs.{needs}
 use Rattle.state.proofs.push.Statement.{statement}
 use Rattle.state.proofs.push.Tie as tie
 
-slice-read-h : tie.Need-slice-read-h
-slice-read-h c = search needs
-
-set-values-requires : tie.Need-set-values-requires
-set-values-requires c κs = search needs
-
-slice-read-work : tie.Need-slice-read-work
-slice-read-work c = search needs
-
-cast-work : tie.Need-cast-work
-cast-work c = search needs
-
-add-work : tie.Need-add-work
-add-work c = search needs
-
-add-work-2 : tie.Need-add-work-2
-add-work-2 c = search needs
-
-mul-work : tie.Need-mul-work
-mul-work c = search needs
-
-slice-write-work : tie.Need-slice-write-work
-slice-write-work c = search needs
-
 enter-requires : tie.Need-enter-requires
 enter-requires c κs =
     let s = c .before .before .before .before .before .before .before .before in
@@ -50,14 +26,8 @@ pub push-spec : {M : Type 1} → statement M
 push-spec =
     tie.close
     (tie.spec
-    slice-read-h
-    set-values-requires
-    slice-read-work
-    cast-work
-    add-work
-    add-work-2
-    mul-work
-    slice-write-work
+    (λ c. search needs) (λ c κs. search needs) (λ c. search needs) (λ c. search needs)
+    (λ c. search needs) (λ c. search needs) (λ c. search needs) (λ c. search needs)
     enter-requires
     same-length
     returns)

@@ -9,37 +9,30 @@ use Rattle.state.proofs.wipe.Statement.{statement}
 use Rattle.state.proofs.wipe.Tie as tie
 
 abbrev Inv-loop : tie.InvT-loop
-Inv-loop work₀ k i₀ work i = Wiped work₀ i work × (i ≤ k)
+Inv-loop work₀ from many i₀ work i = Wiped work₀ from i work × (i ≤ many)
 
 abbrev μ-loop : tie.MeasureT-loop
-μ-loop work₀ k i₀ work i = k - i
+μ-loop work₀ from many i₀ work i = many - i
 
 loop-holds : tie.Need-loop-holds Inv-loop μ-loop
-loop-holds c = (wiped-starts (c .args .work .now), omega arith)
+loop-holds c = (wiped-starts (c .args .work .now) _, omega arith)
 
-mul-work : tie.Need-mul-work Inv-loop μ-loop
-mul-work c = search needs
+add-work : tie.Need-add-work Inv-loop μ-loop
+add-work c = omega (arith, c .loop-test .taken, c .before .before .pre)
 
 slice-write-work : tie.Need-slice-write-work Inv-loop μ-loop
-slice-write-work c = omega (arith, c .before .loop .inv .0 .size)
-
-add-i : tie.Need-add-i Inv-loop μ-loop
-add-i c = search needs
-
-loop-less : tie.Need-loop-less Inv-loop μ-loop
-loop-less c = search needs
+slice-write-work c = omega (arith, c .before .loop .inv .0 .size, c .loop-test .taken, c .before .before .pre)
 
 loop-again : tie.Need-loop-again Inv-loop μ-loop
-loop-again c = (wiped-goes (c .before .loop .inv .0) (omega (arith, c .before .loop .inv .0 .size)), omega arith)
+loop-again c = (wiped-goes (c .before .loop .inv .0) (omega (arith, c .before .loop .inv .0 .size, c .loop-test .taken, c .before .before .pre)), omega (arith, c .loop-test .taken))
 
 same-length : tie.Need-same-length Inv-loop μ-loop
 same-length c = c .before .loop .inv .0 .size
 
 returns : tie.Need-returns Inv-loop μ-loop
 returns c =
-    let loop = c .before .loop in
-    let e : loop .i ≡ c .before .before .args .k = omega (arith, loop .inv .1, c .loop-test .left) in
-    rw e at (loop .inv .0)
+    let e : c .before .loop .i ≡ c .before .before .args .many = omega (arith, c .before .loop .inv .1, c .loop-test .left) in
+    rw e at (c .before .loop .inv .0)
 
 pub wipe-spec : {M : Type 1} → statement M
 wipe-spec =
@@ -48,10 +41,11 @@ wipe-spec =
     Inv-loop
     μ-loop
     loop-holds
-    mul-work
+    add-work
+    (λ c. search needs)
     slice-write-work
-    add-i
-    loop-less
+    (λ c. search needs)
+    (λ c. search needs)
     loop-again
     same-length
     returns)
