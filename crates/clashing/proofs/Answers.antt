@@ -4,8 +4,10 @@ use mathlib.Core.List.{List, [], _++_}
 use mathlib.Core.Bool.{Bool, true, false, false≢true}
 use Prim.Native.Nat.{ℕ, _*_, _-_, _<_}
 use native.Mathlib.Omega.{arith}
+use lib.Dec.{ltb}
 use lib.ListN.{length, getD, take, replicate}
 use lib.Seq.{take-append-seam}
+use borrow.Author.Tests.{lt-ltb, ltb-true}
 use Rattle.scope.specs.declared.Node.{Node}
 use Rattle.scope.specs.declared.Refusal.{Refusal}
 use Rattle.scope.specs.Outcome.{Outcome, answer, refused, require, _>>_}
@@ -29,10 +31,10 @@ use Rattle.questions.proofs.Answers.{is-possible, not-impossible}
 use Rattle.questions.proofs.Settings.{made, making, some-node, decides}
 use Rattle.clashing.specs.Clash.{clashes, walk, argued, clash}
 use Rattle.clashing.specs.Clashes.{clashedOf, Clashing, Clashes}
-use Rattle.clashing.specs.Walks.{Passed}
+use Rattle.clashing.specs.Walks.{Passed, Among, Grows}
 use Rattle.clashing.specs.declared.Clashed.{Clashed}
 use Rattle.clashing.proofs.Walks.{walk-same, walk-rises, walk-clashes}
-use Rattle.clashing.proofs.Keeps.{clashes-same, clashes-whole, no-clash, a-clash, kept-needed}
+use Rattle.clashing.proofs.Keeps.{clashes-same, clashes-whole, no-clash, a-clash, clashes-grow, kept-needed}
 
 -- ---- what the goals kept are
 
@@ -58,6 +60,10 @@ module _ (t : List ℕ) (rs : List Node) (all : Bytes t) (e : decode t ≡ answe
             (walk-clashes test n [] (clashes-whole (answered rs) goals some q)) (v, s .0) (making t (picked goals (walk test n [])) (v, s .0) (s .1));
         single = λ a c j z. settled (a ++ c) (kept-needed Setting (says t) (FilledBy rs) (λ l. l < 2 * length rs) (answered rs) D goals b n a c j z);
       }
+
+  -- goals with a clash have one with more goals
+  pub answers-grow : (few all : List ℕ) → Among few all → clashes (answered rs) goals few ≡ true → clashes (answered rs) goals all ≡ true
+  answers-grow = clashes-grow Setting (says t) (FilledBy rs) (λ l. l < 2 * length rs) (answered rs) D goals b
 
   -- 63 is said exactly when a setting makes all goals true
   pub possible-exact : (isImpossible (answered rs goals) ≡ false) ⇔ ((v : List ℕ) × Satisfies t goals v)
@@ -86,7 +92,7 @@ clash-numbered t goals w =
 pub passed : {t goals : List ℕ} {needed lent area : ℕ} {x : List ℕ} {n : ℕ} → Reached (listRow goals) t goals needed lent area x n → Passed n goals
 passed {goals = goals} p = record { most = list-met goals (p .admitted .list) .1; below = p .below }
 
-module _ (t goals w : List ℕ) (all : Bytes t) where
+module _ (t goals w : List ℕ) (bytes : Bytes t) where
   clash-asked : {rs : List Node} → asked t goals 0 0 (length w) ≡ answer rs → clash t goals w ≡ argued (answered rs) goals
   unfolding clash
   clash-asked q = rw q
@@ -103,7 +109,7 @@ module _ (t goals w : List ℕ) (all : Bytes t) where
           → (require b 63 0 >> answer (walk (clashes (answered rs) goals) (length goals) [])) ≡ answer is → Clashing t goals is
       go rs a true z q =
           let s : walk (clashes (answered rs) goals) (length goals) [] ≡ is = cc in
-          rw s at (clashing t rs all (a .0) goals (a .1 .below) (list-met goals (a .1 .list) .0) z)
+          rw s at (clashing t rs bytes (a .0) goals (a .1 .below) (list-met goals (a .1 .list) .0) z)
       go rs a false z q = refused-no q
 
   kept-by : (o : Outcome (List ℕ)) → clash t goals w ≡ o → clashedOf o .number ≡ 0 → Clashing t goals (take (clashedOf o .count) (clashedOf o .kept))
@@ -113,7 +119,7 @@ module _ (t goals w : List ℕ) (all : Bytes t) where
   exact-by : (rs : List Node) → asked t goals 0 0 (length w) ≡ answer rs → (clashedOf (argued (answered rs) goals) .number ≡ 63) ⇔ ((v : List ℕ) × Satisfies t goals v)
   exact-by rs q =
       let a = asked-read t goals 0 0 (length w) q in
-      go (isImpossible (answered rs goals)) refl (possible-exact t rs all (a .0) goals (a .1 .below) (list-met goals (a .1 .list) .0))
+      go (isImpossible (answered rs goals)) refl (possible-exact t rs bytes (a .0) goals (a .1 .below) (list-met goals (a .1 .list) .0))
     where
       go : (b : Bool) → isImpossible (answered rs goals) ≡ b → (isImpossible (answered rs goals) ≡ false) ⇔ ((v : List ℕ) × Satisfies t goals v)
           → (clashedOf (require b 63 0 >> answer (walk (clashes (answered rs) goals) (length goals) [])) .number ≡ 63) ⇔ ((v : List ℕ) × Satisfies t goals v)
@@ -145,11 +151,24 @@ module _ (t goals w : List ℕ) (all : Bytes t) where
     same-answers : (is : List ℕ) → All (λ i. i < length goals) is → asks (indexNode x) n (picked goals is) ≡ answered (p .nodes) (picked goals is)
     same-answers is b = ap answerOf (searches-within p (picked goals is) (each (λ l. l < 2 * n) (p .below) is b) (each (Alike (indexNode x) (nodesOf (p .nodes))) (p .alike) is b))
 
+    same-clashes : (is : List ℕ) → All (λ i. i < length goals) is → clashes (asks (indexNode x) n) goals is ≡ clashes (answered (p .nodes)) goals is
+    same-clashes is b = clashes-same (asks (indexNode x) n) goals (answered (p .nodes)) is (same-answers is b)
+
+    -- so where goals clash over the index, more goals do
+    pub grows : Grows (length goals) (clashes (asks (indexNode x) n) goals)
+    grows few all h b e =
+        let a = asked-read t goals 0 0 (length w) (p .answered) in
+        let P : ℕ → Type 0 = λ i. i < length goals in
+        let Q : ℕ → Type 0 = λ i. ltb i (length goals) ≡ true in
+        let c : All P few = all-imply Q P (λ i. ltb-true i (length goals)) few (h (λ i. ltb i (length goals)) (all-imply P Q (λ i. lt-ltb i (length goals)) all b)) in
+        same-clashes all b
+        ∙ answers-grow t (p .nodes) bytes (a .0) goals (a .1 .below) (list-met goals (a .1 .list) .0) few all h (sym (same-clashes few c) ∙ e)
+
     same : argued (asks (indexNode x) n) goals ≡ argued (answered (p .nodes)) goals
     same =
         ap₂ (λ (a : Answer) (is : List ℕ). require (isImpossible a) 63 0 >> answer is) (ap answerOf (searches-within p goals (p .below) (p .alike)))
         (walk-same (clashes (asks (indexNode x) n) goals) (clashes (answered (p .nodes)) goals) (length goals)
-        (λ is b. clashes-same (asks (indexNode x) n) goals (answered (p .nodes)) is (same-answers is b)) (length goals) [] (omega arith) tt)
+        same-clashes (length goals) [] (omega arith) tt)
 
     pub ends : {w′ : List ℕ} (r : Clashed) → r ≡ clashedOf (argued (asks (indexNode x) n) goals) → Clashes t goals w w′ r
     ends r e = clashes-by r (e ∙ ap clashedOf (same ∙ sym (clash-asked (p .answered)))) (λ number place z. refused-no (sym z ∙ p .answered))

@@ -1,13 +1,39 @@
 -- The walk, over any test of lists of indices: a turn of it, and what holds of the list that it ends on. Assumes nothing.
-use mathlib.Core.Path.{_≡_, refl}
+use mathlib.Core.Path.{_≡_, refl, sym, ap, _∙_}
 use mathlib.Core.List.{List, [], _∷_, _++_}
-use mathlib.Core.Bool.{Bool, true, false, cond}
+use mathlib.Core.Bool.{Bool, true, false, cond, false≢true}
 use Prim.Native.Nat.{ℕ, zero, suc, _<_, _≤_}
 use native.Mathlib.Omega.{arith}
+use native.Mathlib.Decide.{decLe}
 use Rattle.calculus.specs.Model.{All}
+use Rattle.calculus.proofs.Lists.{all-append, all-left, all-right}
 use Rattle.questions.specs.Indices.{Rising, upTo}
-use Rattle.questions.proofs.Indices.{rising-from, upTo-below}
+use Rattle.questions.proofs.Indices.{rising-from, all-upTo, upTo-all, upTo-below}
 use Rattle.clashing.specs.Clash.{walk}
+use Rattle.clashing.specs.Walks.{Among, Grows}
+
+-- ---- lists of the same indices and more
+
+-- those kept with the indices before m are among them with more indices in front, and none but those before m and those kept
+among-more : (m i : ℕ) (kept : List ℕ) → m ≤ i → Among (kept ++ upTo m []) (upTo i kept)
+among-more m i kept h p a =
+    let P : ℕ → Type 0 = λ k. p k ≡ true in
+    let u = upTo-all P i kept a in
+    all-append P kept (upTo m []) (u .0) (all-upTo P m [] tt (λ k b. u .1 k (omega arith)))
+
+among-same : (m : ℕ) (kept : List ℕ) → Among (upTo m kept) (kept ++ upTo m [])
+among-same m kept p a =
+    let P : ℕ → Type 0 = λ k. p k ≡ true in
+    all-upTo P m kept (all-left P kept (upTo m []) a) (upTo-all P m [] (all-right P kept (upTo m []) a) .1)
+
+-- an index less
+pub among-less : (i : ℕ) (is : List ℕ) → Among (upTo i is) (upTo i (i ∷ is))
+among-less i is p a =
+    let P : ℕ → Type 0 = λ k. p k ≡ true in
+    let u = upTo-all P i (i ∷ is) a in
+    all-upTo P i is (u .0 .1) (u .1)
+
+-- ---- the walk
 
 module _ (test : List ℕ → Bool) where
   -- a turn: what is left of the walk
@@ -22,6 +48,37 @@ module _ (test : List ℕ → Bool) where
   pub walk-ends : (kept : List ℕ) → walk test 0 kept ≡ kept
   unfolding walk
   walk-ends kept = refl
+
+  -- where the test holds with the goals before m and with more, the walk comes to m
+  walk-over : (i m : ℕ) (kept : List ℕ) → m ≤ i → ((j : ℕ) → m ≤ j → j < i → test (upTo j kept) ≡ true) → walk test i kept ≡ walk test m kept
+  walk-over zero m kept h f =
+      let z : 0 ≡ m = omega arith in
+      ap (λ (k : ℕ). walk test k kept) z
+  walk-over (suc i) m kept h f = go (decLe m i) (λ b. walk-over i m kept b (λ j a c. f j a (omega arith)))
+    where
+      go : Dec (m ≤ i) → (m ≤ i → walk test i kept ≡ walk test m kept) → walk test (suc i) kept ≡ walk test m kept
+      go (yes b) r = walk-drops i kept (f i b (omega arith)) ∙ r b
+      go (no b) r =
+          let z : suc i ≡ m = omega arith in
+          ap (λ (k : ℕ). walk test k kept) z
+
+  -- so it does where the test holds with those, and grows
+  module _ (w : ℕ) (grows : Grows w test) (kept : List ℕ) (below : All (λ k. k < w) kept) (m : ℕ) where
+    pub walk-passes : (i : ℕ) → m ≤ i → i ≤ w → test (kept ++ upTo m []) ≡ true → walk test i kept ≡ walk test m kept
+    walk-passes i h b e =
+        walk-over i m kept h
+        (λ j a c. grows (kept ++ upTo m []) (upTo j kept) (among-more m j kept a) (upTo-below j w kept (omega arith) below) e)
+
+    -- where it does not hold, it does not hold of the walk's own list
+    pub walk-waits : m ≤ w → test (kept ++ upTo m []) ≡ false → test (upTo m kept) ≡ false
+    walk-waits h e = go (test (upTo m kept)) refl
+      where
+        go : (b : Bool) → test (upTo m kept) ≡ b → b ≡ false
+        go false q = refl
+        go true q =
+            let P : ℕ → Type 0 = λ k. k < w in
+            absurd (false≢true (sym e
+            ∙ grows (upTo m kept) (kept ++ upTo m []) (among-same m kept) (all-append P kept (upTo m []) below (all-upTo P m [] tt (λ k b. omega arith))) q))
 
   -- tests that agree on indices below w walk alike
   pub walk-same : (other : List ℕ → Bool) (w : ℕ) → ((is : List ℕ) → All (λ k. k < w) is → test is ≡ other is) → (i : ℕ) (kept : List ℕ) → i ≤ w → All (λ k. k < w) kept

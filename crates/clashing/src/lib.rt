@@ -1,20 +1,21 @@
 // Clash: which of goals that are impossible together to argue about. From last to first, a goal is dropped if the others left are still
-// impossible together. The table is read once, and of its nodes those below the goals are indexed.
+// impossible together: where fewer goals are, all behind them are dropped at once. The table is read once, and of its nodes those below the
+// goals are indexed.
 use searching::Found;
 use table::Counted;
 ghost use mathlib.Core.Path.{_≡_};
 ghost use mathlib.Core.List.{[]};
-ghost use Prim.Native.Nat.{_≤_};
+ghost use Prim.Native.Nat.{_≤_, _<_};
 ghost use lib.ListN.{length, take, drop};
 ghost use Rattle.scope.specs.Outcome.{answer, refused};
+ghost use Rattle.calculus.specs.Model.{mostGoals, Goals};
 ghost use Rattle.index.specs.Index.{indexNode};
 ghost use Rattle.index.specs.Indexed.{Indexed};
 ghost use Rattle.state.specs.Work.{area, Ready};
 ghost use Rattle.rests.specs.Words.{Sets};
-ghost use Rattle.questions.specs.Indices.{upTo};
 ghost use Rattle.questions.specs.Asking.{asks};
 ghost use Rattle.clashing.specs.Clash.{clashes, walk, argued};
-ghost use Rattle.clashing.specs.Walks.{Passed, Held, Fitting, Listed, Walked};
+ghost use Rattle.clashing.specs.Walks.{listSize, refuted, Passed, Held, Grows};
 ghost use Rattle.clashing.specs.Clashes.{clashedOf, Clashes};
 
 // What clash answers: number 0 and the indices of the goals kept, in rising order, with their count, and 0 past them; or a refusal.
@@ -24,6 +25,9 @@ pub struct Clashed {
     pub count: usize,
     pub kept: [u8; 64],
 }
+
+// The first position whose clause is all false: a cell of the work area.
+const CONFLICT: usize = 1;
 
 // A refusal's number and place.
 fn refuse(number: u16, place: usize) -> Clashed
@@ -56,80 +60,126 @@ fn give(held: [u8; 64], first: usize) -> Clashed
     }
 }
 
-// The literals of the goals, at the start of a list.
+// The literals of the goals, in a list behind 64 places.
 fn copy(goals: &[u16], list: &mut [u16])
-    requires { ⌜ length (now goals) ≤ length (now list) ⌝ }
-    ensures { λ _. ⌜ take (length (now (goals .entry))) (now (list .exit)) ≡ now (goals .entry) ⌝ }
+    requires { ⌜ (length (now goals) ≤ mostGoals) × (length (now list) ≡ listSize) ⌝ }
+    ensures { λ _. ⌜ take (length (now (goals .entry))) (drop mostGoals (now (list .exit))) ≡ now (goals .entry) ⌝ }
 {
     let mut j = 0;
     while j < goals.len() {
-        list[j] = goals[j];
+        list[64 + j] = goals[j];
         j += 1;
     }
 }
 
-// The literals of the goals kept, put into a list behind its first `at`.
-fn pick(goals: &[u16], kept: &[u8], first: usize, list: &mut [u16], at: usize)
-    requires { ⌜ Fitting (now goals) (now kept) first (now list) at ⌝ }
-    ensures { λ _. ⌜ Listed (now (goals .entry)) (now (kept .entry)) first (now (list .entry)) at (now (list .exit)) ⌝ }
-{
-    let mut j = 0;
-    while first + j < 64 {
-        list[at + j] = goals[kept[first + j] as usize];
-        j += 1;
-    }
-}
-
-// Whether the goals before i, with which the list starts, and those kept are impossible together.
-fn remain(
-    x: &[u16],
-    n: usize,
-    goals: &[u16],
-    work: &mut [u16],
-    rests: &mut [u64],
-    kept: &[u8],
-    first: usize,
-    list: &mut [u16],
-    i: usize,
-) -> bool
+// Whether literals are impossible together.
+fn refute(x: &[u16], n: usize, list: &[u16], work: &mut [u16], rests: &mut [u64]) -> bool
     requires { ⌜ Indexed (now x) n ⌝ }
-    requires { ⌜ Passed n (now goals) ⌝ }
+    requires { ⌜ Goals n (now list) ⌝ }
     requires { ⌜ Ready n (now work) × Sets (now rests) ⌝ }
-    requires { ⌜ Walked (now goals) (now kept) first (now list) i ⌝ }
-    ensures { λ r. ⌜ r ≡ clashes (asks (indexNode (now (x .entry))) n) (now (goals .entry)) (upTo i (drop first (now (kept .entry)))) ⌝ }
-    ensures { λ _. ⌜ Walked (now (goals .entry)) (now (kept .entry)) first (now (list .exit)) i ⌝ }
+    ensures { λ r. ⌜ r ≡ refuted (asks (indexNode (now (x .entry))) n) (now (list .entry)) ⌝ }
     ensures { λ _. ⌜ Ready n (now (work .exit)) × Sets (now (rests .exit)) ⌝ }
 {
-    pick(goals, kept, first, list, i);
-    let count = i + (64 - first);
-    if count == 0 {
+    if list.len() == 0 {
         return false;
     }
-    let found = searching::solve(x, n, &list[0..count], work, rests);
+    let found = searching::solve(x, n, list, work, rests);
     match found {
         Found::Closed => true,
         Found::Model => false,
     }
 }
 
-// The walk from last to first, of goals that are impossible together.
+// Where a search of so many literals closed: at the literal that was false or brought a conflict as these joined; else at the position whose
+// clause is all false.
+fn closed_at(work: &[u16], size: usize) -> usize
+    requires { ⌜ area ≤ length (now work) ⌝ }
+{
+    let waiting = state::waiting(work) as usize;
+    if waiting == 0 {
+        return work[CONFLICT] as usize;
+    }
+    if size < waiting {
+        return 0;
+    }
+    size - waiting
+}
+
+// How many goals may be enough, where a search of those kept and of m goals closed: those up to where it did, and one where that is among
+// those kept; 0 where it is none of them. A guess, which is asked about: it only chooses a way to the same answer, so nothing is said of it.
+fn hint(work: &[u16], kept: usize, m: usize) -> usize
+    requires { ⌜ area ≤ length (now work) ⌝ }
+    requires { ⌜ (kept ≤ mostGoals) × (m ≤ mostGoals) ⌝ }
+{
+    let at = closed_at(work, kept + m);
+    if kept + m <= at {
+        return 0;
+    }
+    if at < kept {
+        return 1;
+    }
+    at - kept + 1
+}
+
+// How many goals to ask about next, from `floor` on and fewer than i: one fewer than may be enough, then as many; else farther back each
+// time from where the last goal was kept, and then between.
+fn guess(enough: usize, floor: usize, i: usize, from: usize) -> usize
+    requires { ⌜ (floor < i) × (i ≤ from) × (from ≤ mostGoals) ⌝ }
+    ensures { λ r. ⌜ (floor ≤ r) × (r < i) ⌝ }
+{
+    if floor < enough {
+        if enough <= i {
+            return enough - 1;
+        }
+    }
+    if 0 < floor {
+        if floor == enough {
+            return floor;
+        }
+        return i - 1 - (i - floor) / 3;
+    }
+    let back = from - i + 1;
+    if back < i {
+        return i - back;
+    }
+    0
+}
+
+// The walk from last to first, of goals that are impossible together. Those kept and the goals before i are; those kept and fewer goals
+// than `floor` are not. So where fewer goals are enough the walk goes on there, and where none are the last of them is kept.
 fn narrow(x: &[u16], n: usize, goals: &[u16], work: &mut [u16], rests: &mut [u64]) -> Clashed
     requires { ⌜ Indexed (now x) n ⌝ }
     requires { ⌜ Passed n (now goals) ⌝ }
+    requires { ⌜ Grows (length (now goals)) (clashes (asks (indexNode (now x)) n) (now goals)) ⌝ }
     requires { ⌜ Ready n (now work) × Sets (now rests) ⌝ }
     ensures { λ r. ⌜ r ≡ clashedOf (answer (walk (clashes (asks (indexNode (now (x .entry))) n) (now (goals .entry))) (length (now (goals .entry))) [])) ⌝ }
 {
-    let mut list = [0u16; 64];
+    let mut list = [0u16; 128];
     copy(goals, &mut list);
     let mut kept = [0u8; 64];
     let mut first = 64;
     let mut i = goals.len();
+    let mut from = i;
+    let mut floor = 0;
+    let mut enough = hint(work, 0, i);
     while 0 < i {
-        i -= 1;
-        let still = remain(x, n, goals, work, rests, &kept, first, &mut list, i);
-        if !still {
+        if floor < i {
+            let m = guess(enough, floor, i, from);
+            let still = refute(x, n, &list[first..64 + m], work, rests);
+            if still {
+                i = m;
+                enough = hint(work, 64 - first, m);
+            } else {
+                floor = m + 1;
+            }
+        } else {
+            i -= 1;
             first -= 1;
             kept[first] = i as u8;
+            list[first] = goals[i];
+            from = i;
+            floor = 0;
+            enough = 0;
         }
     }
     give(kept, first)
@@ -139,6 +189,7 @@ fn narrow(x: &[u16], n: usize, goals: &[u16], work: &mut [u16], rests: &mut [u64
 fn argue(x: &[u16], n: usize, goals: &[u16], work: &mut [u16]) -> Clashed
     requires { ⌜ Indexed (now x) n ⌝ }
     requires { ⌜ Passed n (now goals) ⌝ }
+    requires { ⌜ Grows (length (now goals)) (clashes (asks (indexNode (now x)) n) (now goals)) ⌝ }
     requires { ⌜ area ≤ length (now work) ⌝ }
     ensures { λ r. ⌜ r ≡ clashedOf (argued (asks (indexNode (now (x .entry))) n) (now (goals .entry))) ⌝ }
 {

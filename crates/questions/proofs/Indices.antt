@@ -3,6 +3,7 @@ use mathlib.Core.Path.{_≡_, refl, sym, ap, _∙_}
 use mathlib.Core.List.{List, [], _∷_, _++_, append-assoc, append-nil}
 use Prim.Native.Nat.{ℕ, zero, suc, _+_, _<_, _≤_}
 use native.Mathlib.Omega.{arith}
+use native.Mathlib.Decide.{ℕ-discrete}
 use lib.ListN.{length, getD, take}
 use lib.Seq.{take-suc, take-length}
 use Rattle.calculus.specs.Model.{All}
@@ -27,15 +28,26 @@ rising-few lo hi (i ∷ is) h (a, (b, r)) = omega (arith, rising-few (suc i) hi 
 
 -- ---- all indices below one, in front of others
 
-pub length-upTo : (i : ℕ) (is : List ℕ) → length (upTo i is) ≡ i + length is
-unfolding upTo
-length-upTo zero is = omega arith
-length-upTo (suc i) is = length-upTo i (i ∷ is) ∙ omega arith
+module _ (P : ℕ → Type 0) where
+  pub all-upTo : (i : ℕ) (is : List ℕ) → All P is → ((k : ℕ) → k < i → P k) → All P (upTo i is)
+  unfolding upTo
+  all-upTo zero is a f = a
+  all-upTo (suc i) is a f = all-upTo i (i ∷ is) (f i (omega arith), a) (λ k h. f k (omega arith))
+
+  -- .. and the other way
+  pub upTo-all : (i : ℕ) (is : List ℕ) → All P (upTo i is) → All P is × ((k : ℕ) → k < i → P k)
+  unfolding upTo
+  upTo-all zero is a = (a, λ k h. absurd (omega arith))
+  upTo-all (suc i) is a =
+      let u = upTo-all i (i ∷ is) a in
+      (u .0 .1, λ k h. go k h (u .0 .0) (u .1) (ℕ-discrete k i))
+    where
+      go : (k : ℕ) → k < suc i → P i → ((j : ℕ) → j < i → P j) → Dec (k ≡ i) → P k
+      go k h x f (yes e) = rw e x
+      go k h x f (no e) = f k (omega arith)
 
 pub upTo-below : (i hi : ℕ) (is : List ℕ) → i ≤ hi → All (λ k. k < hi) is → All (λ k. k < hi) (upTo i is)
-unfolding upTo
-upTo-below zero hi is h a = a
-upTo-below (suc i) hi is h a = upTo-below i hi (i ∷ is) (omega arith) (h, a)
+upTo-below i hi is h a = all-upTo (λ k. k < hi) i is a (λ k b. omega arith)
 
 -- ---- the literals there
 

@@ -32,7 +32,7 @@ slice-aggregate-narrow c = search needs
 narrow-requires : tie.Need-narrow-requires
 narrow-requires c κs =
     let p = c .before .before .before .before .before .before .before .before .before .before .before .before .before .before .before .before .before .pre in
-    (p .0, (p .1 .0, (c .before .before .before .before .before .before .before .solve .ensures .0 .ready, c .before .before .before .before .before .before .before .solve .ensures .1)))
+    (p .0, (p .1 .0, (p .1 .1 .0, (c .before .before .before .before .before .before .before .solve .ensures .0 .ready, c .before .before .before .before .before .before .before .solve .ensures .1))))
 
 same-length : tie.Need-same-length
 same-length c = search needs

@@ -1,6 +1,6 @@
 -- `clashing::clash` meets its contract: a refusal is the first row's that refuses, and else the walk answers. Assumes nothing.
 use Rattle.codec.specs.Valid.{Bytes}
-use Rattle.clashing.proofs.Answers.{refuses, passed, ends}
+use Rattle.clashing.proofs.Answers.{refuses, passed, grows, ends}
 use lib.ListN.{getD-replicate}
 use borrow.Author.Needs.{needs}
 use Rattle.index.specs.Index.{indexSize}
@@ -32,7 +32,7 @@ slice-aggregate-argue c = search needs
 argue-requires : tie.Need-argue-requires
 argue-requires c κs =
     let p = c .before .before .before .before .before .before .ask-within .ensures .reached _ (c .before .before .before .a2 .given .1) in
-    (p .indexed, (passed p, p .admitted .work))
+    (p .indexed, (passed p, (grows _ _ (c .before .before .before .before .before .before .before .before .before .before .before .args .work .now) (bytes (c .before .before .before .before .before .before .before .before .before .before)) p, p .admitted .work)))
 
 returns : tie.Need-returns
 returns c = refuses _ _ _ (bytes (c .before .before .before .before .before .before .before .before .before)) _ _ (c .refuse .ensures) (c .before .before .before .before .before .ask-within .ensures .refuses _ (c .before .before .a .given .1))

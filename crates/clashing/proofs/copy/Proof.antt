@@ -1,4 +1,4 @@
--- `clashing::copy` meets its contract: before each turn the goals passed stand at the start of the list. Assumes nothing.
+-- `clashing::copy` meets its contract: before each turn the goals passed stand in the list, behind 64 places. Assumes nothing.
 use Prim.Native.Nat.{_-_}
 use lib.ListN.{length}
 use Rattle.clashing.proofs.Copies.{Copying, copying-none, copying-more, copying-all}
@@ -21,6 +21,9 @@ mul-list c = search needs
 
 shared-slice-read-list : tie.Need-shared-slice-read-list Inv-loop μ-loop
 shared-slice-read-list c = search needs
+
+add-list : tie.Need-add-list Inv-loop μ-loop
+add-list c = search needs
 
 mul-list-2 : tie.Need-mul-list-2 Inv-loop μ-loop
 mul-list-2 c = search needs
@@ -52,6 +55,7 @@ copy-spec =
     loop-holds
     mul-list
     shared-slice-read-list
+    add-list
     mul-list-2
     slice-write-list
     add-j
