@@ -5,13 +5,13 @@ use mathlib.Core.Bool.{true, false}
 use Prim.Native.Nat.{ℕ, zero, suc, _+_, _-_, _*_, _<_, _≤_}
 use native.Mathlib.Numerals.{add-one}
 use native.Mathlib.Omega.{arith}
-use lib.ListN.{length, getD, take, set, length-set}
+use lib.ListN.{length, getD, take, set, length-append, length-set}
 use lib.Seq.{length-take-le, take-suc-set, take-take, take-set-le}
 use borrow.Author.Tests.{ne-eqb}
-use Rattle.calculus.specs.Order.{Answer}
-use Rattle.calculus.specs.Model.{Goals}
+use Rattle.calculus.specs.Order.{Answer, impossible}
+use Rattle.calculus.specs.Model.{Table, Below, Goals}
 use Rattle.calculus.proofs.Lists.{all-append, all-at}
-use Rattle.index.specs.Index.{indexNode}
+use Rattle.index.specs.Index.{mostNodes, indexNode}
 use Rattle.state.specs.Work.{Ready}
 use Rattle.searching.specs.declared.Found.the-variants.{Model, Closed}
 use Rattle.searching.specs.Search.{Solved}
@@ -19,9 +19,12 @@ use Rattle.questions.specs.Asking.{asks}
 use Rattle.wishing.specs.Walk.{Stage as Way, asking, stopped, heard, step, visit, visits, finish}
 use Rattle.wishing.proofs.Walks.{visit-none, visit-stopped}
 use Rattle.wishing.proofs.Wishes.{granted-walks}
-use Rattle.granting.specs.Visits.{stageOf, Room, Listed, Gathered, Stepped, Visited, Ended, Grants}
+use Rattle.granting.specs.Counts.{choose, Opposed}
+use Rattle.granting.specs.Visits.{stageOf, Room, Listed, Gathered, Stepped, Refused, Visited, Ended, Grants}
 use Rattle.granting.specs.declared.Stage.{Stage}
 use Rattle.granting.specs.declared.Grant.{Grant}
+use Rattle.granting.proofs.Opposites.{opposite-impossible}
+use Rattle.granting.proofs.Refusals.{spent, lasts, visit-refused}
 
 -- ---- a step
 
@@ -69,6 +72,15 @@ module _ (x : List ℕ) (n g : ℕ) (q w : List ℕ) (st : Stage) (e : st .stopp
       ready = s .ready;
     }
 
+-- ---- questions refused at once
+
+module _ (m s size : ℕ) (st : Stage) (c : ℕ) (e : c ≡ choose m s) where
+  pub refused-spent : st .left < c → Refused m s size st (record { stopped = true; met = 0; bound = size; put = st .put + st .left; left = 0 })
+  refused-spent h = record { stage = λ first w. rw (← e) (sym (spent first c size (st .put) (st .left) h)); room = omega arith }
+
+  pub refused-lasts : c ≤ st .left → Refused m s size st (record { stopped = false; met = 0; bound = 0; put = st .put + c; left = st .left - c })
+  refused-lasts h = record { stage = λ first w. rw (← e) (sym (lasts first c size (st .put) (st .left) h)); room = omega arith }
+
 -- ---- a visit
 
 module _ (ask : List ℕ → Answer) (first : List ℕ) (g : ℕ) (wishes : List ℕ) where
@@ -112,6 +124,24 @@ module _ (n g : ℕ) (wishes list w : List ℕ) (lo s at : ℕ) (p : Listed n g 
     more : take (at + 1) longer ≡ take at list ++ getD wishes lo 0 ∷ []
     more = rw (add-one at) (take-suc-set list at (getD wishes lo 0) (omega (arith, p .size, p .room)))
 
+    -- the wish is a literal that a table may have
+    pub listed-literal : n ≤ mostNodes → getD wishes lo 0 < 2 * mostNodes
+    listed-literal m = omega (arith, all-at (λ l. l < 2 * n) wishes lo 0 (p .wishesFit) (omega arith))
+
+    -- it may also be left out
+    pub listed-same : Listed n g wishes list w (lo + 1) s at
+    listed-same = record {
+      size = p .size;
+      literals = p .literals;
+      wishesFit = p .wishesFit;
+      left = omega arith;
+      few = p .few;
+      room = p .room;
+      goals = p .goals;
+      some = p .some;
+      ready = p .ready;
+    }
+
     pub listed-more : Listed n g wishes longer w (lo + 1) (s - 1) (at + 1)
     listed-more = record {
       size = length-set list at (getD wishes lo 0) ∙ p .size;
@@ -120,6 +150,7 @@ module _ (n g : ℕ) (wishes list w : List ℕ) (lo s at : ℕ) (p : Listed n g 
           (all-at (λ l. l < 2 * n) wishes lo 0 (p .wishesFit) (omega arith), tt));
       wishesFit = p .wishesFit;
       left = omega arith;
+      few = p .few;
       room = omega (arith, p .room);
       goals = omega (arith, p .goals);
       some = omega (arith, p .some);
@@ -166,6 +197,7 @@ module _ (x : List ℕ) (n g : ℕ) (wishes list w : List ℕ) (lo s at : ℕ) (
       literals = rw below (p .literals);
       wishesFit = p .wishesFit;
       left = omega arith;
+      few = p .few;
       room = p .room;
       goals = p .goals;
       some = p .some;
@@ -182,6 +214,83 @@ module _ (x : List ℕ) (n g : ℕ) (wishes list w : List ℕ) (lo s at : ℕ) (
       kept = b .kept ∙ below;
       ready = b .ready;
     }
+
+  -- behind a literal and its negation all questions are refused
+  module _ (h : 0 < s) (l : s ≤ length wishes - lo) where
+    module _ (T : Table n (indexNode x)) (e : st .stopped ≡ false) (o : Opposed (take (at - 0) list) (getD wishes lo 0)) (mid : Stage)
+        (a : Refused (length wishes - (lo + 1)) (s - 1) (at + s - g) st mid) where
+      abbrev longest : List ℕ
+      longest = take at list ++ getD wishes lo 0 ∷ []
+
+      dead : (m : List ℕ) → Below n m → asks (indexNode x) n (longest ++ m) ≡ impossible
+      dead m b =
+          let z : at - 0 ≡ at = omega arith in
+          let k : Opposed (take at list) (getD wishes lo 0) = rw z at o in
+          opposite-impossible n (indexNode x) T (take at list) m (getD wishes lo 0) (k .0)
+          (all-append (λ l. l < 2 * n) longest m (all-append (λ l. l < 2 * n) (take at list) (getD wishes lo 0 ∷ []) (p .literals)
+          (all-at (λ l. l < 2 * n) wishes lo 0 (p .wishesFit) (omega arith), tt)) b) (k .1) (k .2)
+
+      bound : length longest + (s - 1) - g ≡ at + s - g
+      bound = omega (arith, length-append (take at list) (getD wishes lo 0 ∷ []), length-take-le at list (omega (arith, p .size, p .room)))
+
+      refused : (first : List ℕ)
+          → stageOf first w mid ≡ visit (asks (indexNode x) n) first g wishes (lo + 1) (length wishes - (lo + 1)) (s - 1) longest (asking (st .put) (st .left))
+      refused first =
+          a .stage first w
+          ∙ sym (rw bound at (visit-refused (asks (indexNode x) n) first g wishes (λ l. l < 2 * n) (p .wishesFit) (lo + 1) (length wishes - (lo + 1)) (s - 1) longest
+          (st .put) (st .left) (omega arith) dead))
+
+      pub visited-opposed : (list₂ w₂ : List ℕ) (r : Stage) → Visited x n g wishes list list₂ w w₂ (lo + 1) s at mid r
+          → Visited x n g wishes list list₂ w w₂ lo s at st r
+      visited-opposed list₂ w₂ r b = record {
+        stage = λ first.
+            b .stage first
+            ∙ rw e (rw (visit-parts (asks (indexNode x) n) first g wishes lo s (take at list) (asking (st .put) (st .left)) h l) (rw (refused first)));
+        room = b .room ∙ a .room;
+        kept = b .kept;
+        ready = b .ready;
+      }
+
+-- with the wishes from i on, a visit is what it was with those from lo on
+pub record Visiting (x : List ℕ) (n g : ℕ) (wishes list₀ w₀ : List ℕ) (lo s at : ℕ) (st₀ : Stage) (list w : List ℕ) (st : Stage) (i : ℕ) : Type 0 where
+  pub listed : Listed n g wishes list w i s at
+  pub room : Room st
+  pub lists : length list ≡ length list₀
+  pub works : length w ≡ length w₀
+  pub others : (list′ w′ : List ℕ) (r : Stage) → Visited x n g wishes list list′ w w′ i s at st r → Visited x n g wishes list₀ list′ w₀ w′ lo s at st₀ r
+
+module _ (x : List ℕ) (n g : ℕ) (wishes list₀ w₀ : List ℕ) (lo s at : ℕ) (st₀ : Stage) where
+  pub visiting-starts : Listed n g wishes list₀ w₀ lo s at → Room st₀ → Visiting x n g wishes list₀ w₀ lo s at st₀ list₀ w₀ st₀ lo
+  visiting-starts p r = record { listed = p; room = r; lists = refl; works = refl; others = λ list′ w′ r v. v }
+
+  module _ (list w : List ℕ) (st : Stage) (i : ℕ) (v : Visiting x n g wishes list₀ w₀ lo s at st₀ list w st i) where
+    pub visiting-stopped : st .stopped ≡ true → Visited x n g wishes list₀ list w₀ w lo s at st₀ st
+    visiting-stopped e = v .others list w st (visited-stopped x n g wishes list w i s at st (v .listed) e)
+
+    pub visiting-few : length wishes - i < s → Visited x n g wishes list₀ list w₀ w lo s at st₀ st
+    visiting-few e = v .others list w st (visited-few x n g wishes list w i s at st (v .listed) e)
+
+    module _ (h : 0 < s) (l : s ≤ length wishes - i) where
+      pub visiting-refused : Table n (indexNode x) → st .stopped ≡ false → Opposed (take (at - 0) list) (getD wishes i 0) → (mid : Stage)
+          → Refused (length wishes - (i + 1)) (s - 1) (at + s - g) st mid → Visiting x n g wishes list₀ w₀ lo s at st₀ list w mid (i + 1)
+      visiting-refused T e o mid a = record {
+        listed = listed-same n g wishes list w i s at (v .listed) h l;
+        room = rw (a .room) (v .room);
+        lists = v .lists;
+        works = v .works;
+        others = λ list′ w′ r b. v .others list′ w′ r (visited-opposed x n g wishes list w i s at st (v .listed) h l T e o mid a list′ w′ r b);
+      }
+
+      pub visiting-goes : (list₁ w₁ : List ℕ) (mid : Stage) → length list₁ ≡ length (set list at (getD wishes i 0)) → length w₁ ≡ length w
+          → Visited x n g wishes (set list at (getD wishes i 0)) list₁ w w₁ (i + 1) (s - 1) (at + 1) st mid
+          → Visiting x n g wishes list₀ w₀ lo s at st₀ list₁ w₁ mid (i + 1)
+      visiting-goes list₁ w₁ mid d e a = record {
+        listed = listed-other x n g wishes list w i s at st (v .listed) h l list₁ w₁ mid d a;
+        room = rw (a .room) (v .room);
+        lists = d ∙ length-set list at (getD wishes i 0) ∙ v .lists;
+        works = e ∙ v .works;
+        others = λ list′ w′ r b. v .others list′ w′ r (visited-both x n g wishes list w i s at st (v .listed) h l list₁ w₁ mid d a list′ w′ r b);
+      }
 
 -- ---- all sizes
 
@@ -229,6 +338,7 @@ module _ (x : List ℕ) (n g : ℕ) (wishes list₀ w₀ : List ℕ) (m : ℕ) (
       literals = rw (p .kept) (b .literals);
       wishesFit = b .wishesFit;
       left = omega arith;
+      few = b .few;
       room = omega (arith, p .few, b .room);
       goals = omega arith;
       some = omega arith;

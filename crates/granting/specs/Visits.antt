@@ -10,7 +10,9 @@ use Rattle.index.specs.Index.{indexNode}
 use Rattle.state.specs.Work.{gOf, Ready}
 use Rattle.questions.specs.Asking.{asks}
 use Rattle.wishing.specs.Wish.{Wished, granted}
+use Rattle.wishing.specs.Call.{mostWishes}
 use Rattle.wishing.specs.Walk.{Stage as Way, asking, stopped, step, visit, finish}
+use Rattle.granting.specs.Counts.{choose, refusals}
 use Rattle.granting.specs.declared.Stage.{Stage}
 use Rattle.granting.specs.declared.Grant.{Grant}
 
@@ -38,6 +40,7 @@ pub record Listed (n g : ℕ) (wishes list w : List ℕ) (lo s at : ℕ) : Type 
   pub literals : Below n (take at list)
   pub wishesFit : Below n wishes
   pub left : lo ≤ length wishes
+  pub few : length wishes ≤ mostWishes
   pub room : at + s ≤ questionSize
   pub goals : g ≤ at
   pub some : g < at + s
@@ -47,6 +50,11 @@ pub record Stepped (x : List ℕ) (n g : ℕ) (q w w′ : List ℕ) (st r : Stag
   pub stage : (first : List ℕ) → stageOf first w′ r ≡ step (asks (indexNode x) n) first g q (stageOf first w st)
   pub room : r .put + r .left ≡ st .put + st .left
   pub ready : Ready n w′
+
+-- all subsets of s of m wishes are refused
+pub record Refused (m s size : ℕ) (st r : Stage) : Type 0 where
+  pub stage : (first w : List ℕ) → stageOf first w r ≡ refusals first (choose m s) size (st .put) (st .left)
+  pub room : r .put + r .left ≡ st .put + st .left
 
 pub record Visited (x : List ℕ) (n g : ℕ) (wishes list list′ w w′ : List ℕ) (lo s at : ℕ) (st r : Stage) : Type 0 where
   pub stage : (first : List ℕ)
@@ -64,6 +72,7 @@ pub record Gathered (n g : ℕ) (wishes list w : List ℕ) : Type 0 where
   pub size : length list ≡ questionSize
   pub literals : Below n (take g list)
   pub wishesFit : Below n wishes
+  pub few : length wishes ≤ mostWishes
   pub room : g + length wishes ≤ questionSize
   pub ready : Ready n w
 

@@ -88,6 +88,7 @@ module _ (t goals wishes : List ℕ) (m : ℕ) (s w : List ℕ) (all : Bytes t) 
           first = e;
           goalsFit = record { most = omega (arith, few .0); below = all-left (λ l. l < 2 * n) goals wishes (p .below) };
           wishesFit = all-right (λ l. l < 2 * n) goals wishes (p .below);
+          few = few .1;
           room = omega (arith, few .0, few .1);
         }
 

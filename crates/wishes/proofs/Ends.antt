@@ -35,6 +35,7 @@ walkable n goals wishes list w p y = record {
   size = p .size;
   literals = rw (p .first) (p .goalsFit .below);
   wishesFit = p .wishesFit;
+  few = p .few;
   room = p .room;
   ready = y;
 }

@@ -20,7 +20,7 @@ use Rattle.asking.specs.Within.{Within}
 use Rattle.questions.specs.Asking.{asks}
 use Rattle.granting.specs.declared.Grant.{Grant}
 use Rattle.wishing.specs.Wish.{Wished as Result, wished, count}
-use Rattle.wishing.specs.Call.{listsRow, wishesAsked, Granted, grant, grantedAfter}
+use Rattle.wishing.specs.Call.{mostWishes, listsRow, wishesAsked, Granted, grant, grantedAfter}
 use Rattle.wishes.specs.declared.Wished.{Wished}
 use Rattle.wishes.specs.declared.Wished.the-variants.{Granted as Given, Refused}
 
@@ -57,6 +57,7 @@ pub record Posed (n : ℕ) (goals wishes list : List ℕ) : Type 0 where
   pub first : take (length goals) list ≡ goals
   pub goalsFit : Goals n goals
   pub wishesFit : Below n wishes
+  pub few : length wishes ≤ mostWishes
   pub room : length goals + length wishes ≤ questionSize
 
 -- the settings bytes after an outcome: those of what stands; a refusal changes none

@@ -24,7 +24,8 @@ visit-requires : tie.Need-visit-requires Inv-loop μ-loop
 visit-requires c κs =
     let p = c .before .before .before .before .before .before .before .before .before .before .pre in
     let i = c .before .before .before .before .loop .inv in
-    (p .0, (walked-listed _ _ _ _ _ _ _ (p .1 .0) _ _ _ _ (i .1) (c .before .before .before .loop-test .taken), (i .1 .room, i .0 .0)))
+    let some = c .before .before .before .loop-test .taken in
+    (p .0, (walked-listed _ _ _ _ _ _ _ (p .1 .0) _ _ _ _ (i .1) some, (i .1 .room, i .0 .0, λ e. absurd (omega arith))))
 
 sub-s : tie.Need-sub-s Inv-loop μ-loop
 sub-s c = search needs
