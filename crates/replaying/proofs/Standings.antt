@@ -21,11 +21,11 @@ use Rattle.trail.specs.Trail.{trail}
 use Rattle.trail.proofs.Trails.{trail-length}
 use Rattle.state.specs.Work.{tail, gOf}
 use Rattle.state.specs.Holds.{Holds}
-use Rattle.turns.specs.Turn.{Search, running, found, closed, isOpen, follows, back, opens, made, turn, replays, takenUp}
-use Rattle.turns.proofs.Turns.{turn-by}
+use Rattle.turns.specs.Turn.{Search, running, found, closed, isRunning, numberOf, isOpen, follows, back, opens, made, turn, times, replays, takenUp}
+use Rattle.turns.proofs.Turns.{turn-by, times-add}
 use Rattle.turns.proofs.Splits.{opens-split, opens-past, opens-short}
 use Rattle.turns.proofs.Replay.{replays-more, may-join, replays-short}
-use Rattle.replaying.specs.Standing.{stackSize, stackOf, Stands, Copied, Followed, Replayed, searchBy, Made}
+use Rattle.replaying.specs.Standing.{stackSize, stackOf, Stands, Copied, Followed, Replayed, searchBy, Made, Turned}
 use Rattle.replaying.proofs.Stacks.{numbers, stack-length, emptied, copied-count, copied-list}
 
 -- ---- the literals that a move lets join
@@ -131,6 +131,11 @@ module _ {t : ℕ → Node} {n : ℕ} {goals w m o : List ℕ} (s : Stands t n g
 
     pub went-right : {u : ℕ} → moveAt ≡ Split u → (u ≡ l → ⊥) → neg u ≡ l → Followed t n goals w w′ m′ o l true
     went-right {u} e x d = let f = right-follows e d in went f (stands-joined h g f (rw e (shut-split u l x))) g
+
+  -- the unit that was picked has joined, and it is the literal
+  pub went-picked : {k u l : ℕ} {w′ m′ : List ℕ} → moveAt ≡ Single k u → u ≡ l → Holds t n goals w′ m′ → gOf w′ ≡ u ∷ gOf w
+      → Followed t n goals w w′ m′ o l true
+  went-picked e d h g = went-unit h (g ∙ ap (_∷ gOf w) d) e d
 
 -- the move was looked at first
 pub followed-looked : {t : ℕ → Node} {n : ℕ} {goals w w₁ w′ m′ o′ : List ℕ} {l : ℕ} {r : Bool} → gOf w₁ ≡ gOf w
@@ -269,3 +274,69 @@ module _ {t : ℕ → Node} {n : ℕ} {goals w m o : List ℕ} where
   made-stands (running G) a e = a .at .0
   made-stands (found G) a e = absurd (omega (arith, a .number))
   made-stands closed a e = absurd (omega (arith, a .number))
+
+-- ---- turns one after another
+
+-- k turns were made, and the search still runs
+pub record Running (t : ℕ → Node) (n : ℕ) (goals w₀ m₀ o₀ w m o : List ℕ) (k : ℕ) : Type 0 where
+  pub stands : Stands t n goals w m o
+  pub at : times (turn (expand t) goals) k (running (gOf w₀)) ≡ running (gOf w)
+  pub ran : (j : ℕ) → j < k → isRunning (times (turn (expand t) goals) j (running (gOf w₀))) ≡ true
+  pub work : length w ≡ length w₀
+  pub masks : length m ≡ length m₀
+  pub opens : length o ≡ length o₀
+
+pub running-none : {t : ℕ → Node} {n : ℕ} {goals w m o : List ℕ} → Stands t n goals w m o → Running t n goals w m o w m o 0
+unfolding times
+running-none s = record { stands = s; at = refl; ran = λ j h. absurd (omega arith); work = refl; masks = refl; opens = refl }
+
+running-number : (s : Search) → isRunning s ≡ true → numberOf s ≡ 2
+running-number (running G) e = refl
+running-number (found G) e = absurd (false≢true e)
+running-number closed e = absurd (false≢true e)
+
+module _ {t : ℕ → Node} {n : ℕ} {goals w₀ m₀ o₀ w m o : List ℕ} {k : ℕ} (g : Running t n goals w₀ m₀ o₀ w m o k) where
+  abbrev from : ℕ → Search
+  from j = times (turn (expand t) goals) j (running (gOf w₀))
+
+  next-is : from (k + 1) ≡ turn (expand t) goals (running (gOf w))
+  unfolding times
+  next-is = times-add (turn (expand t) goals) k 1 (running (gOf w₀)) ∙ ap (turn (expand t) goals) (g .at)
+
+  ran-on : (j : ℕ) → j < k + 1 → isRunning (from j) ≡ true
+  ran-on j h = on (ℕ-discrete j k)
+    where
+      on : Dec (j ≡ k) → isRunning (from j) ≡ true
+      on (yes z) = rw (z, g .at)
+      on (no z) = g .ran j (omega arith)
+
+  module _ {w′ m′ o′ : List ℕ} {r : ℕ} (a : Made t n goals w′ m′ o′ (turn (expand t) goals (running (gOf w))) r) where
+    -- .. one more
+    pub running-more : r ≡ 2 → length w′ ≡ length w → length m′ ≡ length m → length o′ ≡ length o → Running t n goals w₀ m₀ o₀ w′ m′ o′ (k + 1)
+    unfolding searchBy
+    running-more e x y z = record {
+      stands = made-stands (turn (expand t) goals (running (gOf w))) a e;
+      at = next-is ∙ sym (made-search (turn (expand t) goals (running (gOf w))) a) ∙ rw e;
+      ran = ran-on;
+      work = x ∙ g .work;
+      masks = y ∙ g .masks;
+      opens = z ∙ g .opens;
+    }
+
+    -- .. or it is over
+    pub made-over : Made t n goals w′ m′ o′ (from (k + 1)) r
+    made-over = rw next-is a
+
+    pub turned-over : (r ≡ 2 → ⊥) → {most : ℕ} → k < most → Turned (turn (expand t) goals) (running (gOf w₀)) most (k + 1)
+    turned-over d {most} h = record {
+      few = omega arith;
+      ran = ran-on;
+      whole = λ e. absurd (d (made-over .number ∙ running-number (from (k + 1)) e));
+    }
+
+  -- .. or no turn is left
+  pub made-whole : Made t n goals w m o (from k) 2
+  made-whole = rw (g .at) (record { number = refl; at = (g .stands, refl) })
+
+  pub turned-whole : {most : ℕ} → k ≡ most → Turned (turn (expand t) goals) (running (gOf w₀)) most k
+  turned-whole e = record { few = omega arith; ran = g .ran; whole = λ x. e }

@@ -3,7 +3,7 @@
 use mathlib.Core.Path.{_≡_}
 use mathlib.Core.Bool.{Bool, true, cond}
 use mathlib.Core.List.{List, _∷_}
-use Prim.Native.Nat.{ℕ, _<_}
+use Prim.Native.Nat.{ℕ, _<_, _≤_}
 use lib.Dec.{eqb}
 use lib.ListN.{length, getD}
 use Rattle.scope.specs.declared.Node.{Node}
@@ -12,7 +12,7 @@ use Rattle.calculus.specs.Order.{move}
 use Rattle.trail.specs.Trail.{held}
 use Rattle.state.specs.Work.{tail, gOf}
 use Rattle.state.specs.Holds.{Holds}
-use Rattle.turns.specs.Turn.{Search, running, found, closed, numberOf, follows, opens, replays}
+use Rattle.turns.specs.Turn.{Search, running, found, closed, isRunning, numberOf, follows, opens, replays, times}
 
 -- a stack: how many, and from 1 on each, the newest last; here as a list, the newest first
 abbrev pub stackSize : ℕ
@@ -61,3 +61,9 @@ searchBy v G = cond (eqb v 0) closed (cond (eqb v 1) (found G) (running G))
 pub record Made (t : ℕ → Node) (n : ℕ) (goals w m o : List ℕ) (s : Search) (r : ℕ) : Type 0 where
   pub number : r ≡ numberOf s
   pub at : At t n goals w m o s
+
+-- of up to `most` turns, k were made from s on: the search ran before each, and there were fewer only where it was over
+pub record Turned (turnOf : Search → Search) (s : Search) (most k : ℕ) : Type 0 where
+  pub few : k ≤ most
+  pub ran : (j : ℕ) → j < k → isRunning (times turnOf j s) ≡ true
+  pub whole : isRunning (times turnOf k s) ≡ true → k ≡ most

@@ -1,5 +1,5 @@
-// One question's search, which stops after any turn: it is taken up by replaying the literals that its area holds, and goes on a turn at a
-// time. The solver's contracts are used as they are, so that an area of any contents is safe: literals that do not replay are dropped.
+// One question's search, which stops after any turn: it is taken up by replaying the literals that its area holds, and makes turns one after
+// another. The solver's contracts are used as they are, so that an area of any contents is safe: literals that do not replay are dropped.
 use calculus::Move;
 ghost use mathlib.Core.Path.{_≡_};
 ghost use mathlib.Core.List.{[], _∷_};
@@ -13,8 +13,14 @@ ghost use Rattle.index.specs.Index.{mostNodes, indexNode};
 ghost use Rattle.index.specs.Indexed.{Indexed};
 ghost use Rattle.units.specs.Units.{words};
 ghost use Rattle.state.specs.Work.{area, gOf, Ready};
-ghost use Rattle.turns.specs.Turn.{running, back, turn as turnOf, takenUp};
-ghost use Rattle.replaying.specs.Standing.{stackSize, stackOf, Stands, Copied, Followed, Replayed, Made};
+ghost use Rattle.turns.specs.Turn.{running, back, turn as turnOf, times, takenUp};
+ghost use Rattle.replaying.specs.Standing.{stackSize, stackOf, Stands, Copied, Followed, Replayed, Made, Turned};
+
+// Turns made one after another: what the search has then come to, and how many they were.
+pub struct Ran {
+    pub verdict: u8,
+    pub made: usize,
+}
 
 // What a search has come to.
 const IMPOSSIBLE: u8 = 0;
@@ -22,6 +28,9 @@ const IMPOSSIBLE: u8 = 0;
 const POSSIBLE: u8 = 1;
 
 const UNFINISHED: u8 = 2;
+
+// No unit is the next move.
+const NO_UNIT: u32 = 4294967295;
 
 // Where the trail stands in an area: the count of the literals held, and the literals.
 const TRAIL: usize = 4;
@@ -128,7 +137,7 @@ fn follow(
     }
 }
 
-// Literals join again, one after another; whether all may.
+// Literals join again, one after another; whether all may. A unit joins with the next one found.
 fn replay(
     x: &[u16],
     n: usize,
@@ -146,12 +155,22 @@ fn replay(
     ensures { λ r. ⌜ Replayed (indexNode (now (x .entry))) n (now (goals .entry)) (stackOf (now (literals .entry))) (now (work .exit)) (now (masks .exit)) (now (opens .exit)) r ⌝ }
 {
     let held = literals[0] as usize;
+    let mut u = moves::pick(work, masks);
     let mut q = 0;
     while q < held {
-        if !follow(x, n, goals, work, masks, opens, literals[1 + q]) {
-            return false;
-        }
+        let l = literals[1 + q];
         q += 1;
+        if u != NO_UNIT {
+            if (u % 4096) as u16 != l {
+                return false;
+            }
+            u = solver::join(x, n, goals, work, masks, u);
+        } else {
+            if !follow(x, n, goals, work, masks, opens, l) {
+                return false;
+            }
+            u = moves::pick(work, masks);
+        }
     }
     true
 }
@@ -223,7 +242,7 @@ fn turn_right(
 }
 
 // One turn of the plain order; what the search has then come to.
-pub fn turn(
+fn turn(
     x: &[u16],
     n: usize,
     goals: &[u16],
@@ -249,5 +268,45 @@ pub fn turn(
             fork(x, n, goals, work, masks, opens, l);
             UNFINISHED
         }
+    }
+}
+
+// Up to so many turns, one after another, until the search is over. A unit joins with the next one found.
+pub fn run(
+    x: &[u16],
+    n: usize,
+    goals: &[u16],
+    work: &mut [u16],
+    masks: &mut [u64],
+    opens: &mut [u16],
+    most: usize,
+) -> Ran
+    requires { ⌜ Indexed (now x) n ⌝ }
+    requires { ⌜ Goals n (now goals) ⌝ }
+    requires { ⌜ Stands (indexNode (now x)) n (now goals) (now work) (now masks) (now opens) ⌝ }
+    ensures { λ r. ⌜ Made (indexNode (now (x .entry))) n (now (goals .entry)) (now (work .exit)) (now (masks .exit)) (now (opens .exit)) (times (turnOf (expand (indexNode (now (x .entry)))) (now (goals .entry))) (r .made) (running (gOf (now (work .entry))))) (r .verdict) ⌝ }
+    ensures { λ r. ⌜ Turned (turnOf (expand (indexNode (now (x .entry)))) (now (goals .entry))) (running (gOf (now (work .entry)))) most (r .made) ⌝ }
+    ensures { λ _. ⌜ Ready n (now (work .exit)) ⌝ }
+{
+    let mut u = moves::pick(work, masks);
+    let mut k = 0;
+    while k < most {
+        k += 1;
+        if u != NO_UNIT {
+            u = solver::join(x, n, goals, work, masks, u);
+        } else {
+            let v = turn(x, n, goals, work, masks, opens);
+            if v != UNFINISHED {
+                return Ran {
+                    verdict: v,
+                    made: k,
+                };
+            }
+            u = moves::pick(work, masks);
+        }
+    }
+    Ran {
+        verdict: UNFINISHED,
+        made: k,
     }
 }

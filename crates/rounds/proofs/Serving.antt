@@ -15,13 +15,13 @@ use Rattle.state.specs.Work.{gOf}
 use Rattle.turns.specs.Turn.{Search, running, found, closed, verdictOf, isRunning, numberOf, turn, takenUp}
 use Rattle.turns.specs.Round.{seek, upNext, whose, turnFor, spend}
 use Rattle.turns.proofs.Rounds.{serve-same}
-use Rattle.replaying.specs.Standing.{stackSize, searchBy, Stands, Made}
+use Rattle.replaying.specs.Standing.{stackSize, searchBy, Stands, Made, Turned}
 use Rattle.roomareas.specs.Areas.{areaSize, pointsSize, partOf, goalOf, goalsOf}
 use Rattle.roomareas.specs.Changes.{Beside, MadeAt, searchAt, Sits}
 use Rattle.roomareas.proofs.Parts.{part-whole, lent, part-back, beside-back}
 use Rattle.roomareas.proofs.Resting.{stored-verdict}
 use Rattle.roomareas.proofs.Lends.{lentOf, backOf, lent-length}
-use Rattle.rounds.specs.Spent.{MarkedAt, turnAt, Served, nextIn, VerdictPut, Stepped, SteppedAt, roundIn, roundAfter, Spent}
+use Rattle.rounds.specs.Spent.{MarkedAt, turnsAt, Served, nextIn, VerdictPut, Stepped, SteppedAt, roundIn, roundAfter, Spent}
 
 -- ---- what a number says of a search
 
@@ -52,19 +52,22 @@ marked-at i w s {ys} h z e =
 beside-self : (size i : ℕ) (xs : List ℕ) → Beside size i xs xs
 beside-self size i xs = record { length = refl; other = λ j d. refl }
 
-module _ {t : ℕ → Node} {n i : ℕ} (questions s : List ℕ) {w m o w′ m′ o′ : List ℕ} {r : ℕ}
-    (a : MadeAt t n (goalsOf questions i) i w m o w′ m′ o′ (turnAt t questions i w) r) where
-  pub served-found : {s′ : List ℕ} → r ≡ 1 → MarkedAt t n i w′ s s′ → Served t n questions i s w m o s′ w′ m′ o′ r
+module _ {t : ℕ → Node} {n i most k : ℕ} (questions s : List ℕ) {w m o w′ m′ o′ : List ℕ} {r : ℕ}
+    (a : MadeAt t n (goalsOf questions i) i w m o w′ m′ o′ (turnsAt t questions i k w) r)
+    (b : Turned (turn (expand t) (goalsOf questions i)) (running (gOf (partOf areaSize i w))) most k) where
+  pub served-found : {s′ : List ℕ} → r ≡ 1 → MarkedAt t n i w′ s s′ → Served t n questions i most k s w m o s′ w′ m′ o′ r
   served-found e x = record {
     made = a;
-    setting = x .setting ∙ sym (ap (settingsOn (listFrom t 0 n) (partOf pointsSize i s)) (made-found (turnAt t questions i w) (a .made) e));
+    turned = b;
+    setting = x .setting ∙ sym (ap (settingsOn (listFrom t 0 n) (partOf pointsSize i s)) (made-found (turnsAt t questions i k w) (a .made) e));
     others = x .others;
   }
 
-  pub served-else : (r ≡ 1 → ⊥) → Served t n questions i s w m o s w′ m′ o′ r
+  pub served-else : (r ≡ 1 → ⊥) → Served t n questions i most k s w m o s w′ m′ o′ r
   served-else e = record {
     made = a;
-    setting = sym (made-else (listFrom t 0 n) (partOf pointsSize i s) (turnAt t questions i w) (a .made) e);
+    turned = b;
+    setting = sym (made-else (listFrom t 0 n) (partOf pointsSize i s) (turnsAt t questions i k w) (a .made) e);
     others = beside-self pointsSize i s;
   }
 

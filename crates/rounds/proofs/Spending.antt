@@ -17,17 +17,17 @@ use Rattle.calculus.specs.Decide.{settingsOn}
 use Rattle.calculus.specs.Expansion.{expand}
 use Rattle.units.specs.Units.{words}
 use Rattle.state.specs.Work.{gOf}
-use Rattle.turns.specs.Turn.{Search, running, found, closed, verdictOf, numberOf, isRunning, takenUp, resumed}
+use Rattle.turns.specs.Turn.{Search, running, found, closed, verdictOf, numberOf, isRunning, times, takenUp, resumed}
 use Rattle.turns.specs.Round.{Round, runs, seek, upNext, whose, turnFor, serve, spend, turnsFor, written}
 use Rattle.turns.proofs.Replay.{turn-resumes, resumed-resumes, resumes-resumed}
 use Rattle.turns.proofs.Rounds.{up, up-same, serve-one, serve-same, serve-other, spend-add, spend-none, spend-next, turns-add, turns-next, turns-none, turns-fit}
 use Rattle.turns.proofs.Rooms.{written-parts, finished-stays}
-use Rattle.replaying.specs.Standing.{stackSize, searchBy, Stands}
+use Rattle.replaying.specs.Standing.{stackSize, searchBy, Stands, Turned}
 use Rattle.replaying.proofs.Standings.{made-stands}
 use Rattle.roomareas.specs.Areas.{areaSize, pointsSize, partOf, stored, goalOf, goalsOf, searchIn}
 use Rattle.roomareas.specs.Changes.{Beside, searchAt, SitsAt, Sits}
 use Rattle.roomareas.proofs.Sitting.{search-here, sits-here, search-other, sits-other}
-use Rattle.rounds.specs.Spent.{runsBy, turnAt, Served, nextIn, SteppedAt, roundIn, roundAfter, turnsAfter, Spent}
+use Rattle.rounds.specs.Spent.{runsBy, turnsAt, Served, nextIn, SteppedAt, roundIn, roundAfter, turnsAfter, Spent}
 
 -- who is up, by two looks
 module _ (p : ℕ → Bool) (q next : ℕ) {i : ℕ} (e : i ≡ seek p next (q - next)) where
@@ -40,6 +40,12 @@ module _ (p : ℕ → Bool) (q next : ℕ) {i : ℕ} (e : i ≡ seek p next (q -
   up-late h d =
       let z : q - 0 ≡ q = omega arith in
       rw (← e, le-ltb i q h) (rw z at d)
+
+-- where a search stays, its setting bytes do
+pub idle : (rs : List Node) (x : Search) (p : List ℕ) → p ≡ written rs x x p
+idle rs (running G) p = refl
+idle rs (found G) p = refl
+idle rs closed p = refl
 
 -- at the start no turn is spent
 pub spent-starts : {t : ℕ → Node} {n : ℕ} {questions : List ℕ} (s v turns : List ℕ) (before : ℕ → Search) (first : ℕ)
@@ -54,11 +60,6 @@ spent-starts {t} {n} s v turns before first h z = record {
   settings = λ i l. idle (listFrom t 0 n) (before i) (partOf pointsSize i s);
   beyond = λ i l. (refl, refl, z i);
 }
-  where
-    idle : (rs : List Node) (x : Search) (p : List ℕ) → p ≡ written rs x x p
-    idle rs (running G) p = refl
-    idle rs (found G) p = refl
-    idle rs closed p = refl
 
 number-runs : (s : Search) {r : ℕ} → r ≡ numberOf s → eqb r 2 ≡ isRunning s
 number-runs (running G) e = rw e
@@ -198,6 +199,24 @@ module _ {t : ℕ → Node} {n : ℕ} {questions s₀ v₀ : List ℕ} {before :
 
 -- ---- where the searches are all taken up
 
+-- a question has made turns: the others stay
+pub sits-served : {t : ℕ → Node} {n : ℕ} {questions s w m o : List ℕ} (v : List ℕ) {i most k : ℕ} {s′ w′ m′ o′ : List ℕ} {r : ℕ} → Sits t n questions w m o v
+    → Served t n questions i most k s w m o s′ w′ m′ o′ r → i < length v → Sits t n questions w′ m′ o′ (set v i r)
+sits-served {t} {n} {questions} v {i} {w′ = w′} {m′} {o′} {r} b x l j c = on (ℕ-discrete j i)
+  where
+    on : Dec (j ≡ i) → SitsAt t n questions w′ m′ o′ (set v i r) j
+    on (yes d) = rw d (sits-here questions v (x .made) l)
+    on (no d) = sits-other questions v (x .made) l d (b j c)
+
+-- of one turn, a search that runs makes one
+one-made : {f : Search → Search} {G : List ℕ} {k : ℕ} → Turned f (running G) 1 k → k ≡ 1
+unfolding times
+one-made {f} {G} {k} a = on (ℕ-discrete k 0)
+  where
+    on : Dec (k ≡ 0) → k ≡ 1
+    on (yes z) = a .whole (rw z)
+    on (no z) = omega (arith, a .few)
+
 module _ {t : ℕ → Node} {n : ℕ} {questions s₀ v₀ : List ℕ} {before : ℕ → Search} {first k : ℕ} {s : List ℕ} (w m o : List ℕ) {v turns : List ℕ} {next : ℕ}
     (a : Spent t n questions s₀ v₀ before first k s v turns (searchAt w v) next) (b : Sits t n questions w m o v) {i : ℕ}
     (e : i ≡ upNext (runsBy v) (length questions) next) (h : i < length questions) where
@@ -208,22 +227,16 @@ module _ {t : ℕ → Node} {n : ℕ} {questions s₀ v₀ : List ℕ} {before :
   unfolding searchBy
   up-search = ap (λ (x : ℕ). searchBy x (gOf (partOf areaSize i w))) (up-number a e h)
 
-  module _ {s′ w′ m′ o′ : List ℕ} {r : ℕ} (x : Served t n questions i s w m o s′ w′ m′ o′ r) (l : i < length v) (z : i < length turns) where
-    turned : turnAt t questions i w ≡ turnFor (expand t) (goalOf questions) i (searchAt w v i)
-    turned = ap (turnFor (expand t) (goalOf questions) i) (sym up-search)
+  module _ {k′ : ℕ} {s′ w′ m′ o′ : List ℕ} {r : ℕ} (x : Served t n questions i 1 k′ s w m o s′ w′ m′ o′ r) (l : i < length v) (z : i < length turns) where
+    turned : turnsAt t questions i k′ w ≡ turnFor (expand t) (goalOf questions) i (searchAt w v i)
+    unfolding times
+    turned = rw (one-made (x .turned)) (ap (turnFor (expand t) (goalOf questions) i) (sym up-search))
 
     pub served-more : Spent t n questions s₀ v₀ before first (k + 1) s′ (set v i r) (set turns i (getD turns i 0 + 1)) (searchAt w′ (set v i r)) (i + 1)
     served-more =
         spent-more a e h (search-here questions v (x .made) l ∙ turned) (λ j d. search-other questions v (x .made) l d)
         (x .made .made .number ∙ ap numberOf turned) (x .setting ∙ ap (λ (y : Search). settingsOn (listFrom t 0 n) (partOf pointsSize i s) (verdictOf y)) turned)
         (x .others) l z
-
-    pub sits-more : Sits t n questions w′ m′ o′ (set v i r)
-    sits-more j c = on (ℕ-discrete j i)
-      where
-        on : Dec (j ≡ i) → SitsAt t n questions w′ m′ o′ (set v i r) j
-        on (yes d) = rw d (sits-here questions v (x .made) l)
-        on (no d) = sits-other questions v (x .made) l d (b j c)
 
 -- ---- where each is taken up for its turn
 

@@ -1,20 +1,24 @@
-// Questions under one allowance: turns go round over the unfinished ones.
+// Questions under one allowance: turns go round over the unfinished ones. Searches don't touch each other, so each question makes its turns of
+// all full laps in a row, and only what is then left of the allowance goes round turn by turn.
+use replaying::Ran;
 ghost use mathlib.Core.Path.{_≡_};
 ghost use mathlib.Core.List.{_∷_, []};
 ghost use Prim.Native.Nat.{ℕ, _+_, _-_, _*_, _≤_, _<_};
+ghost use lib.Dec.{eqb, ltb};
 ghost use lib.ListN.{length, getD};
+ghost use Rattle.calculus.specs.Count.{one, tally};
 ghost use Rattle.calculus.specs.Expansion.{expand};
 ghost use Rattle.calculus.specs.Model.{Goals};
 ghost use Rattle.index.specs.Index.{indexNode};
 ghost use Rattle.index.specs.Indexed.{Indexed};
 ghost use Rattle.units.specs.Units.{words};
 ghost use Rattle.state.specs.Work.{gOf, Ready};
-ghost use Rattle.turns.specs.Turn.{running, numberOf, turn};
+ghost use Rattle.turns.specs.Turn.{running, numberOf, turn, times};
 ghost use Rattle.turns.specs.Round.{seek as seekFrom, upNext};
-ghost use Rattle.replaying.specs.Standing.{stackSize, Stands};
+ghost use Rattle.replaying.specs.Standing.{stackSize, Stands, Turned};
 ghost use Rattle.roomareas.specs.Areas.{areaSize, pointsSize, partOf, goalsOf, searchIn};
 ghost use Rattle.roomareas.specs.Changes.{mostQuestions, Roomy, Lendable, MadeAt, searchAt, Sits};
-ghost use Rattle.rounds.specs.Spent.{runsBy, Pointed, MarkedAt, Served, VerdictPut, Stepped, SteppedAt, Spent};
+ghost use Rattle.rounds.specs.Spent.{runsBy, Pointed, MarkedAt, Served, Climbs, lapsBy, LastOf, VerdictPut, Stepped, SteppedAt, Spent};
 
 // The numbers of an area, of a set of units and of a stack, and the setting bytes of a question.
 const AREA: usize = 32768;
@@ -60,8 +64,8 @@ fn up_next(verdicts: &[u8], q: usize, next: usize) -> usize
     seek(verdicts, 0, q)
 }
 
-// Question i, whose goal is given, makes a turn; what its search has then come to.
-fn turn_at(
+// Question i, whose goal is given, makes up to so many turns.
+fn run_at(
     x: &[u16],
     n: usize,
     goal: u16,
@@ -69,25 +73,28 @@ fn turn_at(
     masks: &mut [u64],
     opens: &mut [u16],
     i: usize,
-) -> u8
+    most: usize,
+) -> Ran
     requires { ⌜ Indexed (now x) n ⌝ }
     requires { ⌜ goal < 2 * n ⌝ }
     requires { ⌜ Lendable i (now work) (now masks) (now opens) ⌝ }
     requires { ⌜ Stands (indexNode (now x)) n (goal ∷ []) (partOf areaSize i (now work)) (partOf words i (now masks)) (partOf stackSize i (now opens)) ⌝ }
-    ensures { λ r. ⌜ MadeAt (indexNode (now (x .entry))) n (goal ∷ []) i (now (work .entry)) (now (masks .entry)) (now (opens .entry)) (now (work .exit)) (now (masks .exit)) (now (opens .exit)) (turn (expand (indexNode (now (x .entry)))) (goal ∷ []) (running (gOf (partOf areaSize i (now (work .entry)))))) r ⌝ }
+    ensures { λ r. ⌜ MadeAt (indexNode (now (x .entry))) n (goal ∷ []) i (now (work .entry)) (now (masks .entry)) (now (opens .entry)) (now (work .exit)) (now (masks .exit)) (now (opens .exit)) (times (turn (expand (indexNode (now (x .entry)))) (goal ∷ [])) (r .made) (running (gOf (partOf areaSize i (now (work .entry)))))) (r .verdict) ⌝ }
+    ensures { λ r. ⌜ Turned (turn (expand (indexNode (now (x .entry)))) (goal ∷ [])) (running (gOf (partOf areaSize i (now (work .entry))))) most (r .made) ⌝ }
     ensures { λ _. ⌜ Ready n (partOf areaSize i (now (work .exit))) ⌝ }
 {
     let goals = [goal];
     let a = AREA * i;
     let b = MASKS * i;
     let c = STACK * i;
-    replaying::turn(
+    replaying::run(
         x,
         n,
         &goals,
         &mut work[a..a + AREA],
         &mut masks[b..b + MASKS],
         &mut opens[c..c + STACK],
+        most,
     )
 }
 
@@ -104,7 +111,7 @@ fn mark(x: &[u16], n: usize, work: &[u16], settings: &mut [u8], i: usize)
     deciding::set_points(x, n, &work[a..a + AREA], &mut settings[p..p + POINTS]);
 }
 
-// Question i makes a turn; where that finds a model, its setting bytes become the model's. What its search has then come to.
+// Question i makes up to so many turns; where they find a model, its setting bytes become the model's.
 fn serve(
     x: &[u16],
     n: usize,
@@ -114,21 +121,132 @@ fn serve(
     masks: &mut [u64],
     opens: &mut [u16],
     i: usize,
-) -> u8
+    most: usize,
+) -> Ran
     requires { ⌜ Indexed (now x) n ⌝ }
     requires { ⌜ Pointed (now x) n ⌝ }
     requires { ⌜ Goals n (now questions) ⌝ }
     requires { ⌜ (i < length (now questions)) × (pointsSize * (i + 1) ≤ length (now settings)) ⌝ }
     requires { ⌜ Lendable i (now work) (now masks) (now opens) ⌝ }
     requires { ⌜ Stands (indexNode (now x)) n (goalsOf (now questions) i) (partOf areaSize i (now work)) (partOf words i (now masks)) (partOf stackSize i (now opens)) ⌝ }
-    ensures { λ r. ⌜ Served (indexNode (now (x .entry))) n (now (questions .entry)) i (now (settings .entry)) (now (work .entry)) (now (masks .entry)) (now (opens .entry)) (now (settings .exit)) (now (work .exit)) (now (masks .exit)) (now (opens .exit)) r ⌝ }
+    ensures { λ r. ⌜ Served (indexNode (now (x .entry))) n (now (questions .entry)) i most (r .made) (now (settings .entry)) (now (work .entry)) (now (masks .entry)) (now (opens .entry)) (now (settings .exit)) (now (work .exit)) (now (masks .exit)) (now (opens .exit)) (r .verdict) ⌝ }
 {
-    let v = turn_at(x, n, questions[i], work, masks, opens, i);
-    if v == POSSIBLE {
+    let v = run_at(x, n, questions[i], work, masks, opens, i, most);
+    if v.verdict == POSSIBLE {
         mark(x, n, work, settings, i);
         return v;
     }
     v
+}
+
+// One where question i stands before the first one up: its turn of the first lap was made before this call.
+fn ahead(i: usize, first: usize) -> usize
+    ensures { λ r. ⌜ r ≡ one (ltb i first) ⌝ }
+{
+    if i < first { 1 } else { 0 }
+}
+
+// One more, if a verdict says that its search is not over.
+fn counted(c: usize, v: u8) -> usize
+    requires { ⌜ c < mostQuestions ⌝ }
+    ensures { λ r. ⌜ r ≡ one (eqb v 2) + c ⌝ }
+{
+    if v == UNFINISHED { c + 1 } else { c }
+}
+
+// How many of q questions are unfinished.
+fn unfinished(verdicts: &[u8], q: usize) -> usize
+    requires { ⌜ (q ≤ mostQuestions) × (length (now verdicts) ≡ mostQuestions) ⌝ }
+    ensures { λ r. ⌜ r ≡ tally (runsBy (now (verdicts .entry))) q ⌝ }
+{
+    let mut c = 0;
+    let mut i = 0;
+    while i < q {
+        c = counted(c, verdicts[i]);
+        i += 1;
+    }
+    c
+}
+
+// How many full laps of the unfinished questions an allowance has. It only chooses a way to the same answers, so no more is said than that
+// they fit.
+fn laps_in(verdicts: &[u8], q: usize, allowance: usize) -> usize
+    requires { ⌜ (q ≤ mostQuestions) × (length (now verdicts) ≡ mostQuestions) ⌝ }
+    ensures { λ r. ⌜ (r ≤ allowance) × (r * tally (runsBy (now (verdicts .entry))) q ≤ allowance) ⌝ }
+{
+    let c = unfinished(verdicts, q);
+    if c == 0 {
+        return 0;
+    }
+    allowance / c
+}
+
+// The full laps of an allowance, which each question makes in a row. The answer is how many turns that were.
+fn climb(
+    x: &[u16],
+    n: usize,
+    questions: &[u16],
+    settings: &mut [u8],
+    work: &mut [u16],
+    masks: &mut [u64],
+    opens: &mut [u16],
+    verdicts: &mut [u8],
+    turns: &mut [usize],
+    first: usize,
+    allowance: usize,
+) -> usize
+    requires { ⌜ Indexed (now x) n ⌝ }
+    requires { ⌜ Pointed (now x) n ⌝ }
+    requires { ⌜ Goals n (now questions) ⌝ }
+    requires { ⌜ Roomy (length (now questions)) (now work) (now masks) (now opens) (now verdicts) ⌝ }
+    requires { ⌜ (pointsSize * length (now questions) ≤ length (now settings)) × (length (now turns) ≡ mostQuestions) ⌝ }
+    requires { ⌜ ((i : ℕ) → getD (now turns) i 0 ≡ 0) ⌝ }
+    requires { ⌜ Sits (indexNode (now x)) n (now questions) (now work) (now masks) (now opens) (now verdicts) ⌝ }
+    ensures { λ r. ⌜ Climbs (indexNode (now (x .entry))) n (now (questions .entry)) (now (settings .entry)) (now (verdicts .entry)) (searchAt (now (work .entry)) (now (verdicts .entry))) first allowance (now (settings .exit)) (now (verdicts .exit)) (now (turns .exit)) (searchAt (now (work .exit)) (now (verdicts .exit))) r ⌝ }
+    ensures { λ _. ⌜ Sits (indexNode (now (x .entry))) n (now (questions .entry)) (now (work .exit)) (now (masks .exit)) (now (opens .exit)) (now (verdicts .exit)) ⌝ }
+{
+    let laps = laps_in(verdicts, questions.len(), allowance);
+    let mut spent = 0;
+    let mut i = 0;
+    if laps == 0 {
+        return 0;
+    }
+    while i < questions.len() {
+        let w = i;
+        i += 1;
+        if verdicts[w] == UNFINISHED {
+            let most = laps - ahead(w, first);
+            let v = serve(x, n, questions, settings, work, masks, opens, w, most);
+            verdicts[w] = v.verdict;
+            turns[w] = v.made;
+            spent += v.made;
+        }
+    }
+    spent
+}
+
+// The number after that of the question that had the last turn of k, made in laps: of those with the most laps, the last.
+fn after(turns: &[usize], q: usize, first: usize, k: usize) -> usize
+    requires { ⌜ (q ≤ mostQuestions) × (length (now turns) ≡ mostQuestions) ⌝ }
+    requires { ⌜ ((i : ℕ) → i < q → lapsBy first (now turns) i < 18446744073709551616) ⌝ }
+    ensures { λ r. ⌜ LastOf q first (now (turns .entry)) k r ⌝ }
+{
+    let mut next = 0;
+    let mut most = 0;
+    let mut i = 0;
+    if k == 0 {
+        return first;
+    }
+    while i < q {
+        let w = i;
+        i += 1;
+        let made = turns[w] + ahead(w, first);
+        if most <= made {
+            most = made;
+            next = i;
+        }
+    }
+    next
 }
 
 // Turns go round until the allowance is spent or every question is finished. The answer is whose turn is next.
@@ -155,14 +273,27 @@ pub fn spend(
     ensures { λ r. ⌜ Spent (indexNode (now (x .entry))) n (now (questions .entry)) (now (settings .entry)) (now (verdicts .entry)) (searchAt (now (work .entry)) (now (verdicts .entry))) first allowance (now (settings .exit)) (now (verdicts .exit)) (now (turns .exit)) (searchAt (now (work .exit)) (now (verdicts .exit))) r ⌝ }
     ensures { λ _. ⌜ Sits (indexNode (now (x .entry))) n (now (questions .entry)) (now (work .exit)) (now (masks .exit)) (now (opens .exit)) (now (verdicts .exit)) ⌝ }
 {
-    let mut next = first;
-    let mut k = 0;
+    let mut k = climb(
+        x,
+        n,
+        questions,
+        settings,
+        work,
+        masks,
+        opens,
+        verdicts,
+        turns,
+        first,
+        allowance,
+    );
+    let mut next = after(turns, questions.len(), first, k);
     while k < allowance {
         let i = up_next(verdicts, questions.len(), next);
         if questions.len() <= i {
             return next;
         }
-        verdicts[i] = serve(x, n, questions, settings, work, masks, opens, i);
+        let v = serve(x, n, questions, settings, work, masks, opens, i, 1);
+        verdicts[i] = v.verdict;
         turns[i] += 1;
         next = i + 1;
         k += 1;

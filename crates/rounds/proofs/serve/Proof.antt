@@ -6,23 +6,23 @@ use Rattle.rounds.proofs.Serving.{served-found, served-else}
 use Rattle.rounds.proofs.serve.Statement.{statement}
 use Rattle.rounds.proofs.serve.Tie as tie
 
-mul-turn-at : tie.Need-mul-turn-at
-mul-turn-at c = search needs
+mul-run-at : tie.Need-mul-run-at
+mul-run-at c = search needs
 
-shared-slice-read-turn-at : tie.Need-shared-slice-read-turn-at
-shared-slice-read-turn-at c = search needs
+shared-slice-read-run-at : tie.Need-shared-slice-read-run-at
+shared-slice-read-run-at c = search needs
 
-turn-at-requires : tie.Need-turn-at-requires
-turn-at-requires c κs =
+run-at-requires : tie.Need-run-at-requires
+run-at-requires c κs =
     let p = c .before .before .before .before .before .before .before .before .before .before .pre in
     (p .0, (goal-below (p .1 .1 .0) (p .1 .1 .1 .0 .0), (p .1 .1 .1 .1 .0, p .1 .1 .1 .1 .1)))
 
 mark-requires : tie.Need-mark-requires
 mark-requires c κs =
-    let p = c .before .before .before .before .before .before .before .before .before .before .before .before .before .before .before .before .before .before .before .before .pre in
+    let p = c .before .before .before .before .before .before .before .before .before .before .before .before .before .before .before .before .before .before .before .before .before .pre in
     let h = p .1 .1 .1 .1 .0 in
-    let u = c .before .before .before .before .before .before .before .before .before .turn-at in
-    (p .0, (p .1 .0, ((h .few, omega (arith, h .work, u .kept .1 .1 .1 .0), p .1 .1 .1 .0 .1), u .ensures .1)))
+    let u = c .before .before .before .before .before .before .before .before .before .before .run-at in
+    (p .0, (p .1 .0, ((h .few, omega (arith, h .work, u .kept .1 .1 .1 .0), p .1 .1 .1 .0 .1), u .ensures .1 .1)))
 
 same-length : tie.Need-same-length
 same-length c = search needs
@@ -38,11 +38,9 @@ same-length-4 c = search needs
 
 returns : tie.Need-returns
 returns c =
-    let at-if1 = c .before .before .before .before .before in
-    let at-turn-at = at-if1 .before .before .before .before .before .before .before in
-    let start = at-turn-at .before .before .before .before .before .before .before .before .before .before .before in
-    let u = at-turn-at .turn-at in
-    served-found (start .args .questions .now) (start .args .settings .now) (u .ensures .0) (at-if1 .if1 .taken) (c .before .before .mark .ensures)
+    let a = c .before .before .before .before .before .before .before .before .before .before .before .before .before .before .before .before .before .before .before .before .before .before .before .before .args in
+    let u = c .before .before .before .before .before .before .before .before .before .before .before .before .before .run-at in
+    served-found (a .questions .now) (a .settings .now) (u .ensures .0) (u .ensures .1 .0) (c .before .before .before .before .before .if1 .taken) (c .before .before .mark .ensures)
 
 same-length-5 : tie.Need-same-length-5
 same-length-5 c = search needs
@@ -55,18 +53,17 @@ same-length-7 c = search needs
 
 returns-2 : tie.Need-returns-2
 returns-2 c =
-    let at-turn-at = c .before .before .before .before .before .before .before in
-    let start = at-turn-at .before .before .before .before .before .before .before .before .before .before .before in
-    let u = at-turn-at .turn-at in
-    served-else (start .args .questions .now) (start .args .settings .now) (u .ensures .0) (c .if1 .left)
+    let a = c .before .before .before .before .before .before .before .before .before .before .before .before .before .before .before .before .before .before .before .args in
+    let u = c .before .before .before .before .before .before .before .before .run-at in
+    served-else (a .questions .now) (a .settings .now) (u .ensures .0) (u .ensures .1 .0) (c .if1 .left)
 
 pub serve-spec : {M : Type 1} → statement M
 serve-spec =
     tie.close
     (tie.spec
-    mul-turn-at
-    shared-slice-read-turn-at
-    turn-at-requires
+    mul-run-at
+    shared-slice-read-run-at
+    run-at-requires
     mark-requires
     same-length
     same-length-2
