@@ -8,8 +8,8 @@ use native.Mathlib.Numerals.{add-one}
 use native.Mathlib.Decide.{ℕ-discrete}
 use lib.ListN.{length, getD, set, length-set}
 use lib.Seq.{getD-set-same, getD-set-other}
-use Rattle.area.specs.Area.{areaSize, mostNodes, mostSlots, strikesFrom, countsFrom, sizesFrom, headsFrom, notes, clauseCount, depth, newest, packedAt, flagOf, noteAt, strikeAt, splitCount, splitSize, splitHead, trailAt, Trail, Shrunk, Struck, Saved}
-use Rattle.area.proofs.Packed.{noted-note, noted-flag, flagged-note, flagged-flag}
+use Rattle.area.specs.Area.{areaSize, mostNodes, mostSlots, slotsFrom, strikesFrom, countsFrom, sizesFrom, headsFrom, notes, whole, clauseCount, depth, newest, packedAt, flagOf, noteAt, slotAt, strikeAt, splitCount, splitSize, splitHead, trailAt, Trail, Shrunk, Struck, Saved}
+use Rattle.area.proofs.Packed.{flagged-literal, flagged-flag}
 
 -- ---- literals leave
 
@@ -36,7 +36,7 @@ shrink-ends {n} {c} {w₀} {w} f b p =
 
 -- ---- a strike, a split
 
-module _ (w : List ℕ) (m kind : ℕ) (size : areaSize ≤ length w) (b : m < mostSlots) (few : newest w ≤ mostSlots) (z : kind % notes ≡ 0) where
+module _ (w : List ℕ) (m kind : ℕ) (size : areaSize ≤ length w) (b : m < mostSlots) (few : newest w ≤ mostSlots) (z : kind % notes ≡ 0) (none : strikeAt w m ≡ 0) where
   I : ℕ
   I = newest w
 
@@ -45,77 +45,84 @@ module _ (w : List ℕ) (m kind : ℕ) (size : areaSize ≤ length w) (b : m < m
   few′ = few
 
   w₁ : List ℕ
-  w₁ = set w (strikesFrom + I) (packedAt w I - packedAt w I % notes + m)
+  w₁ = set w (strikesFrom + I) m
 
   w₂ : List ℕ
-  w₂ = set w₁ (strikesFrom + m) (packedAt w₁ m % notes + (notes + kind))
+  w₂ = set w₁ (slotsFrom + m) (packedAt w₁ m + (notes + kind))
 
   w₃ : List ℕ
   w₃ = set w₂ 2 (I + 1)
 
   z₁ : length w₁ ≡ length w
   unfolding w₁
-  z₁ = length-set w (strikesFrom + I) (packedAt w I - packedAt w I % notes + m)
+  z₁ = length-set w (strikesFrom + I) m
 
   z₂ : length w₂ ≡ length w
   unfolding w₂
-  z₂ = length-set w₁ (strikesFrom + m) (packedAt w₁ m % notes + (notes + kind)) ∙ z₁
+  z₂ = length-set w₁ (slotsFrom + m) (packedAt w₁ m + (notes + kind)) ∙ z₁
 
-  here₁ : packedAt w₁ I ≡ packedAt w I - packedAt w I % notes + m
+  here₁ : noteAt w₁ I ≡ m
   unfolding w₁
-  here₁ = getD-set-same w (strikesFrom + I) (packedAt w I - packedAt w I % notes + m) 0 (omega (arith, size, few′))
+  here₁ = getD-set-same w (strikesFrom + I) m 0 (omega (arith, size, few′))
 
   away₁ : (i : ℕ) → (i ≡ strikesFrom + I → ⊥) → getD w₁ i 0 ≡ getD w i 0
   unfolding w₁
-  away₁ i e = getD-set-other w (strikesFrom + I) i (packedAt w I - packedAt w I % notes + m) 0 e
+  away₁ i e = getD-set-other w (strikesFrom + I) i m 0 e
 
-  here₂ : packedAt w₂ m ≡ packedAt w₁ m % notes + (notes + kind)
-  unfolding w₂
-  here₂ = getD-set-same w₁ (strikesFrom + m) (packedAt w₁ m % notes + (notes + kind)) 0 (omega (arith, z₁, size, b))
+  packed₁ : packedAt w₁ m ≡ packedAt w m
+  packed₁ = away₁ (slotsFrom + m) (λ q. omega (arith, q, b))
 
-  away₂ : (i : ℕ) → (i ≡ strikesFrom + m → ⊥) → getD w₂ i 0 ≡ getD w₁ i 0
+  here₂ : packedAt w₂ m ≡ packedAt w m + (notes + kind)
   unfolding w₂
-  away₂ i e = getD-set-other w₁ (strikesFrom + m) i (packedAt w₁ m % notes + (notes + kind)) 0 e
+  here₂ = getD-set-same w₁ (slotsFrom + m) (packedAt w₁ m + (notes + kind)) 0 (omega (arith, z₁, size, b)) ∙ ap (_+ (notes + kind)) packed₁
+
+  away₂ : (i : ℕ) → (i ≡ slotsFrom + m → ⊥) → getD w₂ i 0 ≡ getD w₁ i 0
+  unfolding w₂
+  away₂ i e = getD-set-other w₁ (slotsFrom + m) i (packedAt w₁ m + (notes + kind)) 0 e
 
   away₃ : (i : ℕ) → (i ≡ 2 → ⊥) → getD w₃ i 0 ≡ getD w₂ i 0
   unfolding w₃
   away₃ i e = getD-set-other w₂ 2 i (I + 1) 0 e
 
-  packed₃ : (i : ℕ) → packedAt w₃ i ≡ packedAt w₂ i
-  packed₃ i = away₃ (strikesFrom + i) (λ q. omega (arith, q))
+  here₃ : packedAt w₃ m ≡ packedAt w m + (notes + kind)
+  here₃ = away₃ (slotsFrom + m) (λ q. omega (arith, q)) ∙ here₂
 
-  -- the first store leaves the flags, the second the notes
-  flag₁ : (s : ℕ) → strikeAt w₁ s ≡ strikeAt w s
-  flag₁ s = go (ℕ-discrete s I)
+  -- a slot lies before all notes
+  packed₃ : (s : ℕ) → s < mostSlots → (s ≡ m → ⊥) → packedAt w₃ s ≡ packedAt w s
+  packed₃ s h e = away₃ (slotsFrom + s) (λ q. omega (arith, q)) ∙ away₂ (slotsFrom + s) (λ q. e (omega (arith, q))) ∙ away₁ (slotsFrom + s) (λ q. omega (arith, q, h))
+
+  note₃ : (i : ℕ) → noteAt w₃ i ≡ noteAt w₁ i
+  note₃ i = away₃ (strikesFrom + i) (λ q. omega (arith, q)) ∙ away₂ (strikesFrom + i) (λ q. omega (arith, q, b))
+
+  slot₃ : (s : ℕ) → s < mostSlots → slotAt w₃ s ≡ slotAt w s
+  slot₃ s h = go (ℕ-discrete s m)
     where
-      go : Dec (s ≡ I) → strikeAt w₁ s ≡ strikeAt w s
-      go (yes e) = ap (strikeAt w₁) e ∙ ap flagOf here₁ ∙ noted-flag (packedAt w I) m (omega (arith, b)) ∙ ap (strikeAt w) (sym e)
-      go (no e) = ap flagOf (away₁ (strikesFrom + s) (λ q. e (omega (arith, q))))
+      go : Dec (s ≡ m) → slotAt w₃ s ≡ slotAt w s
+      go (yes e) = ap (slotAt w₃) e ∙ ap (_% notes) here₃ ∙ flagged-literal (packedAt w m) kind z ∙ ap (slotAt w) (sym e)
+      go (no e) = ap (_% notes) (packed₃ s h e)
 
-  note₂ : (i : ℕ) → noteAt w₂ i ≡ noteAt w₁ i
-  note₂ i = go (ℕ-discrete i m)
-    where
-      go : Dec (i ≡ m) → noteAt w₂ i ≡ noteAt w₁ i
-      go (yes e) = ap (noteAt w₂) e ∙ ap (_% notes) here₂ ∙ flagged-note (packedAt w₁ m) kind z ∙ ap (noteAt w₁) (sym e)
-      go (no e) = ap (_% notes) (away₂ (strikesFrom + i) (λ q. e (omega (arith, q))))
-
-  beside : (i x : ℕ) → x ≤ mostSlots → (i < strikesFrom) ⊎ (countsFrom ≤ i) → i ≡ strikesFrom + x → ⊥
-  beside i x h (inl a) e = omega (arith, a, e)
-  beside i x h (inr a) e = omega (arith, a, e, h)
+  beside : (i : ℕ) → (i < slotsFrom) ⊎ (countsFrom ≤ i) → (i ≡ slotsFrom + m → ⊥) × (i ≡ strikesFrom + I → ⊥)
+  beside i (inl a) = (λ e. omega (arith, a, e), λ e. omega (arith, a, e))
+  beside i (inr a) = (λ e. omega (arith, a, e, b), λ e. omega (arith, a, e, few′))
 
   struck₃ : Struck kind m w w₃
   struck₃ = record {
     size = unfold w₃ in length-set w₂ 2 (I + 1) ∙ z₂;
     head = unfold w₃ I in getD-set-same w₂ 2 (newest w + 1) 0 (omega (arith, z₂, size)) ∙ add-one (newest w);
-    note = unfold I in ap (_% notes) (packed₃ (newest w)) ∙ note₂ (newest w) ∙ ap (_% notes) here₁ ∙ noted-note (packedAt w (newest w)) m (omega (arith, b));
-    here = ap flagOf (packed₃ m) ∙ ap flagOf here₂ ∙ flagged-flag (packedAt w₁ m) kind z;
-    older = λ i e. ap (_% notes) (packed₃ i) ∙ note₂ i ∙ ap (_% notes) (away₁ (strikesFrom + i) (λ q. e (unfold I in omega (arith, q))));
-    others = λ s e. ap flagOf (packed₃ s) ∙ ap flagOf (away₂ (strikesFrom + s) (λ q. e (omega (arith, q)))) ∙ flag₁ s;
-    else = λ i p q. away₃ i p ∙ away₂ i (beside i m (omega (arith, b)) q) ∙ away₁ i (beside i I few′ q);
+    note = unfold I in note₃ (newest w) ∙ here₁;
+    here = ap flagOf here₃ ∙ flagged-flag (packedAt w m) kind z none;
+    older = λ i e. note₃ i ∙ away₁ (strikesFrom + i) (λ q. e (unfold I in omega (arith, q)));
+    others = λ s h e. ap flagOf (packed₃ s h e);
+    slots = slot₃;
+    else = λ i p q. away₃ i p ∙ away₂ i (beside i q .0) ∙ away₁ i (beside i q .1);
   }
 
-  pub is-struck : Struck kind m w (set (set (set w (strikesFrom + newest w) (packedAt w (newest w) - packedAt w (newest w) % notes + m)) (strikesFrom + m)
-      (packedAt (set w (strikesFrom + newest w) (packedAt w (newest w) - packedAt w (newest w) % notes + m)) m % notes + (notes + kind))) 2 (newest w + 1))
+  -- what is stored is a number of 16 bits
+  pub struck-fits : kind ≤ whole → packedAt (set w (strikesFrom + newest w) m) m + (notes + kind) < 65536
+  unfolding w₁ I
+  struck-fits h = omega (arith, packed₁, none, h)
+
+  pub is-struck : Struck kind m w (set (set (set w (strikesFrom + newest w) m) (slotsFrom + m) (packedAt (set w (strikesFrom + newest w) m) m + (notes + kind))) 2 (newest w + 1))
   unfolding w₃ w₂ w₁ I
   is-struck = struck₃
 

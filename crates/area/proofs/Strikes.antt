@@ -14,8 +14,8 @@ use Rattle.calculus.specs.Count.{one, tally}
 use Rattle.calculus.proofs.Tally.{tally-less}
 use Rattle.calculus.specs.Order.{mem}
 use Rattle.calculus.proofs.Literals.{mem-same, mem-other, mem-later}
-use Rattle.area.specs.Area.{areaSize, mostSlots, strikesFrom, countsFrom, notes, newest, packedAt, flagOf, noteAt, strikeAt, Struck}
-use Rattle.area.proofs.Packed.{flag-none, note-twice}
+use Rattle.area.specs.Area.{areaSize, mostSlots, slotsFrom, strikesFrom, countsFrom, notes, newest, packedAt, flagOf, noteAt, slotAt, strikeAt, Struck}
+use Rattle.area.proofs.Packed.{flag-none, literal-twice}
 use Rattle.area.specs.Strikes.{headOf, Chain, Strikes, Reaches, Unwound}
 
 -- ---- chains
@@ -72,7 +72,7 @@ struck-more kind m w w′ L b h f s = record {
     go x i (yes e) =
         ne-eqb (strikeAt w′ x) 0 (λ q. omega (arith, sym q ∙ ap (strikeAt w′) e ∙ s .here))
         ∙ sym (ap not (mem-same L m x e))
-    go x i (no e) = ap (λ (v : ℕ). eqb v 0) (s .others x e) ∙ h .flags x i ∙ sym (ap not (mem-other L m x e))
+    go x i (no e) = ap (λ (v : ℕ). eqb v 0) (s .others x i e) ∙ h .flags x i ∙ sym (ap not (mem-other L m x e))
 
 -- the newest is undone
 pub struck-less : (m : ℕ) (w w′ L : List ℕ) → Strikes w (m ∷ L) → newest w′ ≡ newest w - 1 → strikeAt w′ m ≡ 0
@@ -109,63 +109,66 @@ ahead head w size (m ∷ K, L, (h, e)) n =
 
 -- the stores of one turn
 abbrev pub undone : List ℕ → List ℕ
-undone w = set (set w (strikesFrom + noteAt w (newest w - 1)) (noteAt w (noteAt w (newest w - 1)))) 2 (newest w - 1)
+undone w = set (set w (slotsFrom + noteAt w (newest w - 1)) (slotAt w (noteAt w (newest w - 1)))) 2 (newest w - 1)
 
 module _ (w : List ℕ) (size : areaSize ≤ length w) (m : ℕ) (b : m < mostSlots) (e : noteAt w (newest w - 1) ≡ m) where
   w₁ : List ℕ
-  w₁ = set w (strikesFrom + m) (noteAt w m)
+  w₁ = set w (slotsFrom + m) (slotAt w m)
 
   w₂ : List ℕ
   w₂ = set w₁ 2 (newest w - 1)
 
   z₁ : length w₁ ≡ length w
   unfolding w₁
-  z₁ = length-set w (strikesFrom + m) (noteAt w m)
+  z₁ = length-set w (slotsFrom + m) (slotAt w m)
 
   length₂ : length w₂ ≡ length w
   unfolding w₂
   length₂ = length-set w₁ 2 (newest w - 1) ∙ z₁
 
-  away₂ : (i : ℕ) → (i ≡ 2 → ⊥) → (i ≡ strikesFrom + m → ⊥) → getD w₂ i 0 ≡ getD w i 0
+  away₂ : (i : ℕ) → (i ≡ 2 → ⊥) → (i ≡ slotsFrom + m → ⊥) → getD w₂ i 0 ≡ getD w i 0
   unfolding w₂ w₁
-  away₂ i p q = getD-set-other w₁ 2 i (newest w - 1) 0 p ∙ getD-set-other w (strikesFrom + m) i (noteAt w m) 0 q
+  away₂ i p q = getD-set-other w₁ 2 i (newest w - 1) 0 p ∙ getD-set-other w (slotsFrom + m) i (slotAt w m) 0 q
 
   head₂ : newest w₂ ≡ newest w - 1
   unfolding w₂
   head₂ = getD-set-same w₁ 2 (newest w - 1) 0 (omega (arith, z₁, size))
 
-  here₂ : packedAt w₂ m ≡ noteAt w m
+  here₂ : packedAt w₂ m ≡ slotAt w m
   unfolding w₂ w₁
-  here₂ = getD-set-other w₁ 2 (strikesFrom + m) (newest w - 1) 0 (λ q. omega (arith, q)) ∙ getD-set-same w (strikesFrom + m) (noteAt w m) 0 (omega (arith, size, b))
+  here₂ = getD-set-other w₁ 2 (slotsFrom + m) (newest w - 1) 0 (λ q. omega (arith, q)) ∙ getD-set-same w (slotsFrom + m) (slotAt w m) 0 (omega (arith, size, b))
 
   is₂ : undone w ≡ w₂
   unfolding w₂ w₁
-  is₂ = ap (λ (k : ℕ). set (set w (strikesFrom + k) (noteAt w k)) 2 (newest w - 1)) e
+  is₂ = ap (λ (k : ℕ). set (set w (slotsFrom + k) (slotAt w k)) 2 (newest w - 1)) e
 
   pub undone-length : length (undone w) ≡ length w
   undone-length = ap length is₂ ∙ length₂
 
-  pub undone-away : (i : ℕ) → (i ≡ 2 → ⊥) → (i ≡ strikesFrom + m → ⊥) → getD (undone w) i 0 ≡ getD w i 0
+  pub undone-away : (i : ℕ) → (i ≡ 2 → ⊥) → (i ≡ slotsFrom + m → ⊥) → getD (undone w) i 0 ≡ getD w i 0
   undone-away i p q = ap (λ (l : List ℕ). getD l i 0) is₂ ∙ away₂ i p q
 
   pub undone-head : newest (undone w) ≡ newest w - 1
   undone-head = ap newest is₂ ∙ head₂
 
-  undone-here : packedAt (undone w) m ≡ noteAt w m
+  undone-here : packedAt (undone w) m ≡ slotAt w m
   undone-here = ap (λ (l : List ℕ). packedAt l m) is₂ ∙ here₂
 
   pub undone-zero : strikeAt (undone w) m ≡ 0
   undone-zero = ap flagOf undone-here ∙ flag-none (packedAt w m)
 
   pub undone-others : (x : ℕ) → (x ≡ m → ⊥) → packedAt (undone w) x ≡ packedAt w x
-  undone-others x q = undone-away (strikesFrom + x) (λ y. omega (arith, y)) (λ y. q (omega (arith, y)))
+  undone-others x q = undone-away (slotsFrom + x) (λ y. omega (arith, y)) (λ y. q (omega (arith, y)))
+
+  pub undone-slots : (x : ℕ) → slotAt (undone w) x ≡ slotAt w x
+  undone-slots x = go (ℕ-discrete x m)
+    where
+      go : Dec (x ≡ m) → slotAt (undone w) x ≡ slotAt w x
+      go (yes q) = ap (slotAt (undone w)) q ∙ ap (_% notes) undone-here ∙ literal-twice (packedAt w m) ∙ ap (slotAt w) (sym q)
+      go (no q) = ap (_% notes) (undone-others x q)
 
   pub undone-notes : (i : ℕ) → noteAt (undone w) i ≡ noteAt w i
-  undone-notes i = go (ℕ-discrete i m)
-    where
-      go : Dec (i ≡ m) → noteAt (undone w) i ≡ noteAt w i
-      go (yes q) = ap (noteAt (undone w)) q ∙ ap (_% notes) undone-here ∙ note-twice (packedAt w m) ∙ ap (noteAt w) (sym q)
-      go (no q) = ap (_% notes) (undone-others i q)
+  undone-notes i = undone-away (strikesFrom + i) (λ y. omega (arith, y)) (λ y. omega (arith, y, b))
 
 mem-under : (K L : List ℕ) (x : ℕ) → mem x L ≡ true → mem x (K ++ L) ≡ true
 mem-under [] L x e = e
@@ -194,10 +197,11 @@ unwind-turn head w₀ w L size (m ∷ K, h, k) e n =
 pub record Unwinding (head : ℕ) (w₀ w : List ℕ) : Type 0 where
   pub size : length w ≡ length w₀
   pub strikes : (K L : List ℕ) → Strikes w₀ (K ++ L) → head ≡ headOf L → Back w₀ w L
-  pub else : (i : ℕ) → (i ≡ 2 → ⊥) → (i < strikesFrom) ⊎ (countsFrom ≤ i) → getD w i 0 ≡ getD w₀ i 0
+  pub slots : (s : ℕ) → slotAt w s ≡ slotAt w₀ s
+  pub else : (i : ℕ) → (i ≡ 2 → ⊥) → (i < slotsFrom) ⊎ (countsFrom ≤ i) → getD w i 0 ≡ getD w₀ i 0
 
 pub unwinding-starts : (head : ℕ) (w : List ℕ) → Unwinding head w w
-unwinding-starts head w = record { size = refl; strikes = λ K L h e. (K, h, λ m i. refl); else = λ i p q. refl }
+unwinding-starts head w = record { size = refl; strikes = λ K L h e. (K, h, λ m i. refl); slots = λ s. refl; else = λ i p q. refl }
 
 module _ (head : ℕ) (w₀ w : List ℕ) (size : areaSize ≤ length w₀) (r : Reaches head w₀) (u : Unwinding head w₀ w) where
   unwinding-size : areaSize ≤ length w
@@ -220,10 +224,11 @@ module _ (head : ℕ) (w₀ w : List ℕ) (size : areaSize ≤ length w₀) (r :
       record {
         size = undone-length w unwinding-size m b refl ∙ u .size;
         strikes = λ K L h e. unwind-turn head w₀ w L unwinding-size (u .strikes K L h e) e n;
+        slots = λ s. undone-slots w unwinding-size m b refl s ∙ u .slots s;
         else = λ i p q. undone-away w unwinding-size m b refl i p (beside i m b q) ∙ u .else i p q;
       }
     where
-      beside : (i m : ℕ) → m < mostSlots → (i < strikesFrom) ⊎ (countsFrom ≤ i) → i ≡ strikesFrom + m → ⊥
+      beside : (i m : ℕ) → m < mostSlots → (i < slotsFrom) ⊎ (countsFrom ≤ i) → i ≡ slotsFrom + m → ⊥
       beside i m b (inl a) y = omega (arith, a, y)
       beside i m b (inr a) y = omega (arith, a, y, b)
 
@@ -233,5 +238,6 @@ module _ (head : ℕ) (w₀ w : List ℕ) (size : areaSize ≤ length w₀) (r :
     strikes = λ K L h e.
         let m = u .strikes K L h e in
         (struck-back head w (m .0) L (m .1) e q, m .2);
+    slots = u .slots;
     else = u .else;
   }

@@ -1,6 +1,6 @@
 -- The derivation checker's work area. Place 0: how many clauses; 1: how many splits are open; 2: how many strikes there are. Then come
--- the clauses one after the other, of any length: where each begins, and a slot for each literal; the strikes, by slot and in the order
--- in which they were made; what is saved at each open split; and last the trail. Assumes nothing.
+-- the clauses one after the other, of any length: where each begins, and a slot for each literal, with its strike; the strikes in the
+-- order in which they were made; what is saved at each open split; and last the trail. Assumes nothing.
 use mathlib.Core.Path.{_≡_}
 use mathlib.Core.Bool.{Bool, false, cond, not, _&&_, _||_}
 use mathlib.Core.Logic.{_⊎_}
@@ -73,14 +73,11 @@ depth w = getD w 1 0
 abbrev pub newest : List ℕ → ℕ
 newest w = getD w 2 0
 
--- the slot where clause k begins, which is where the one before it ends; the literal in a slot
+-- the slot where clause k begins, which is where the one before it ends
 abbrev pub baseAt : List ℕ → ℕ → ℕ
 baseAt w k = getD w (basesFrom + k) 0
 
-abbrev pub slotAt : List ℕ → ℕ → ℕ
-slotAt w s = getD w (slotsFrom + s) 0
-
--- two things stand in one number: the slot of strike i, below `notes`; and the strike in slot s, 0 where there is none, else `notes`, and
+-- two things stand in one number: the literal in slot s, below `notes`; and the strike there, 0 where there is none, else `notes`, and
 -- `whole` more where the clause is struck, not the literal
 abbrev pub notes : ℕ
 notes = 8192
@@ -89,19 +86,23 @@ abbrev pub whole : ℕ
 whole = 16384
 
 abbrev pub packedAt : List ℕ → ℕ → ℕ
-packedAt w i = getD w (strikesFrom + i) 0
+packedAt w s = getD w (slotsFrom + s) 0
 
 abbrev pub flagOf : ℕ → ℕ
 flagOf v = v - v % notes
 
-abbrev pub noteAt : List ℕ → ℕ → ℕ
-noteAt w i = packedAt w i % notes
+abbrev pub slotAt : List ℕ → ℕ → ℕ
+slotAt w s = packedAt w s % notes
 
 abbrev pub strikeAt : List ℕ → ℕ → ℕ
 strikeAt w s = flagOf (packedAt w s)
 
 abbrev pub isWhole : List ℕ → ℕ → Bool
 isWhole w s = leb whole (strikeAt w s)
+
+-- the slot of strike i
+abbrev pub noteAt : List ℕ → ℕ → ℕ
+noteAt w i = getD w (strikesFrom + i) 0
 
 -- at open split d: how many literals were held, how many clauses there were, and how many strikes
 abbrev pub splitCount : List ℕ → ℕ → ℕ
@@ -151,8 +152,9 @@ pub record Struck (kind m : ℕ) (w w′ : List ℕ) : Type 0 where
   pub note : noteAt w′ (newest w) ≡ m
   pub here : strikeAt w′ m ≡ notes + kind
   pub older : (i : ℕ) → (i ≡ newest w → ⊥) → noteAt w′ i ≡ noteAt w i
-  pub others : (s : ℕ) → (s ≡ m → ⊥) → strikeAt w′ s ≡ strikeAt w s
-  pub else : (i : ℕ) → (i ≡ 2 → ⊥) → (i < strikesFrom) ⊎ (countsFrom ≤ i) → getD w′ i 0 ≡ getD w i 0
+  pub others : (s : ℕ) → s < mostSlots → (s ≡ m → ⊥) → strikeAt w′ s ≡ strikeAt w s
+  pub slots : (s : ℕ) → s < mostSlots → slotAt w′ s ≡ slotAt w s
+  pub else : (i : ℕ) → (i ≡ 2 → ⊥) → (i < slotsFrom) ⊎ (countsFrom ≤ i) → getD w′ i 0 ≡ getD w i 0
 
 -- the split is saved
 pub record Saved (w w′ : List ℕ) : Type 0 where
@@ -191,6 +193,23 @@ freeFrom w s (suc m) = cond (eqb (strikeAt w s) 0) (s ∷ freeFrom w (suc s) m) 
 
 abbrev pub freeIn : List ℕ → ℕ → List ℕ
 freeIn w k = freeFrom w (baseAt w k) (lengthAt w k)
+
+-- the one slot of a list, + 1; 0 where there is none, or another
+abbrev pub oneSlot : List ℕ → ℕ
+oneSlot [] = 0
+oneSlot (s ∷ []) = suc s
+oneSlot (s ∷ q ∷ ss) = 0
+
+-- the one of m slots from s on with no strike, + 1, unless there it stands that the clause is struck; and that of clause k
+abbrev pub onlyFrom : List ℕ → ℕ → ℕ → ℕ
+onlyFrom w s m = cond (wholeIn w s m) 0 (oneSlot (freeFrom w s m))
+
+abbrev pub onlyIn : List ℕ → ℕ → ℕ
+onlyIn w k = cond (ltb k (clauseCount w)) (onlyFrom w (baseAt w k) (lengthAt w k)) 0
+
+-- clause k is in the list and not struck, and no slot of it is without a strike
+abbrev pub emptyIn : List ℕ → ℕ → Bool
+emptyIn w k = standsIn w k && eqb (length (freeIn w k)) 0
 
 -- how many slots there are, and the first of them
 abbrev pub leftOf : List ℕ → Left

@@ -7,7 +7,7 @@ use Prim.Native.Nat.{ℕ, _<_, _≤_}
 use lib.Dec.{eqb}
 use lib.ListN.{getD, length}
 use Rattle.calculus.specs.Order.{mem}
-use Rattle.area.specs.Area.{mostSlots, strikesFrom, countsFrom, newest, strikeAt, noteAt}
+use Rattle.area.specs.Area.{mostSlots, slotsFrom, countsFrom, newest, slotAt, strikeAt, noteAt}
 
 -- how many there are
 abbrev pub headOf : List ℕ → ℕ
@@ -32,4 +32,5 @@ Reaches head w = (K : List ℕ) × (L : List ℕ) × (Strikes w (K ++ L) × (hea
 pub record Unwound (head : ℕ) (w w′ : List ℕ) : Type 0 where
   pub size : length w′ ≡ length w
   pub strikes : (K L : List ℕ) → Strikes w (K ++ L) → head ≡ headOf L → Strikes w′ L × ((m : ℕ) → mem m L ≡ true → strikeAt w′ m ≡ strikeAt w m)
-  pub else : (i : ℕ) → (i ≡ 2 → ⊥) → (i < strikesFrom) ⊎ (countsFrom ≤ i) → getD w′ i 0 ≡ getD w i 0
+  pub slots : (s : ℕ) → slotAt w′ s ≡ slotAt w s
+  pub else : (i : ℕ) → (i ≡ 2 → ⊥) → (i < slotsFrom) ⊎ (countsFrom ≤ i) → getD w′ i 0 ≡ getD w i 0

@@ -8,7 +8,7 @@ ghost use lib.ListN.{length};
 ghost use Rattle.calculus.specs.Order.{valueOf};
 ghost use Rattle.calculus.specs.Model.{Fresh};
 ghost use Rattle.rules.specs.Rules.{isHolds};
-ghost use Rattle.area.specs.Area.{areaSize, mostNodes, mostClauses, mostSlots, notes, whole, clauseCount, depth, newest, baseAt, slotAt, strikeAt, lengthAt, trailAt, gOf, Vals, Trail, valueCode, Entered, Shrunk, Struck, Saved, Ranged, standsIn, freeIn, leftOf, trueFrom};
+ghost use Rattle.area.specs.Area.{areaSize, mostNodes, mostClauses, mostSlots, notes, whole, clauseCount, depth, newest, baseAt, slotAt, strikeAt, lengthAt, trailAt, gOf, Vals, Trail, valueCode, Entered, Shrunk, Struck, Saved, Ranged, standsIn, freeIn, onlyFrom, onlyIn, emptyIn, leftOf, trueFrom};
 ghost use Rattle.area.specs.Strikes.{Reaches, Unwound};
 
 // What a clause has left: how many literals, and the slot of the first, 0 where there is none.
@@ -25,10 +25,9 @@ const CLAUSES: usize = 80 + 3 * NODES;
 const MOST_SLOTS: usize = 80 + 4 * NODES;
 
 // Places 0 to 2: how many clauses, how many open splits, how many strikes. From BASES on the slot where each clause begins, which is
-// where the one before it ends. From SLOTS on the literals of the clauses. From STRIKES on two things in each number: below NOTES the
-// slot of the strike with this index, and above it whether the slot with this index is struck. From COUNTS, SIZES and HEADS on what is
-// saved at each open split: the literals held, the clauses, the strikes. From TRAIL on the count of the literals held, the literals,
-// and each node's entry.
+// where the one before it ends. From SLOTS on two things in each number: below NOTES the literal of a clause, and above it whether it is
+// struck. From STRIKES on the slot of each strike, in turn. From COUNTS, SIZES and HEADS on what is saved at each open split: the
+// literals held, the clauses, the strikes. From TRAIL on the count of the literals held, the literals, and each node's entry.
 pub const BASES: usize = 3;
 
 pub const SLOTS: usize = BASES + (CLAUSES + 1);
@@ -47,7 +46,7 @@ pub const LITERALS: usize = 1;
 
 const ENTRIES: usize = LITERALS + NODES;
 
-// What the number of a slot with a strike has more than its note, and what it has more where the whole clause is struck.
+// What the number of a slot with a strike has more than its literal, and what it has more where the whole clause is struck.
 const NOTES: u16 = 8192;
 
 pub const WHOLE: u16 = 16384;
@@ -100,16 +99,15 @@ pub fn value(work: &[u16], n: usize, l: u16) -> u16
     if (e - 1) % 2 == l % 2 { 1 } else { 2 }
 }
 
-// A strike is made in slot m: of its literal where `kind` is 0, of the clause where it is WHOLE.
+// A strike is made in slot m, which has none: of its literal where `kind` is 0, of the clause where it is WHOLE.
 pub fn strike(work: &mut [u16], m: usize, kind: u16)
     requires { ⌜ (areaSize ≤ length (now work)) × (m < mostSlots) × (newest (now work) ≤ mostSlots) × (kind ≤ whole) ⌝ }
-    requires { ⌜ kind % notes ≡ 0 ⌝ }
+    requires { ⌜ (kind % notes ≡ 0) × (strikeAt (now work) m ≡ 0) ⌝ }
     ensures { λ _. ⌜ Struck kind m (now (work .entry)) (now (work .exit)) ⌝ }
 {
     let i = work[2] as usize;
-    let old = work[STRIKES + i];
-    work[STRIKES + i] = old - old % NOTES + m as u16;
-    work[STRIKES + m] = work[STRIKES + m] % NOTES + (NOTES + kind);
+    work[STRIKES + i] = m as u16;
+    work[SLOTS + m] = work[SLOTS + m] + (NOTES + kind);
     work[2] = (i + 1) as u16;
 }
 
@@ -121,8 +119,8 @@ pub fn unwind(work: &mut [u16], head: u16)
 {
     while work[2] != head {
         let i = work[2] - 1;
-        let m = (work[STRIKES + i as usize] % NOTES) as usize;
-        work[STRIKES + m] = work[STRIKES + m] % NOTES;
+        let m = work[STRIKES + i as usize] as usize;
+        work[SLOTS + m] = work[SLOTS + m] % NOTES;
         work[2] = i;
     }
 }
@@ -144,7 +142,7 @@ pub fn strike_in(work: &[u16], m: usize) -> u16
     requires { ⌜ (areaSize ≤ length (now work)) × (m < mostSlots) ⌝ }
     ensures { λ r. ⌜ r ≡ strikeAt (now (work .entry)) m ⌝ }
 {
-    let v = work[STRIKES + m];
+    let v = work[SLOTS + m];
     v - v % NOTES
 }
 
@@ -153,7 +151,7 @@ pub fn literal_in(work: &[u16], s: usize) -> u16
     requires { ⌜ (areaSize ≤ length (now work)) × (s < mostSlots) ⌝ }
     ensures { λ r. ⌜ r ≡ slotAt (now (work .entry)) s ⌝ }
 {
-    work[SLOTS + s]
+    work[SLOTS + s] % NOTES
 }
 
 // The slot where clause k begins.
@@ -198,7 +196,7 @@ fn counted(left: Left, s: usize, strike: u16) -> Left
 }
 
 // What clause k has left.
-pub fn remaining(work: &[u16], k: usize) -> Left
+fn remaining(work: &[u16], k: usize) -> Left
     requires { ⌜ Ranged (now work) × (k < clauseCount (now work)) ⌝ }
     ensures { λ r. ⌜ r ≡ leftOf (freeIn (now (work .entry)) k) ⌝ }
 {
@@ -210,6 +208,70 @@ pub fn remaining(work: &[u16], k: usize) -> Left
         left = counted(left, s, strike_in(work, s));
     }
     left
+}
+
+// The one of two slots from s on with no strike, + 1, where the other's literal is struck; else 0. The branches are on what is struck,
+// which can be guessed: no later step waits for it.
+fn one_of_two(work: &[u16], s: usize) -> usize
+    requires { ⌜ (areaSize ≤ length (now work)) × (s + 2 ≤ mostSlots) ⌝ }
+    ensures { λ r. ⌜ r ≡ onlyFrom (now (work .entry)) s 2 ⌝ }
+{
+    let first = strike_in(work, s);
+    let second = strike_in(work, s + 1);
+    if first == 0 {
+        if second == NOTES {
+            return s + 1;
+        }
+        return 0;
+    }
+    if first != NOTES {
+        return 0;
+    }
+    if second == 0 {
+        return s + 2;
+    }
+    0
+}
+
+// The one slot that clause k has left, + 1, where the clause stands; else 0.
+pub fn only(work: &[u16], k: usize) -> usize
+    requires { ⌜ Ranged (now work) ⌝ }
+    ensures { λ r. ⌜ r ≡ onlyIn (now (work .entry)) k ⌝ }
+{
+    if work[0] as usize <= k {
+        return 0;
+    }
+    let s = base(work, k);
+    if base(work, k + 1) == s + 2 {
+        return one_of_two(work, s);
+    }
+    if !stands(work, k) {
+        return 0;
+    }
+    let left = remaining(work, k);
+    if left.count != 1 {
+        return 0;
+    }
+    left.first as usize + 1
+}
+
+// Clause k is in the list and not struck, and all its literals are.
+pub fn emptied(work: &[u16], k: usize) -> bool
+    requires { ⌜ Ranged (now work) ⌝ }
+    ensures { λ r. ⌜ r ≡ emptyIn (now (work .entry)) k ⌝ }
+{
+    if work[0] as usize <= k {
+        return false;
+    }
+    let end = base(work, k + 1);
+    let mut s = base(work, k);
+    while s < end {
+        if strike_in(work, s) != NOTES {
+            return false;
+        }
+        s += 1;
+    }
+    true
 }
 
 // The literal in slot s is held true, and not struck.

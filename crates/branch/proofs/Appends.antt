@@ -15,10 +15,13 @@ use Rattle.scope.specs.Table.{arity}
 use Rattle.scope.proofs.Operands.{arity-most}
 use Rattle.calculus.specs.Expansion.{chosen, templates, expand}
 use Rattle.calculus.specs.Order.{clauses}
-use Rattle.calculus.proofs.Lists.{every, every-all, all-getD}
+use Rattle.calculus.specs.Model.{All, Table, Below}
+use Rattle.calculus.proofs.Lists.{every, every-all, all-append, all-getD, all-imply}
+use Rattle.calculus.proofs.Fresh.{expand-under}
 use Rattle.index.specs.Index.{indexNode}
 use Rattle.index.proofs.Nodes.{operand-low}
-use Rattle.area.specs.Area.{mostClauses, mostSlots, literalRoom, basesFrom, slotsFrom, strikesFrom, clauseCount, baseAt, slotAt}
+use Rattle.area.specs.Area.{mostClauses, mostSlots, literalRoom, basesFrom, slotsFrom, notes, clauseCount, baseAt, packedAt, slotAt}
+use Rattle.area.proofs.Packed.{bare-literal}
 use Rattle.branch.specs.Clauses.{flat, offset, Listed, Filled, Appended, Room}
 use Rattle.branch.specs.Holds.{Indexed}
 use Rattle.branch.proofs.Offsets.{flat-append, flat-map, offset-low, offset-high, offset-all, offset-none}
@@ -78,6 +81,7 @@ appended-none {w} = record {
   slots = λ i h. absurd (omega (arith, h));
   oldBases = λ k h. refl;
   oldSlots = λ i h. refl;
+  beyond = λ i h. refl;
   depths = refl;
   heads = refl;
   later = λ i h. refl;
@@ -99,6 +103,8 @@ module _ {ds es : List (List ℕ)} {w w₁ w₂ : List ℕ} (a : Appended ds w w
     slots = λ i h. slot i h (decLt i (length (flat ds)));
     oldBases = λ k h. b .oldBases k (omega (arith, h, a .count)) ∙ a .oldBases k h;
     oldSlots = λ i h. b .oldSlots i (omega (arith, h, top)) ∙ a .oldSlots i h;
+    beyond = λ i h. b .beyond i (omega (arith, h, top, ap length (flat-append ds es), length-append (flat ds) (flat es)))
+        ∙ a .beyond i (omega (arith, h, ap length (flat-append ds es), length-append (flat ds) (flat es)));
     depths = b .depths ∙ a .depths;
     heads = b .heads ∙ a .heads;
     later = λ i h. b .later i h ∙ a .later i h;
@@ -118,7 +124,7 @@ module _ {ds es : List (List ℕ)} {w w₁ w₂ : List ℕ} (a : Appended ds w w
           b .oldBases (clauseCount w + j) (omega (arith, q, a .count)) ∙ a .bases j (omega (arith, q))
           ∙ ap (baseAt w (clauseCount w) +_) (sym (offset-low ds es j (omega (arith, q))))
 
-      slot : (i : ℕ) → i < length (flat (ds ++ es)) → Dec (i < length (flat ds)) → slotAt w₂ (baseAt w (clauseCount w) + i) ≡ getD (flat (ds ++ es)) i 0
+      slot : (i : ℕ) → i < length (flat (ds ++ es)) → Dec (i < length (flat ds)) → packedAt w₂ (baseAt w (clauseCount w) + i) ≡ getD (flat (ds ++ es)) i 0
       slot i h (yes q) =
           b .oldSlots (baseAt w (clauseCount w) + i) (omega (arith, q, top)) ∙ a .slots i q
           ∙ sym (ap (λ (c : List ℕ). getD c i 0) (flat-append ds es) ∙ List·getD-append (flat ds) (flat es) 0 i q)
@@ -126,7 +132,7 @@ module _ {ds es : List (List ℕ)} {w w₁ w₂ : List ℕ} (a : Appended ds w w
           let j : ℕ = i - length (flat ds) in
           let z : baseAt w₁ (clauseCount w₁) + j ≡ baseAt w (clauseCount w) + i = omega (arith, q, top) in
           let y : length (flat ds) + j ≡ i = omega (arith, q) in
-          ap (slotAt w₂) (sym z) ∙ b .slots j (omega (arith, h, q, ap length (flat-append ds es), length-append (flat ds) (flat es)))
+          ap (packedAt w₂) (sym z) ∙ b .slots j (omega (arith, h, q, ap length (flat-append ds es), length-append (flat ds) (flat es)))
           ∙ sym (ap (λ (c : List ℕ). getD c i 0) (flat-append ds es) ∙ ap (λ (x : ℕ). getD (flat ds ++ flat es) x 0) (sym y) ∙ getD-append-add (flat ds) (flat es) j 0)
 
 pub appended-as : {ds es : List (List ℕ)} {w w′ : List ℕ} → ds ≡ es → Appended ds w w′ → Appended es w w′
@@ -172,7 +178,7 @@ module _ (c : List ℕ) (w w₁ : List ℕ) (r : Room 1 (length c) w) (p : Fille
       ∙ omega arith
   base₃ (suc (suc j)) a = absurd (omega (arith, a))
 
-  slot₃ : (i : ℕ) → i < length c → slotAt w₃ (B + i) ≡ getD c i 0
+  slot₃ : (i : ℕ) → i < length c → packedAt w₃ (B + i) ≡ getD c i 0
   slot₃ i a =
       let y : slotsFrom + (B + i) ≡ slotsFrom + B + i = omega arith in
       ap (λ (x : ℕ). getD w₃ x 0) y ∙ away₃ (slotsFrom + B + i) (λ x. omega (arith, x)) ∙ away₂ (slotsFrom + B + i) (λ x. omega (arith, x, r .clauses)) ∙ p .here i a
@@ -189,6 +195,8 @@ module _ (c : List ℕ) (w w₁ : List ℕ) (r : Room 1 (length c) w) (p : Fille
     slots = λ i h. slot₃ i (omega (arith, h, ap length flat-one)) ∙ ap (λ (d : List ℕ). getD d i 0) (sym flat-one);
     oldBases = λ k a. low₃ (basesFrom + k) (λ x. omega (arith, x)) (omega (arith, a));
     oldSlots = λ i a. away₃ (slotsFrom + i) (λ x. omega (arith, x)) ∙ away₂ (slotsFrom + i) (λ x. omega (arith, x, r .clauses)) ∙ p .else (slotsFrom + i) (inl (omega (arith, a)));
+    beyond = λ i a. away₃ (slotsFrom + i) (λ x. omega (arith, x)) ∙ away₂ (slotsFrom + i) (λ x. omega (arith, x, r .clauses))
+        ∙ p .else (slotsFrom + i) (inr (omega (arith, a, ap length flat-one)));
     depths = low₃ 1 (λ x. omega (arith, x)) (omega arith);
     heads = low₃ 2 (λ x. omega (arith, x)) (omega arith);
     later = λ i a. away₃ i (λ x. omega (arith, x, a)) ∙ away₂ i (λ x. omega (arith, x, a, r .clauses)) ∙ p .else i (inr (omega (arith, a, r .slots)));
@@ -214,6 +222,14 @@ module _ (w : List ℕ) where
   two-is p q r =
       appended-one (p ∷ q ∷ []) w _ r
       (filled-more (filled-first (omega (arith, r .size, r .slots)) refl) (omega (arith, r .size, r .slots)) refl)
+
+  -- the same, where the clause's number and its slot are known
+  pub two-at : (k b p q : ℕ) → Room 1 2 w → k ≡ clauseCount w → b ≡ baseAt w (clauseCount w)
+      → Appended ((p ∷ q ∷ []) ∷ []) w (set (set (set (set w (slotsFrom + b) p) (slotsFrom + b + 1) q) (basesFrom + (k + 1)) (b + 2)) 0 (k + 1))
+  two-at k b p q r e f =
+      subst (λ (i : ℕ). Appended ((p ∷ q ∷ []) ∷ []) w (set (set (set (set w (slotsFrom + b) p) (slotsFrom + b + 1) q) (basesFrom + (i + 1)) (b + 2)) 0 (i + 1))) (sym e)
+      (subst (λ (i : ℕ). Appended ((p ∷ q ∷ []) ∷ []) w (set (set (set (set w (slotsFrom + i) p) (slotsFrom + i + 1) q) (basesFrom + (clauseCount w + 1)) (i + 2)) 0 (clauseCount w + 1))) (sym f)
+      (two-is p q r))
 
   pub three-is : (p q l : ℕ) → Room 1 3 w
       → Appended ((p ∷ q ∷ l ∷ []) ∷ []) w
@@ -250,6 +266,18 @@ each-is {p} {q} {c} {d} {w} {w₁} {w₂} f g a b =
 
 pub some-is : {p q c d : ℕ} {w w′ : List ℕ} → p ≡ c → q ≡ d → Appended ((p ∷ q ∷ []) ∷ []) w w′ → Appended ((c ∷ d ∷ []) ∷ []) w w′
 some-is {p} {q} {c} {d} {w} {w′} f g a = subst (λ (x : ℕ). Appended ((x ∷ d ∷ []) ∷ []) w w′) f (subst (λ (x : ℕ). Appended ((p ∷ x ∷ []) ∷ []) w w′) g a)
+
+-- two clauses of two each, the second where the first ends
+pub pairs-is : {p q l m c d e f : ℕ} {w w₁ w₂ : List ℕ} → p ≡ c → q ≡ d → l ≡ e → m ≡ f → Appended ((p ∷ q ∷ []) ∷ []) w w₁ → Appended ((l ∷ m ∷ []) ∷ []) w₁ w₂
+    → Appended ((c ∷ d ∷ []) ∷ (e ∷ f ∷ []) ∷ []) w w₂
+pairs-is a b g h x y = appended-both (some-is a b x) (some-is g h y)
+
+pub pairs-ready : {p q k b : ℕ} {w w₁ : List ℕ} → Room 2 4 w → k ≡ clauseCount w → b ≡ baseAt w (clauseCount w) → Appended ((p ∷ q ∷ []) ∷ []) w w₁
+    → Room 1 2 w₁ × (k + 1 ≡ clauseCount w₁) × (b + 2 ≡ baseAt w₁ (clauseCount w₁))
+unfolding flat offset
+pairs-ready {p} {q} {k} {b} {w} {w₁} r e f a =
+    let y : baseAt w₁ (clauseCount w₁) ≡ baseAt w (clauseCount w) + 2 = ap (baseAt w₁) (a .count) ∙ a .bases 1 (omega arith) in
+    (room-left (omega arith) (omega arith) r a, omega (arith, e, a .count), omega (arith, f, y))
 
 pub each-three-is : {p q l c d e : ℕ} {w w₁ w₂ w₃ : List ℕ} → p ≡ c → q ≡ d → l ≡ e → Appended ((p ∷ []) ∷ []) w w₁ → Appended ((q ∷ []) ∷ []) w₁ w₂
     → Appended ((l ∷ []) ∷ []) w₂ w₃ → Appended ((c ∷ []) ∷ (d ∷ []) ∷ (e ∷ []) ∷ []) w w₃
@@ -319,9 +347,9 @@ module _ {x : List ℕ} {n : ℕ} (I : Indexed x n) (m : ℕ) (h : m < n) (c : �
 -- ---- the clause list of a work area
 
 module _ {cs ds : List (List ℕ)} {w w′ : List ℕ} where
-  -- clauses are appended
-  pub listed-more : Listed cs w → Appended ds w w′ → Listed (cs ++ ds) w′
-  listed-more p a = record {
+  -- clauses of literals are appended
+  pub listed-more : Listed cs w → Appended ds w w′ → ((i : ℕ) → i < length (flat ds) → getD (flat ds) i 0 < notes) → Listed (cs ++ ds) w′
+  listed-more p a low = record {
     count = a .count ∙ ap (_+ length ds) (p .count) ∙ sym (length-append cs ds);
     bases = λ k h. base k h (decLt (length cs) k);
     slots = λ i h. slot i h (decLt i (length (flat cs)));
@@ -340,26 +368,39 @@ module _ {cs ds : List (List ℕ)} {w w′ : List ℕ} where
 
       slot : (i : ℕ) → i < length (flat (cs ++ ds)) → Dec (i < length (flat cs)) → slotAt w′ i ≡ getD (flat (cs ++ ds)) i 0
       slot i h (yes q) =
-          a .oldSlots i (omega (arith, q, top)) ∙ p .slots i q ∙ sym (ap (λ (c : List ℕ). getD c i 0) (flat-append cs ds) ∙ List·getD-append (flat cs) (flat ds) 0 i q)
+          ap (_% notes) (a .oldSlots i (omega (arith, q, top))) ∙ p .slots i q ∙ sym (ap (λ (c : List ℕ). getD c i 0) (flat-append cs ds) ∙ List·getD-append (flat cs) (flat ds) 0 i q)
       slot i h (no q) =
           let j : ℕ = i - length (flat cs) in
           let z : baseAt w (clauseCount w) + j ≡ i = omega (arith, q, top) in
           let y : length (flat cs) + j ≡ i = omega (arith, q) in
-          ap (slotAt w′) (sym z) ∙ a .slots j (omega (arith, h, q, ap length (flat-append cs ds), length-append (flat cs) (flat ds)))
+          let b : j < length (flat ds) = omega (arith, h, q, ap length (flat-append cs ds), length-append (flat cs) (flat ds)) in
+          ap (slotAt w′) (sym z) ∙ ap (_% notes) (a .slots j b) ∙ bare-literal (getD (flat ds) j 0) (low j b)
           ∙ sym (ap (λ (c : List ℕ). getD c i 0) (flat-append cs ds) ∙ ap (λ (x : ℕ). getD (flat cs ++ flat ds) x 0) (sym y) ∙ getD-append-add (flat cs) (flat ds) j 0)
 
 -- the first clauses alone, where their numbers are as they were
 pub listed-first : (all cs ds : List (List ℕ)) (w w′ : List ℕ) → all ≡ cs ++ ds → length all ≤ mostClauses → length (flat all) ≤ mostSlots
-    → Listed all w → clauseCount w′ ≡ length cs → ((i : ℕ) → basesFrom ≤ i → i < strikesFrom → getD w′ i 0 ≡ getD w i 0) → Listed cs w′
-listed-first all cs ds w w′ e m n p c s =
+    → Listed all w → clauseCount w′ ≡ length cs → ((i : ℕ) → basesFrom ≤ i → i < slotsFrom → getD w′ i 0 ≡ getD w i 0)
+    → ((i : ℕ) → i < mostSlots → slotAt w′ i ≡ slotAt w i) → Listed cs w′
+listed-first all cs ds w w′ e m n p c s l =
     let f : length all ≡ length cs + length ds = ap length e ∙ length-append cs ds in
     let g : length (flat all) ≡ length (flat cs) + length (flat ds) = ap (λ (a : List (List ℕ)). length (flat a)) e ∙ ap length (flat-append cs ds) ∙ length-append (flat cs) (flat ds) in
     record {
       count = c;
       bases = λ k h. s (basesFrom + k) (omega arith) (omega (arith, h, f, m)) ∙ p .bases k (omega (arith, h, f)) ∙ ap (λ (a : List (List ℕ)). offset a k) e ∙ offset-low cs ds k h;
-      slots = λ i h. s (slotsFrom + i) (omega arith) (omega (arith, h, g, n)) ∙ p .slots i (omega (arith, h, g))
+      slots = λ i h. l i (omega (arith, h, g, n)) ∙ p .slots i (omega (arith, h, g))
           ∙ ap (λ (a : List (List ℕ)). getD (flat a) i 0) e ∙ ap (λ (a : List ℕ). getD a i 0) (flat-append cs ds) ∙ List·getD-append (flat cs) (flat ds) 0 i h;
     }
+
+-- ---- the literals of a literal's clauses
+
+pub all-flat : (P : ℕ → Type 0) (cs : List (List ℕ)) → All (All P) cs → All P (flat cs)
+unfolding flat
+all-flat P [] a = tt
+all-flat P (c ∷ cs) a = all-append P c (flat cs) (a .0) (all-flat P cs (a .1))
+
+pub expand-below : (n : ℕ) (t : ℕ → Node) → Table n t → (l : ℕ) → l < 2 * n → All (Below n) (expand t l)
+expand-below n t T l b =
+    all-imply (All (λ m. m / 2 < l / 2)) (Below n) (all-imply (λ m. m / 2 < l / 2) (λ m. m < 2 * n) (λ m h. omega (arith, h, b))) (expand t l) (expand-under n t T l b)
 
 -- ---- how many literals the clause list has
 

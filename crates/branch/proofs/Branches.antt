@@ -14,7 +14,7 @@ use Rattle.calculus.specs.Model.{All, questionSize, Fresh}
 use Rattle.calculus.proofs.Sizes.{clauses-few}
 use Rattle.rules.specs.Rules.{Branch, join, strikeClause, strikeLiteral}
 use Rattle.trail.proofs.Trails.{trail-length, trail-same, trail-suc, count-most, room-left}
-use Rattle.area.specs.Area.{areaSize, mostNodes, mostClauses, mostSlots, clauseRoom, literalRoom, basesFrom, strikesFrom, countsFrom, sizesFrom, headsFrom, trailFrom, clauseCount, baseAt, strikeAt, lengthAt, splitCount, splitSize, splitHead, trailAt, trail, held, gOf, Trail, Same, Struck, Ranged}
+use Rattle.area.specs.Area.{areaSize, mostNodes, mostClauses, mostSlots, clauseRoom, literalRoom, basesFrom, slotsFrom, strikesFrom, countsFrom, sizesFrom, headsFrom, trailFrom, clauseCount, baseAt, slotAt, strikeAt, lengthAt, splitCount, splitSize, splitHead, trailAt, trail, held, gOf, Trail, Same, Struck, Ranged}
 use Rattle.area.specs.Strikes.{headOf}
 use Rattle.branch.specs.Clauses.{flat, offset, Listed}
 use Rattle.branch.specs.Holds.{Strike, strike, clausesIn, literalsIn, slotOf, Marked, Frame, History, history, branch, branchOf, waits, waitingOf, End, clausesTo, clausesOf, Splits, Base, Holds, Joined}
@@ -132,15 +132,15 @@ module _ (t : ℕ → Node) (n : ℕ) (goals w : List ℕ) (few : n ≤ mostNode
 
   -- the first q literals alone
   pub shorter-base : (q : ℕ) (w′ : List ℕ) → q ≤ trailAt w 0 → areaSize ≤ length w′ → Trail n (trailAt w′) → gOf w′ ≡ trail q (trailAt w)
-      → clauseCount w′ ≡ length (clausesTo t goals (trailAt w) q) → Same basesFrom strikesFrom w w′ → Base t n goals w′
-  shorter-base q w′ b z r g e s =
+      → clauseCount w′ ≡ length (clausesTo t goals (trailAt w) q) → Same basesFrom slotsFrom w w′ → ((i : ℕ) → i < mostSlots → slotAt w′ i ≡ slotAt w i) → Base t n goals w′
+  shorter-base q w′ b z r g e s v =
       let p = clauses-first t goals (trailAt w) (trailAt w 0) q b in
       record {
         size = z;
         aims = h .aims;
         trail = r;
         listed = subst (λ (G : List ℕ). Listed (clauses (expand t) goals G) w′) (sym g)
-            (listed-first cs (clausesTo t goals (trailAt w) q) (p .0) w w′ (p .1) clauses-fit slots-fit (h .listed) e s);
+            (listed-first cs (clausesTo t goals (trailAt w) q) (p .0) w w′ (p .1) clauses-fit slots-fit (h .listed) e s v);
       }
 
 -- ---- the open splits
@@ -222,7 +222,7 @@ module _ (t : ℕ → Node) (n : ℕ) (goals w : List ℕ) (few : n ≤ mostNode
       base = joined-base t n goals w few (h .base) l w′ j;
       marked = subst (λ (c : List (List ℕ)). Marked c w′ (s .strikes)) (sym (joined-clauses t n goals w few (h .base) l w′ j))
           (marked-more (clausesOf t goals w) (expand t l) w w′ (s .strikes) (j .heads) (λ m i. j .rest (strikesFrom + m) (omega arith) (omega (arith, i)))
-          (slots-fit t n goals w few (h .base)) (h .marked));
+          (slots-fit t n goals w few (h .base)) (λ m i b. j .strikes m i (omega (arith, b, top-is t n goals w few (h .base)))) (j .clean) (h .marked));
       depths = j .depths ∙ h .depths;
       splits = splits-same t goals w w′ (trailAt w 0) (trailAt w′ 0) (s .strikes) (s .strikes) (s .frames)
           (kept-same (length (s .frames)) w w′ most (λ i a b. j .rest i (omega (arith, a)) b)) (omega (arith, j .count)) (j .lits) ([], refl) (h .splits);
@@ -247,7 +247,7 @@ module _ (t : ℕ → Node) (n : ℕ) (goals w : List ℕ) (few : n ≤ mostNode
     struck-holds = record {
       base = shorter-base t n goals w few (h .base) (trailAt w 0) w′ (omega arith) (omega (arith, h .base .size, p .size)) (subst (Trail n) (sym trail-kept) (h .base .trail))
           (ap held trail-kept) (p .else 0 (λ q. omega (arith, q)) (inl (omega arith)) ∙ h .base .listed .count)
-          (λ i c d. p .else i (λ q. omega (arith, q, c)) (inl d));
+          (λ i c d. p .else i (λ q. omega (arith, q, c)) (inl d)) (p .slots);
       marked = subst (λ (c : List (List ℕ)). Marked c w′ (x ∷ s .strikes)) (sym clauses-kept)
           (marked-strike (clausesOf t goals w) w w′ (s .strikes) (slots-fit t n goals w few (h .base)) (h .marked) x a b z p);
       depths = p .else 1 (λ q. omega (arith, q)) (inl (omega arith)) ∙ h .depths;

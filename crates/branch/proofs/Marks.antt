@@ -4,19 +4,19 @@ use mathlib.Core.Path.{_≡_, refl, sym, ap, _∙_, subst}
 use mathlib.Core.Bool.{Bool, true, false, cond, not, _&&_, _||_, false≢true}
 use mathlib.Core.Logic.{_⊎_, inl, inr}
 use mathlib.Core.List.{List, [], _∷_, _++_, map}
-use Prim.Native.Nat.{ℕ, suc, _+_, _-_, _%_, _<_, _≤_}
+use Prim.Native.Nat.{ℕ, suc, _+_, _-_, _<_, _≤_}
 use native.Mathlib.Omega.{arith}
 use native.Mathlib.Decide.{ℕ-discrete}
 use lib.Dec.{eqb, leb}
 use lib.ListN.{length, getD, List·getD-append, length-append}
-use borrow.Author.Tests.{eq-eqb, ne-eqb}
+use borrow.Author.Tests.{eq-eqb, ne-eqb, eqb-true}
 use Rattle.scope.proofs.Tests.{by-test}
 use Rattle.calculus.specs.Order.{mem}
 use Rattle.calculus.specs.Model.{All}
-use Rattle.calculus.proofs.Literals.{mem-same, mem-later}
+use Rattle.calculus.proofs.Literals.{mem-same, mem-other, mem-later}
 use Rattle.calculus.proofs.Lists.{all-imply}
 use Rattle.rules.specs.Rules.{Place, samePlace, among}
-use Rattle.area.specs.Area.{mostSlots, notes, whole, newest, packedAt, flagOf, noteAt, strikeAt, isWhole, Struck}
+use Rattle.area.specs.Area.{mostSlots, notes, whole, newest, noteAt, strikeAt, isWhole, Struck}
 use Rattle.area.specs.Strikes.{headOf, Strikes, Unwound}
 use Rattle.area.proofs.Strikes.{chain-same, head-most, struck-more}
 use Rattle.branch.specs.Clauses.{flat, offset}
@@ -50,35 +50,54 @@ valid-clauses cs w S a = all-imply (Valid cs w) (λ s. s .clause < length cs) (�
 
 -- ---- strikes that stay
 
--- the strikes' numbers are as they were
-strikes-same : (w w′ L : List ℕ) → newest w′ ≡ newest w → ((m : ℕ) → m < mostSlots → packedAt w′ m ≡ packedAt w m) → Strikes w L → Strikes w′ L
-strikes-same w w′ L p e h = record {
-  head = p ∙ h .head;
-  chain = chain-same (noteAt w) (noteAt w′) L (λ i q. ap (_% notes) (e i (omega (arith, q, h .head, head-most w L h)))) (h .chain);
-  flags = λ m i. ap (λ (v : ℕ). eqb (flagOf v) 0) (e m i) ∙ h .flags m i;
-}
+-- a slot of a strike lies within the clauses
+mem-below : (cs : List (List ℕ)) (w : List ℕ) (m : ℕ) (S : List Strike) → All (Valid cs w) S → mem m (map (slotOf cs) S) ≡ true → m < length (flat cs)
+unfolding mem
+mem-below cs w m [] a e = absurd (false≢true e)
+mem-below cs w m (s ∷ S) a e = go (ℕ-discrete m (slotOf cs s)) (mem-below cs w m S (a .1))
+  where
+    go : Dec (m ≡ slotOf cs s) → (mem m (map (slotOf cs) S) ≡ true → m < length (flat cs)) → m < length (flat cs)
+    go (yes q) f = omega (arith, q, slot-below cs (s .clause) (s .position) (a .0 .clause) (a .0 .position))
+    go (no q) f = f (sym (mem-other (map (slotOf cs) S) (slotOf cs s) m q) ∙ e)
 
-module _ (cs ds : List (List ℕ)) (w w′ : List ℕ) (S : List Strike) (p : newest w′ ≡ newest w) (e : (m : ℕ) → m < mostSlots → packedAt w′ m ≡ packedAt w m) where
+-- the notes are as they were, the strikes too, and no slot without one has got one
+strikes-same : (w w′ L : List ℕ) → newest w′ ≡ newest w → ((i : ℕ) → i < mostSlots → noteAt w′ i ≡ noteAt w i)
+    → ((m : ℕ) → m < mostSlots → mem m L ≡ true → strikeAt w′ m ≡ strikeAt w m) → ((m : ℕ) → m < mostSlots → strikeAt w m ≡ 0 → strikeAt w′ m ≡ 0)
+    → Strikes w L → Strikes w′ L
+strikes-same w w′ L p e f g h = record {
+  head = p ∙ h .head;
+  chain = chain-same (noteAt w) (noteAt w′) L (λ i q. e i (omega (arith, q, h .head, head-most w L h))) (h .chain);
+  flags = λ m i. by-test (mem m L) (λ y. ap (λ (v : ℕ). eqb v 0) (f m i y) ∙ h .flags m i) (λ y. none m i y);
+}
+  where
+    none : (m : ℕ) → m < mostSlots → mem m L ≡ false → eqb (strikeAt w′ m) 0 ≡ not (mem m L)
+    none m i y = eq-eqb (strikeAt w′ m) 0 (g m i (eqb-true (strikeAt w m) 0 (h .flags m i ∙ ap not y))) ∙ sym (ap not y)
+
+module _ (cs ds : List (List ℕ)) (w w′ : List ℕ) (S : List Strike) (p : newest w′ ≡ newest w) (n : (i : ℕ) → i < mostSlots → noteAt w′ i ≡ noteAt w i) where
   -- clauses come
-  pub marked-more : length (flat cs) ≤ mostSlots → Marked cs w S → Marked (cs ++ ds) w′ S
-  marked-more room h = record {
-    chained = subst (Strikes w′) (sym (slots-low cs ds S (valid-clauses cs w S (h .valid)))) (strikes-same w w′ (map (slotOf cs) S) p e (h .chained));
+  pub marked-more : length (flat cs) ≤ mostSlots → ((m : ℕ) → m < mostSlots → m < length (flat cs) → strikeAt w′ m ≡ strikeAt w m)
+      → ((m : ℕ) → m < mostSlots → strikeAt w m ≡ 0 → strikeAt w′ m ≡ 0) → Marked cs w S → Marked (cs ++ ds) w′ S
+  marked-more room e f h = record {
+    chained = subst (Strikes w′) (sym (slots-low cs ds S (valid-clauses cs w S (h .valid))))
+        (strikes-same w w′ (map (slotOf cs) S) p n (λ m i y. e m i (mem-below cs w m S (h .valid) y)) f (h .chained));
     valid = all-imply (Valid cs w) (Valid (cs ++ ds) w′) more S (h .valid);
   }
     where
       more : (s : Strike) → Valid cs w s → Valid (cs ++ ds) w′ s
       more s v =
           let z : slotOf (cs ++ ds) s ≡ slotOf cs s = ap (_+ s .position) (offset-low cs ds (s .clause) (omega (arith, v .clause))) in
+          let b : slotOf cs s < length (flat cs) = slot-below cs (s .clause) (s .position) (v .clause) (v .position) in
           record {
             clause = omega (arith, v .clause, length-append cs ds);
             position = subst (λ (c : List ℕ). s .position < length c) (sym (List·getD-append cs ds [] (s .clause) (v .clause))) (v .position);
-            kind = ap (isWhole w′) z ∙ ap (λ (u : ℕ). leb whole (flagOf u)) (e (slotOf cs s) (omega (arith, slot-below cs (s .clause) (s .position) (v .clause) (v .position), room))) ∙ v .kind;
+            kind = ap (isWhole w′) z ∙ ap (leb whole) (e (slotOf cs s) (omega (arith, b, room)) b) ∙ v .kind;
           }
 
   -- clauses go
-  pub marked-less : length (flat (cs ++ ds)) ≤ mostSlots → All (λ s. s .clause < length cs) S → Marked (cs ++ ds) w S → Marked cs w′ S
-  marked-less room a h = record {
-    chained = subst (Strikes w′) (slots-low cs ds S a) (strikes-same w w′ (map (slotOf (cs ++ ds)) S) p e (h .chained));
+  pub marked-less : length (flat (cs ++ ds)) ≤ mostSlots → ((m : ℕ) → m < mostSlots → strikeAt w′ m ≡ strikeAt w m) → All (λ s. s .clause < length cs) S
+      → Marked (cs ++ ds) w S → Marked cs w′ S
+  marked-less room e a h = record {
+    chained = subst (Strikes w′) (slots-low cs ds S a) (strikes-same w w′ (map (slotOf (cs ++ ds)) S) p n (λ m i y. e m i) (λ m i z. e m i ∙ z) (h .chained));
     valid = all-both S a (h .valid);
   }
     where
@@ -89,7 +108,7 @@ module _ (cs ds : List (List ℕ)) (w w′ : List ℕ) (S : List Strike) (p : ne
           record {
             clause = b;
             position = subst (λ (c : List ℕ). s .position < length c) (List·getD-append cs ds [] (s .clause) b) (v .position);
-            kind = ap (isWhole w′) (sym z) ∙ ap (λ (u : ℕ). leb whole (flagOf u)) (e (slotOf (cs ++ ds) s) y) ∙ v .kind;
+            kind = ap (isWhole w′) (sym z) ∙ ap (leb whole) (e (slotOf (cs ++ ds) s) y) ∙ v .kind;
           }
 
       all-both : (T : List Strike) → All (λ s. s .clause < length cs) T → All (Valid (cs ++ ds) w) T → All (Valid cs w′) T
@@ -136,7 +155,7 @@ module _ (cs : List (List ℕ)) (w w′ : List ℕ) (S : List Strike) (room : le
       keep x i v = record {
         clause = v .clause;
         position = v .position;
-        kind = ap (leb whole) (p .others (slotOf cs x) (other x i)) ∙ v .kind;
+        kind = ap (leb whole) (p .others (slotOf cs x) (omega (arith, slot-below cs (x .clause) (x .position) (v .clause) (v .position), room)) (other x i)) ∙ v .kind;
       }
         where
           other : (x : Strike) → mem (slotOf cs x) (map (slotOf cs) S) ≡ true → slotOf cs x ≡ slotOf cs s → ⊥

@@ -3,16 +3,19 @@ use mathlib.Core.Path.{_≡_, refl, sym, ap, _∙_, subst}
 use mathlib.Core.Bool.{false, not}
 use mathlib.Core.Logic.{_⊎_, inl, inr}
 use mathlib.Core.List.{List, [], _∷_, map}
-use Prim.Native.Nat.{ℕ, zero, suc, _+_, _-_, _<_, _≤_}
+use Prim.Native.Nat.{ℕ, zero, suc, _+_, _-_, _*_, _%_, _<_, _≤_}
 use native.Mathlib.Omega.{arith}
+use native.Mathlib.Decide.{decLt}
 use lib.ListN.{length, getD, set, length-set, length-map}
 use lib.Seq.{getD-set-same, getD-set-other}
 use borrow.Author.Tests.{eq-eqb}
 use Rattle.scope.specs.declared.Node.{Node}
 use Rattle.calculus.specs.Expansion.{expand}
 use Rattle.calculus.specs.Order.{mem, clauses}
+use Rattle.calculus.proofs.Lists.{all-at}
 use Rattle.trail.proofs.Trails.{empty-held, empty-trail}
-use Rattle.area.specs.Area.{areaSize, mostNodes, basesFrom, slotsFrom, strikesFrom, trailFrom, clauseCount, flagOf, strikeAt, trailAt, gOf}
+use Rattle.area.specs.Area.{areaSize, mostNodes, mostSlots, basesFrom, slotsFrom, trailFrom, notes, clauseCount, packedAt, flagOf, strikeAt, trailAt, gOf}
+use Rattle.area.proofs.Packed.{bare-literal, bare-flag}
 use Rattle.branch.specs.Clauses.{Listed, Filled}
 use Rattle.branch.specs.Holds.{Goals, clausesOf, Holds, fresh}
 use Rattle.branch.proofs.Appends.{flat-singles, offset-singles}
@@ -25,18 +28,18 @@ mem-none : (m : ℕ) → mem m [] ≡ false
 unfolding mem
 mem-none m = refl
 
--- the places that are cleared: the counts, the strikes, the trail
+-- the places that are cleared: the counts, the slots, the trail
 abbrev Clear : ℕ → Type 0
-Clear i = (i < basesFrom + 1) ⊎ ((strikesFrom ≤ i) × (i < strikesFrom + 8145)) ⊎ ((trailFrom ≤ i) × (i < trailFrom + 4033))
+Clear i = (i < basesFrom + 1) ⊎ ((slotsFrom ≤ i) × (i < slotsFrom + 8144)) ⊎ ((trailFrom ≤ i) × (i < trailFrom + 4033))
 
-module _ {w a b c : List ℕ} (p : Filled 0 (basesFrom + 1) (λ _. 0) w a) (q : Filled strikesFrom 8145 (λ _. 0) a b) (r : Filled trailFrom 4033 (λ _. 0) b c) where
+module _ {w a b c : List ℕ} (p : Filled 0 (basesFrom + 1) (λ _. 0) w a) (q : Filled slotsFrom 8144 (λ _. 0) a b) (r : Filled trailFrom 4033 (λ _. 0) b c) where
   cleared : (i : ℕ) → Clear i → getD c i 0 ≡ 0
   cleared i (inl h) =
       let e : 0 + i ≡ i = omega arith in
       r .else i (inl (omega (arith, h))) ∙ q .else i (inl (omega (arith, h))) ∙ ap (λ (k : ℕ). getD a k 0) (sym e) ∙ p .here i h
   cleared i (inr (inl h)) =
-      let e : strikesFrom + (i - strikesFrom) ≡ i = omega (arith, h .0) in
-      r .else i (inl (omega (arith, h .1))) ∙ ap (λ (k : ℕ). getD b k 0) (sym e) ∙ q .here (i - strikesFrom) (omega (arith, h .0, h .1))
+      let e : slotsFrom + (i - slotsFrom) ≡ i = omega (arith, h .0) in
+      r .else i (inl (omega (arith, h .1))) ∙ ap (λ (k : ℕ). getD b k 0) (sym e) ∙ q .here (i - slotsFrom) (omega (arith, h .0, h .1))
   cleared i (inr (inr h)) =
       let e : trailFrom + (i - trailFrom) ≡ i = omega (arith, h .0) in
       ap (λ (k : ℕ). getD c k 0) (sym e) ∙ r .here (i - trailFrom) (omega (arith, h .0, h .1))
@@ -57,7 +60,7 @@ module _ (t : ℕ → Node) (n : ℕ) (goals w₀ w₁ w₂ : List ℕ) (size : 
   zero-low : (i : ℕ) → (i ≡ 0 → ⊥) → i < basesFrom + 1 → getD w₃ i 0 ≡ 0
   zero-low i n h = away i n ∙ a .else i (inl (omega (arith, h))) ∙ b .else i (inl h) ∙ z i (inl h)
 
-  zero-high : (i : ℕ) → strikesFrom ≤ i → Clear i → getD w₃ i 0 ≡ 0
+  zero-high : (i : ℕ) → slotsFrom + length goals ≤ i → Clear i → getD w₃ i 0 ≡ 0
   zero-high i h k = away i (λ q. omega (arith, q, h)) ∙ a .else i (inr (omega (arith, h, gs .most))) ∙ b .else i (inr (omega (arith, h, gs .most))) ∙ z i k
 
   count₃ : clauseCount w₃ ≡ length goals
@@ -65,7 +68,7 @@ module _ (t : ℕ → Node) (n : ℕ) (goals w₀ w₁ w₂ : List ℕ) (size : 
   count₃ = getD-set-same w₂ 0 (length goals) 0 (omega (arith, size, a .size, b .size))
 
   trail₃ : (i : ℕ) → i < 4033 → trailAt w₃ i ≡ 0
-  trail₃ i h = zero-high (trailFrom + i) (omega arith) (inr (inr (omega arith, omega (arith, h))))
+  trail₃ i h = zero-high (trailFrom + i) (omega (arith, gs .most)) (inr (inr (omega arith, omega (arith, h))))
 
   list₃ : gOf w₃ ≡ []
   list₃ = empty-held n (trailAt w₃) (trail₃ 0 (omega arith))
@@ -79,6 +82,17 @@ module _ (t : ℕ → Node) (n : ℕ) (goals w₀ w₁ w₂ : List ℕ) (size : 
       let e : basesFrom + suc k ≡ basesFrom + 1 + k = omega arith in
       ap (λ (i : ℕ). getD w₃ i 0) e ∙ away (basesFrom + 1 + k) (λ q. omega (arith, q)) ∙ a .else (basesFrom + 1 + k) (inl (omega (arith, h, gs .most))) ∙ b .here k (omega (arith, h))
 
+  -- the goals are literals, without a strike
+  goal₃ : (i : ℕ) → i < length goals → packedAt w₃ i ≡ getD goals i 0
+  goal₃ i h = away (slotsFrom + i) (λ q. omega (arith, q)) ∙ a .here i h
+
+  low₃ : (i : ℕ) → i < length goals → getD goals i 0 < notes
+  low₃ i h = omega (arith, few, all-at (λ l. l < 2 * n) goals i 0 (gs .below) h)
+
+  clean₃ : (m : ℕ) → m < mostSlots → Dec (m < length goals) → strikeAt w₃ m ≡ 0
+  clean₃ m i (yes h) = ap flagOf (goal₃ m h) ∙ bare-flag (getD goals m 0) (low₃ m h)
+  clean₃ m i (no h) = ap flagOf (zero-high (slotsFrom + m) (omega (arith, h)) (inr (inl (omega arith, omega (arith, i)))))
+
   listed₃ : Listed (map (_∷ []) goals) w₃
   listed₃ = record {
     count = count₃ ∙ sym (length-map goals (_∷ []));
@@ -86,7 +100,8 @@ module _ (t : ℕ → Node) (n : ℕ) (goals w₀ w₁ w₂ : List ℕ) (size : 
         let i : k ≤ length goals = omega (arith, h, length-map goals (_∷ [])) in
         base₃ k i ∙ sym (offset-singles goals k i);
     slots = λ i h.
-        away (slotsFrom + i) (λ q. omega (arith, q)) ∙ a .here i (omega (arith, h, ap length (flat-singles goals))) ∙ ap (λ (c : List ℕ). getD c i 0) (sym (flat-singles goals));
+        let b : i < length goals = omega (arith, h, ap length (flat-singles goals)) in
+        ap (_% notes) (goal₃ i b) ∙ bare-literal (getD goals i 0) (low₃ i b) ∙ ap (λ (c : List ℕ). getD c i 0) (sym (flat-singles goals));
   }
 
   holds₃ : Holds t n goals w₃ fresh
@@ -101,7 +116,7 @@ module _ (t : ℕ → Node) (n : ℕ) (goals w₀ w₁ w₂ : List ℕ) (size : 
       chained = record {
         head = zero-low 2 (λ q. omega (arith, q)) (omega arith);
         chain = tt;
-        flags = λ m i. eq-eqb (strikeAt w₃ m) 0 (ap flagOf (zero-high (strikesFrom + m) (omega arith) (inr (inl (omega arith, omega (arith, i)))))) ∙ sym (ap not (mem-none m));
+        flags = λ m i. eq-eqb (strikeAt w₃ m) 0 (clean₃ m i (decLt m (length goals))) ∙ sym (ap not (mem-none m));
       };
       valid = tt;
     };
@@ -119,7 +134,7 @@ module _ (t : ℕ → Node) (n : ℕ) (goals w₀ w₁ w₂ : List ℕ) (size : 
 
 -- after the places are cleared
 pub begun : (t : ℕ → Node) (n : ℕ) (w : List ℕ) {goals a b w₀ w₁ w₂ : List ℕ} → areaSize ≤ length w → n ≤ mostNodes → Goals n goals
-    → Filled 0 (basesFrom + 1) (λ _. 0) w a → Filled strikesFrom 8145 (λ _. 0) a b → Filled trailFrom 4033 (λ _. 0) b w₀
+    → Filled 0 (basesFrom + 1) (λ _. 0) w a → Filled slotsFrom 8144 (λ _. 0) a b → Filled trailFrom 4033 (λ _. 0) b w₀
     → Filled (basesFrom + 1) (length goals) suc w₀ w₁ → Filled slotsFrom (length goals) (λ k. getD goals k 0) w₁ w₂
     → Holds t n goals (set w₂ 0 (length goals)) fresh × (gOf (set w₂ 0 (length goals)) ≡ [])
 begun t n w {goals} {a} {b} {w₀} {w₁} {w₂} size few gs p q r x y =

@@ -2,25 +2,27 @@
 use mathlib.Core.Path.{_≡_, refl, sym, ap, _∙_, subst, fun-ext}
 use mathlib.Core.Logic.{_⊎_, inl, inr}
 use mathlib.Core.List.{List, [], _∷_, _++_, map}
-use Prim.Native.Nat.{ℕ, suc, _+_, _-_, _<_, _≤_}
+use Prim.Native.Nat.{ℕ, suc, _+_, _-_, _*_, _%_, _<_, _≤_}
 use native.Mathlib.Omega.{arith}
+use native.Mathlib.Decide.{decLt}
 use lib.ListN.{length, getD, set, length-set}
 use lib.Seq.{getD-set-same, getD-set-other}
 use Rattle.scope.specs.declared.Node.{Node}
 use Rattle.calculus.specs.Expansion.{neg, expand}
 use Rattle.calculus.specs.Order.{clauses}
-use Rattle.calculus.specs.Model.{All, Fresh, Good}
-use Rattle.calculus.proofs.Lists.{all-imply}
+use Rattle.calculus.specs.Model.{All, Table, Fresh, Good}
+use Rattle.calculus.proofs.Lists.{all-imply, all-getD}
 use Rattle.rules.specs.Rules.{Branch, join}
 use Rattle.trail.proofs.Trails.{good-first, trail-same, trail-suc}
-use Rattle.area.specs.Area.{areaSize, mostNodes, mostClauses, mostSlots, basesFrom, slotsFrom, strikesFrom, countsFrom, sizesFrom, headsFrom, trailFrom, clauseCount, depth, splitCount, splitSize, splitHead, trailAt, trail, held, gOf, Trail, Entered, Shrunk, Saved}
+use Rattle.area.specs.Area.{areaSize, mostNodes, mostClauses, mostSlots, basesFrom, slotsFrom, strikesFrom, countsFrom, sizesFrom, headsFrom, trailFrom, notes, clauseCount, depth, baseAt, packedAt, flagOf, strikeAt, splitCount, splitSize, splitHead, trailAt, trail, held, gOf, Trail, Entered, Shrunk, Saved}
+use Rattle.area.proofs.Packed.{bare-flag}
 use Rattle.area.specs.Strikes.{headOf, Strikes, Reaches, Unwound}
 use Rattle.branch.specs.Clauses.{flat, Listed, Appended}
 use Rattle.branch.specs.Holds.{Strike, slotOf, Valid, Marked, Frame, History, history, branch, branchOf, waits, waitingOf, clausesTo, clausesOf, Split, Base, Holds, Held, Joined, Restored, Restores}
 use Rattle.branch.proofs.Offsets.{map-append}
-use Rattle.branch.proofs.Appends.{listed-more}
+use Rattle.branch.proofs.Appends.{all-flat, expand-below, listed-more}
 use Rattle.branch.proofs.Marks.{slots-low, marked-more, marked-less, marked-back}
-use Rattle.branch.proofs.Branches.{branchBy, clauses-first, clauses-same, literals-most, slots-fit, joined-base, joined-clauses, shorter-base, Kept, kept-same, depth-most, splits-same, waits-same}
+use Rattle.branch.proofs.Branches.{branchBy, clauses-first, clauses-same, literals-most, slots-fit, top-is, joined-base, joined-clauses, shorter-base, Kept, kept-same, depth-most, splits-same, waits-same}
 
 -- ---- a literal joins
 
@@ -33,8 +35,24 @@ module _ (t : ℕ → Node) (l : ℕ) {w w₁ : List ℕ} (a : Appended (expand 
   enter-ready {n} size few r f =
       ((omega (arith, size, a .size), few), subst (λ (g : ℕ → ℕ). Trail n g × Fresh n (held g) l) (sym appended-trail) (r, f))
 
-  pub joined-is : {n : ℕ} {w₂ : List ℕ} → Entered n l w₁ w₂ → Joined t n l w w₂
-  joined-is {n} {w₂} e = record {
+  -- the literals that it brings are the table's, and without a strike
+  brought : {n : ℕ} → Table n t → n ≤ mostNodes → l < 2 * n → (i : ℕ) → getD (flat (expand t l)) i 0 < notes
+  brought {n} T few b i =
+      omega (arith, few, all-getD (λ m. m < 2 * n) (flat (expand t l)) i 0 (omega (arith, b)) (all-flat (λ m. m < 2 * n) (expand t l) (expand-below n t T l b)))
+
+  stays-clean : ((i : ℕ) → getD (flat (expand t l)) i 0 < notes) → (m : ℕ) → strikeAt w m ≡ 0 → strikeAt w₁ m ≡ 0
+  stays-clean low m z = go (decLt m (baseAt w (clauseCount w))) (decLt m (baseAt w (clauseCount w) + length (flat (expand t l))))
+    where
+      go : Dec (m < baseAt w (clauseCount w)) → Dec (m < baseAt w (clauseCount w) + length (flat (expand t l))) → strikeAt w₁ m ≡ 0
+      go (yes b) c = ap flagOf (a .oldSlots m b) ∙ z
+      go (no b) (yes c) =
+          let i : ℕ = m - baseAt w (clauseCount w) in
+          let y : baseAt w (clauseCount w) + i ≡ m = omega (arith, b) in
+          ap (strikeAt w₁) (sym y) ∙ ap flagOf (a .slots i (omega (arith, b, c))) ∙ bare-flag (getD (flat (expand t l)) i 0) (low i)
+      go (no b) (no c) = ap flagOf (a .beyond m (omega (arith, c))) ∙ z
+
+  pub joined-is : {n : ℕ} {w₂ : List ℕ} → Table n t → n ≤ mostNodes → l < 2 * n → Entered n l w₁ w₂ → Joined t n l w w₂
+  joined-is {n} {w₂} T few b e = record {
     size = e .size ∙ a .size;
     trail = e .trail;
     list = e .list ∙ ap (λ (g : ℕ → ℕ). l ∷ held g) appended-trail;
@@ -42,7 +60,9 @@ module _ (t : ℕ → Node) (l : ℕ) {w w₁ : List ℕ} (a : Appended (expand 
     lits = λ q i.
         e .lits q (omega (arith, i, ap (λ (g : ℕ → ℕ). g 0) appended-trail)) ∙ ap (λ (g : ℕ → ℕ). g (1 + q)) appended-trail;
     top = ap (λ (g : ℕ → ℕ). trailAt w₂ (1 + g 0)) (sym appended-trail) ∙ e .top;
-    listed = λ cs m f p. listed-kept cs m f (listed-more p a);
+    listed = λ cs m f p. listed-kept cs m f (listed-more p a (λ i h. brought T few b i));
+    strikes = λ m i h. ap flagOf (e .under (slotsFrom + m) (omega arith) (omega (arith, i)) ∙ a .oldSlots m h);
+    clean = λ m i z. ap flagOf (e .under (slotsFrom + m) (omega arith) (omega (arith, i))) ∙ stays-clean (brought T few b) m z;
     depths = e .under 1 (omega arith) (omega arith) ∙ a .depths;
     heads = e .under 2 (omega arith) (omega arith) ∙ a .heads;
     rest = λ i x y. e .under i (omega arith) y ∙ a .later i x;
@@ -52,7 +72,7 @@ module _ (t : ℕ → Node) (l : ℕ) {w w₁ : List ℕ} (a : Appended (expand 
       listed-kept cs m f p = record {
         count = e .under 0 (omega arith) (omega arith) ∙ p .count;
         bases = λ k h. e .under (basesFrom + k) (omega arith) (omega (arith, h, m)) ∙ p .bases k h;
-        slots = λ i h. e .under (slotsFrom + i) (omega arith) (omega (arith, h, f)) ∙ p .slots i h;
+        slots = λ i h. ap (_% notes) (e .under (slotsFrom + i) (omega arith) (omega (arith, h, f))) ∙ p .slots i h;
       }
 
 -- ---- a split is saved
@@ -77,12 +97,16 @@ module _ (t : ℕ → Node) (n : ℕ) (goals w : List ℕ) (few : n ≤ mostNode
       saved-clauses : clausesOf t goals w₁ ≡ clausesOf t goals w
       saved-clauses = ap (λ (r : ℕ → ℕ). clausesTo t goals r (r 0)) saved-trail
 
+      saved-slot : (m : ℕ) → m < mostSlots → packedAt w₁ m ≡ packedAt w m
+      saved-slot m b = saved-away (slotsFrom + m) (inl (omega (arith, b))) (λ q. omega (arith, q)) d
+
       pub saved-base : Base t n goals w₁
       saved-base =
           shorter-base t n goals w few (h .base) (trailAt w 0) w₁ (omega arith) (omega (arith, h .base .size, p .size))
           (subst (Trail n) (sym saved-trail) (h .base .trail)) (ap held saved-trail)
           (saved-away 0 (inl (omega arith)) (λ q. omega (arith, q)) d ∙ h .base .listed .count)
           (λ i a b. saved-away i (inl (omega (arith, b))) (λ q. omega (arith, q, a)) d)
+          (λ m b. ap (_% notes) (saved-slot m b))
 
       -- and the literal has joined
       module _ (l : ℕ) (w₂ : List ℕ) (j : Joined t n l w₁ w₂) where
@@ -107,6 +131,9 @@ module _ (t : ℕ → Node) (n : ℕ) (goals w : List ℕ) (few : n ≤ mostNode
 
         all : clausesOf t goals w₂ ≡ clausesOf t goals w ++ expand t l
         all = joined-clauses t n goals w₁ few saved-base l w₂ j ∙ ap (_++ expand t l) saved-clauses
+
+        top₁ : baseAt w₁ (clauseCount w₁) ≡ length (flat (clausesOf t goals w))
+        top₁ = top-is t n goals w₁ few saved-base ∙ ap (λ (c : List (List ℕ)). length (flat c)) saved-clauses
 
         -- a number that is saved is still there
         saved : (i : ℕ) → countsFrom ≤ i → i < trailFrom → getD w₂ i 0 ≡ getD w₁ i 0
@@ -146,7 +173,8 @@ module _ (t : ℕ → Node) (n : ℕ) (goals w : List ℕ) (few : n ≤ mostNode
           marked = subst (λ (c : List (List ℕ)). Marked c w₂ (s .strikes)) (sym all)
               (marked-more (clausesOf t goals w) (expand t l) w w₂ (s .strikes) (j .heads ∙ saved-away 2 (inl (omega arith)) (λ q. omega (arith, q)) d)
               (λ m i. j .rest (strikesFrom + m) (omega arith) (omega (arith, i)) ∙ saved-away (strikesFrom + m) (inl (omega (arith, i))) (λ q. omega (arith, q)) d)
-              (slots-fit t n goals w few (h .base)) (h .marked));
+              (slots-fit t n goals w few (h .base)) (λ m i b. j .strikes m i (omega (arith, b, top₁)) ∙ ap flagOf (saved-slot m i))
+              (λ m i z. j .clean m i (ap flagOf (saved-slot m i) ∙ z)) (h .marked));
           depths = j .depths ∙ p .depths ∙ ap suc depth-is;
           splits = (newest-split, splits-same t goals w w₂ (trailAt w 0) (trailAt w 0) (s .strikes) (s .strikes) (s .frames) kept (omega arith) lits ([], refl) (h .splits));
         }
@@ -225,8 +253,11 @@ module _ (t : ℕ → Node) (n : ℕ) (goals w : List ℕ) (few : n ≤ mostNode
       away i a b = getD-set-other w₃ 1 i d 0 b ∙ getD-set-other w₂ 0 i (splitSize w₂ d) 0 a
 
       -- clauses and what is saved are as they were
-      below : (i : ℕ) → (i ≡ 0 → ⊥) → (i ≡ 1 → ⊥) → (i ≡ 2 → ⊥) → (i < strikesFrom) ⊎ (countsFrom ≤ i) → i < trailFrom → getD w₄ i 0 ≡ getD w i 0
+      below : (i : ℕ) → (i ≡ 0 → ⊥) → (i ≡ 1 → ⊥) → (i ≡ 2 → ⊥) → (i < slotsFrom) ⊎ (countsFrom ≤ i) → i < trailFrom → getD w₄ i 0 ≡ getD w i 0
       below i a b c o m = away i a b ∙ k .under i (omega arith) m ∙ u .else i c o
+
+      packed₄ : (m : ℕ) → m < mostSlots → packedAt w₄ m ≡ packedAt w₁ m
+      packed₄ m b = away (slotsFrom + m) (λ y. omega (arith, y)) (λ y. omega (arith, y)) ∙ k .under (slotsFrom + m) (omega arith) (omega (arith, b))
 
       -- the literals that stay
       lits₄ : (q : ℕ) → q < f .count → trailAt w₄ (1 + q) ≡ trailAt w (1 + q)
@@ -258,6 +289,7 @@ module _ (t : ℕ → Node) (n : ℕ) (goals w : List ℕ) (few : n ≤ mostNode
           shorter-base t n goals w few (h .base) (f .count) w₄ (omega (arith, sp .before)) (omega (arith, z₄, h .base .size))
           (subst (Trail n) (sym trail₄) (k .trail)) list₄ clauses₄
           (λ i a b. below i (λ y. omega (arith, y, a)) (λ y. omega (arith, y, a)) (λ y. omega (arith, y, a)) (inl b) (omega (arith, b)))
+          (λ m b. ap (_% notes) (packed₄ m b) ∙ u .slots m)
 
       same₄ : clausesOf t goals w₄ ≡ clausesTo t goals (trailAt w) (f .count)
       same₄ = ap (clauses (expand t) goals) list₄
@@ -268,7 +300,7 @@ module _ (t : ℕ → Node) (n : ℕ) (goals w : List ℕ) (few : n ≤ mostNode
           (marked-less (clausesTo t goals (trailAt w) (f .count)) (rest .0) w₁ w₄ (f .strikes)
           (away 2 (λ y. omega (arith, y)) (λ y. omega (arith, y)) ∙ k .under 2 (omega arith) (omega arith))
           (λ m i. away (strikesFrom + m) (λ y. omega (arith, y)) (λ y. omega (arith, y)) ∙ k .under (strikesFrom + m) (omega arith) (omega (arith, i)))
-          (omega (arith, ap (λ (c : List (List ℕ)). length (flat c)) (rest .1), slots-fit t n goals w few (h .base))) (sp .within)
+          (omega (arith, ap (λ (c : List (List ℕ)). length (flat c)) (rest .1), slots-fit t n goals w few (h .base))) (λ m i. ap flagOf (packed₄ m i)) (sp .within)
           (marked-back (clausesTo t goals (trailAt w) (f .count) ++ rest .0) (splitHead w d) w w₁ (sp .older .0) (f .strikes) marked₀ u head₀))
 
       kept₄ : Kept (length fs) w w₄

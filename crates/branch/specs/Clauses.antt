@@ -7,7 +7,7 @@ use lib.ListN.{getD, length}
 use Rattle.scope.specs.Table.{arity}
 use Rattle.calculus.specs.Expansion.{chosen}
 use Rattle.index.specs.Index.{indexNode}
-use Rattle.area.specs.Area.{areaSize, mostClauses, mostSlots, strikesFrom, clauseCount, depth, newest, baseAt, slotAt}
+use Rattle.area.specs.Area.{areaSize, mostClauses, mostSlots, strikesFrom, clauseCount, depth, newest, baseAt, packedAt, slotAt}
 
 -- the literals of clauses, one after the other
 unfoldable pub flat : List (List ℕ) → List ℕ
@@ -37,9 +37,10 @@ pub record Appended (ds : List (List ℕ)) (w w′ : List ℕ) : Type 0 where
   pub size : length w′ ≡ length w
   pub count : clauseCount w′ ≡ clauseCount w + length ds
   pub bases : (j : ℕ) → j ≤ length ds → baseAt w′ (clauseCount w + j) ≡ baseAt w (clauseCount w) + offset ds j
-  pub slots : (i : ℕ) → i < length (flat ds) → slotAt w′ (baseAt w (clauseCount w) + i) ≡ getD (flat ds) i 0
+  pub slots : (i : ℕ) → i < length (flat ds) → packedAt w′ (baseAt w (clauseCount w) + i) ≡ getD (flat ds) i 0
   pub oldBases : (k : ℕ) → k ≤ clauseCount w → baseAt w′ k ≡ baseAt w k
-  pub oldSlots : (i : ℕ) → i < baseAt w (clauseCount w) → slotAt w′ i ≡ slotAt w i
+  pub oldSlots : (i : ℕ) → i < baseAt w (clauseCount w) → packedAt w′ i ≡ packedAt w i
+  pub beyond : (i : ℕ) → baseAt w (clauseCount w) + length (flat ds) ≤ i → packedAt w′ i ≡ packedAt w i
   pub depths : depth w′ ≡ depth w
   pub heads : newest w′ ≡ newest w
   pub later : (i : ℕ) → strikesFrom ≤ i → getD w′ i 0 ≡ getD w i 0

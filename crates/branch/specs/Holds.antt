@@ -11,7 +11,7 @@ use Rattle.calculus.specs.Model.{All, Table, Fresh}
 pub use Rattle.calculus.specs.Model.{Goals}
 use Rattle.index.specs.Index.{mostNodes, indexNode}
 use Rattle.rules.specs.Rules.{Place, Branch, join}
-use Rattle.area.specs.Area.{areaSize, mostClauses, mostSlots, strikesFrom, trailFrom, depth, newest, isWhole, splitCount, splitSize, splitHead, trailAt, trail, gOf, Trail, Same}
+use Rattle.area.specs.Area.{areaSize, mostClauses, mostSlots, strikesFrom, trailFrom, clauseCount, depth, newest, baseAt, strikeAt, isWhole, splitCount, splitSize, splitHead, trailAt, trail, gOf, Trail, Same}
 use Rattle.area.specs.Strikes.{headOf, Strikes}
 use Rattle.branch.specs.Clauses.{flat, offset, Listed}
 
@@ -150,6 +150,8 @@ pub record Joined (t : ℕ → Node) (n l : ℕ) (w w′ : List ℕ) : Type 0 wh
   pub lits : (q : ℕ) → q < trailAt w 0 → trailAt w′ (1 + q) ≡ trailAt w (1 + q)
   pub top : trailAt w′ (1 + trailAt w 0) ≡ l
   pub listed : (cs : List (List ℕ)) → length (cs ++ expand t l) ≤ mostClauses → length (flat (cs ++ expand t l)) ≤ mostSlots → Listed cs w → Listed (cs ++ expand t l) w′
+  pub strikes : (m : ℕ) → m < mostSlots → m < baseAt w (clauseCount w) → strikeAt w′ m ≡ strikeAt w m
+  pub clean : (m : ℕ) → m < mostSlots → strikeAt w m ≡ 0 → strikeAt w′ m ≡ 0
   pub depths : depth w′ ≡ depth w
   pub heads : newest w′ ≡ newest w
   pub rest : Same strikesFrom trailFrom w w′

@@ -6,7 +6,6 @@ use area::HEADS;
 use area::LITERALS;
 use area::SIZES;
 use area::SLOTS;
-use area::STRIKES;
 use area::TRAIL;
 ghost use mathlib.Core.Path.{_≡_};
 ghost use mathlib.Core.List.{[], _∷_};
@@ -20,8 +19,8 @@ ghost use Rattle.area.specs.Area.{areaSize, mostClauses, mostSlots, clauseRoom,
 ghost use Rattle.branch.specs.Clauses.{Filled, Appended, Room, choices, Chooses};
 ghost use Rattle.branch.specs.Holds.{Indexed, Goals, Joined, Holds, Held, Restores, fresh};
 
-// How many numbers the strikes take, and the trail.
-const STRIKE_CELLS: usize = 8145;
+// How many numbers the slots take, and the trail.
+const SLOT_CELLS: usize = 8144;
 
 const TRAIL_CELLS: usize = 4033;
 
@@ -76,13 +75,11 @@ fn put_one(work: &mut [u16], p: u16)
     work[0] = (k + 1) as u16;
 }
 
-// A clause of two literals is appended.
-fn put_two(work: &mut [u16], p: u16, q: u16)
-    requires { ⌜ Room 1 2 (now work) ⌝ }
+// A clause of two literals is appended, as clause k from slot b on.
+fn put_two(work: &mut [u16], k: usize, b: usize, p: u16, q: u16)
+    requires { ⌜ Room 1 2 (now work) × (k ≡ clauseCount (now work)) × (b ≡ baseAt (now work) (clauseCount (now work))) ⌝ }
     ensures { λ _. ⌜ Appended ((p ∷ q ∷ []) ∷ []) (now (work .entry)) (now (work .exit)) ⌝ }
 {
-    let k = work[0] as usize;
-    let b = work[BASES + k] as usize;
     work[SLOTS + b] = p;
     work[SLOTS + b + 1] = q;
     work[BASES + (k + 1)] = (b + 2) as u16;
@@ -125,7 +122,9 @@ fn some_of(x: &[u16], n: usize, work: &mut [u16], node: usize, c: u8, d: u8)
 {
     let p = choose(x, n, node, c);
     let q = choose(x, n, node, d);
-    put_two(work, p, q);
+    let k = work[0] as usize;
+    let b = work[BASES + k] as usize;
+    put_two(work, k, b, p, q);
 }
 
 // Each of the three operands, or of their negations, is a clause.
@@ -156,15 +155,21 @@ fn some_of_three(x: &[u16], n: usize, work: &mut [u16], node: usize, sign: u8)
     put_three(work, p, q, r);
 }
 
-// The clauses of an IFF, or of its negation.
+// The clauses of an IFF, or of its negation: their number and their slot are read once.
 fn same_or_not(x: &[u16], n: usize, work: &mut [u16], node: usize, sign: u8)
     requires { ⌜ Indexed (now x) n ⌝ }
     requires { ⌜ Chooses 2 (now x) n node × (sign < 2) ⌝ }
     requires { ⌜ Room 2 4 (now work) ⌝ }
     ensures { λ _. ⌜ Appended (choices (now (x .entry)) node (((1 - sign) ∷ 2 ∷ []) ∷ (sign ∷ 3 ∷ []) ∷ [])) (now (work .entry)) (now (work .exit)) ⌝ }
 {
-    some_of(x, n, work, node, 1 - sign, 2);
-    some_of(x, n, work, node, sign, 3);
+    let p = choose(x, n, node, 1 - sign);
+    let q = choose(x, n, node, 2);
+    let r = choose(x, n, node, sign);
+    let s = choose(x, n, node, 3);
+    let k = work[0] as usize;
+    let b = work[BASES + k] as usize;
+    put_two(work, k, b, p, q);
+    put_two(work, k + 1, b + 2, r, s);
 }
 
 // The clauses of a row with no operands: TRUE and ATOM have none, and not TRUE an empty one.
@@ -215,11 +220,11 @@ fn append(x: &[u16], n: usize, work: &mut [u16], l: u16)
     ensures { λ _. ⌜ Appended (expand (indexNode (now (x .entry))) l) (now (work .entry)) (now (work .exit)) ⌝ }
 {
     let row = row_of(x, n, l);
-    if row < 6 {
-        put_bare(work, row);
+    if 6 <= row {
+        put_row(x, n, work, (l / 2) as usize, row, (l % 2) as u8);
         return;
     }
-    put_row(x, n, work, (l / 2) as usize, row, (l % 2) as u8);
+    put_bare(work, row);
 }
 
 // A literal joins the trail, and its clauses are appended.
@@ -287,7 +292,7 @@ fn aim(goals: &[u16], work: &mut [u16])
     }
 }
 
-// The start: nothing is held, and nothing struck. What is written before it is read is not cleared.
+// The start: nothing is held, and the slots are cleared, so that none has a strike. What else is written before it is read is not.
 pub fn begin(x: &[u16], n: usize, goals: &[u16], work: &mut [u16])
     requires { ⌜ Indexed (now x) n ⌝ }
     requires { ⌜ Goals n (now goals) ⌝ }
@@ -297,7 +302,7 @@ pub fn begin(x: &[u16], n: usize, goals: &[u16], work: &mut [u16])
 {
     let m = goals.len();
     clear(work, 0, BASES + 1);
-    clear(work, STRIKES, STRIKE_CELLS);
+    clear(work, SLOTS, SLOT_CELLS);
     clear(work, TRAIL, TRAIL_CELLS);
     number(work, m);
     aim(goals, work);

@@ -1,12 +1,13 @@
 -- U, R, E, C and S: each test of the code is a condition of the rule, in turn, and past them the rule runs. Assumes nothing.
 use mathlib.Core.Path.{_≡_, refl, sym, ap, _∙_, subst}
-use mathlib.Core.Bool.{Bool, true, false, not}
+use mathlib.Core.Bool.{Bool, true, false, not, _&&_, false≢true}
 use mathlib.Core.List.{List, _∷_, map}
 use Prim.Native.Nat.{ℕ, _+_, _-_, _*_, _<_, _≤_}
 use native.Mathlib.Omega.{arith}
 use lib.Dec.{eqb, ltb}
 use lib.ListN.{length, getD}
 use borrow.Author.Tests.{eq-eqb, ne-eqb, lt-ltb, le-ltb}
+use Rattle.scope.proofs.Tests.{by-test}
 use Rattle.scope.specs.declared.Node.{Node}
 use Rattle.scope.specs.Outcome.{answer, _>>_, _>>=_}
 use Rattle.calculus.specs.Expansion.{neg, expand}
@@ -14,13 +15,14 @@ use Rattle.calculus.specs.Order.{valueOf}
 use Rattle.calculus.specs.Model.{Table, Fresh}
 use Rattle.rules.specs.Rules.{among, isFails, isUndecided, Branch, join, strikeClause, strikeLiteral, anyHolds, running, turn, only, given, clauseAt, stands, left, ruleU, ruleR, ruleE, ruleC, ruleS}
 use Rattle.area.specs.declared.Left.{Left}
-use Rattle.area.specs.Area.{areaSize, mostNodes, mostClauses, mostSlots, whole, clauseCount, baseAt, slotAt, strikeAt, lengthAt, trailAt, gOf, Trail, valueCode, Struck, Saved, standsIn, freeIn, leftOf, trueFrom}
+use Rattle.area.specs.Area.{areaSize, mostNodes, mostClauses, mostSlots, whole, clauseCount, baseAt, slotAt, strikeAt, lengthAt, trailAt, gOf, Trail, valueCode, Struck, Saved, standsIn, freeIn, onlyIn, emptyIn, leftOf, trueFrom}
+use Rattle.area.proofs.Remains.{only-none}
 use Rattle.branch.specs.Holds.{Held, Joined}
 use Rattle.branch.proofs.Scans.{true-open}
 use Rattle.replay.specs.declared.Status.{Status}
 use Rattle.replay.specs.declared.Status.the-variants.{Running, Failed}
 use Rattle.replay.specs.Ruled.{Rule, Ruled}
-use Rattle.replay.proofs.Told.{free-is, push-ready, slot-literal, undecided-told, stands-told, number-of, left-told, true-told, past-told, there-told, unstruck-told, fails-told}
+use Rattle.replay.proofs.Told.{Told, free-is, push-ready, slot-literal, undecided-told, stands-told, number-of, left-told, true-told, past-told, there-told, unstruck-told, fails-told}
 use Rattle.replay.proofs.Ruled.{fails, passes, lacks, takes, Moves, moves-run, moves-held, moves-list, moves-then, joined-moves, whole-moves, part-moves, left-count, left-literal, left-open, open-below, split-runs}
 
 module _ (t : ℕ → Node) (n : ℕ) (w : List ℕ) (few : n ≤ mostNodes) (k : ℕ) where
@@ -57,7 +59,7 @@ module _ (t : ℕ → Node) (n : ℕ) (w : List ℕ) (few : n ≤ mostNodes) (k 
 
   -- the clause does not stand
   module _ (z : standsIn w k ≡ false) where
-    pub u-falls : Ruled t n (λ goals. ruleU (expand t) goals n k) w w Failed
+    u-falls : Ruled t n (λ goals. ruleU (expand t) goals n k) w w Failed
     unfolding ruleU
     u-falls = fails t n w up unit (stands-told t n w few k (sym z))
 
@@ -69,7 +71,7 @@ module _ (t : ℕ → Node) (n : ℕ) (w : List ℕ) (few : n ≤ mostNodes) (k 
     unfolding ruleE
     e-falls = fails t n w up met (stands-told t n w few k (sym z))
 
-    pub c-falls : Ruled t n (λ goals. ruleC (expand t) goals n k) w w Failed
+    c-falls : Ruled t n (λ goals. ruleC (expand t) goals n k) w w Failed
     unfolding ruleC
     c-falls = fails t n w up closes (stands-told t n w few k (sym z))
 
@@ -78,7 +80,7 @@ module _ (t : ℕ → Node) (n : ℕ) (w : List ℕ) (few : n ≤ mostNodes) (k 
     -- ---- U
 
     module _ {x : Left} (e : x ≡ leftOf (freeIn w k)) where
-      pub u-lacks : (x .count ≡ 1 → ⊥) → Ruled t n (λ goals. ruleU (expand t) goals n k) w w Failed
+      u-lacks : (x .count ≡ 1 → ⊥) → Ruled t n (λ goals. ruleU (expand t) goals n k) w w Failed
       unfolding ruleU
       u-lacks z =
           passes t n w up unit w Failed (stands-told t n w few k (sym st))
@@ -112,26 +114,27 @@ module _ (t : ℕ → Node) (n : ℕ) (w : List ℕ) (few : n ≤ mostNodes) (k 
               (moves-then t n (strikeClause k) w w₁ (whole-moves t n few w w₁ k (x .first) st (left-open w k e o) p) (join l) w₂ (joined-moves t n few l w₁ w₂ j)))))
 
       -- the slot that is left, and its literal
-      pub left-below : (H : Held t n w) → Table n t → x .count ≡ 1 → (x .first < mostSlots) × (slotAt w (x .first) < 2 * n)
+      pub left-below : (H : Held t n w) → Table n t → x .count ≡ 1 → (x .first < mostSlots) × (slotAt w (x .first) < 2 * n) × (strikeAt w (x .first) ≡ 0)
       left-below H T o =
           let b = open-below few H k (number-of t n w few k st) (left-open w k e o) in
-          (b .0, slot-literal few H T k (number-of t n w few k st) (x .first) (b .1))
+          (b .0, slot-literal few H T k (number-of t n w few k st) (x .first) (b .1), left-open w k e o .2)
 
-      -- ---- C
+    -- ---- C
 
-      pub c-lacks : (x .count ≡ 0 → ⊥) → Ruled t n (λ goals. ruleC (expand t) goals n k) w w Failed
-      unfolding ruleC
-      c-lacks z =
-          passes t n w up closes w Failed (stands-told t n w few k (sym st))
-          (fails t n w (λ goals b. eqb (length (rest goals b)) 0) (λ goals b ws. answer (turn ws))
-          (λ goals s h. ap (λ (ls : List ℕ). eqb (length ls) 0) (left-told t n w few k st goals s h) ∙ ap (λ (m : ℕ). eqb m 0) (left-count w k e) ∙ ne-eqb (x .count) 0 z))
+    none-told : {b : Bool} → eqb (length (freeIn w k)) 0 ≡ b → Told t n w (λ goals b. eqb (length (rest goals b)) 0) b
+    none-told z goals s h = ap (λ (ls : List ℕ). eqb (length ls) 0) (left-told t n w few k st goals s h) ∙ ap (λ (m : ℕ). eqb m 0) (left-count w k refl) ∙ z
 
-      pub c-turns : (w′ : List ℕ) (r : Status) → x .count ≡ 0 → Ruled t n (λ goals b ws. answer (turn ws)) w w′ r → Ruled t n (λ goals. ruleC (expand t) goals n k) w w′ r
-      unfolding ruleC
-      c-turns w′ r z R =
-          passes t n w up closes w′ r (stands-told t n w few k (sym st))
-          (passes t n w (λ goals b. eqb (length (rest goals b)) 0) (λ goals b ws. answer (turn ws)) w′ r
-          (λ goals s h. ap (λ (ls : List ℕ). eqb (length ls) 0) (left-told t n w few k st goals s h) ∙ ap (λ (m : ℕ). eqb m 0) (left-count w k e) ∙ eq-eqb (x .count) 0 z) R)
+    c-lacks : eqb (length (freeIn w k)) 0 ≡ false → Ruled t n (λ goals. ruleC (expand t) goals n k) w w Failed
+    unfolding ruleC
+    c-lacks z =
+        passes t n w up closes w Failed (stands-told t n w few k (sym st)) (fails t n w (λ goals b. eqb (length (rest goals b)) 0) (λ goals b ws. answer (turn ws)) (none-told z))
+
+    c-closes : (w′ : List ℕ) (r : Status) → eqb (length (freeIn w k)) 0 ≡ true → Ruled t n (λ goals b ws. answer (turn ws)) w w′ r
+        → Ruled t n (λ goals. ruleC (expand t) goals n k) w w′ r
+    unfolding ruleC
+    c-closes w′ r z R =
+        passes t n w up closes w′ r (stands-told t n w few k (sym st))
+        (passes t n w (λ goals b. eqb (length (rest goals b)) 0) (λ goals b ws. answer (turn ws)) w′ r (none-told z) R)
 
     -- ---- E
 
@@ -143,8 +146,10 @@ module _ (t : ℕ → Node) (n : ℕ) (w : List ℕ) (few : n ≤ mostNodes) (k 
           (fails t n w (λ goals b. anyHolds (b .G) (rest goals b)) (λ goals b ws. answer (running (strikeClause k b) ws)) (true-told t n w few k st e (ap not (eq-eqb v 0 z))))
 
       module _ (z : v ≡ 0 → ⊥) where
-        pub true-below : (H : Held t n w) → v - 1 < mostSlots
-        true-below H = open-below few H k (number-of t n w few k st) (true-open w (baseAt w k) (lengthAt w k) e z) .0
+        pub true-below : (H : Held t n w) → (v - 1 < mostSlots) × (strikeAt w (v - 1) ≡ 0)
+        true-below H =
+            let o = true-open w (baseAt w k) (lengthAt w k) e z in
+            (open-below few H k (number-of t n w few k st) o .0, o .2)
 
         pub e-runs : {w₁ : List ℕ} → Struck whole (v - 1) w w₁ → Ruled t n (λ goals. ruleE (expand t) goals n k) w w₁ Running
         unfolding ruleE
@@ -199,6 +204,19 @@ module _ (t : ℕ → Node) (n : ℕ) (w : List ℕ) (few : n ≤ mostNodes) (k 
                 at = omega arith
 
 -- ---- S
+
+-- ---- U and C, where the clause may not stand
+
+module _ (t : ℕ → Node) (n : ℕ) (w : List ℕ) (few : n ≤ mostNodes) (k : ℕ) where
+  pub u-none : {r : ℕ} → r ≡ onlyIn w k → r ≡ 0 → Ruled t n (λ goals. ruleU (expand t) goals n k) w w Failed
+  u-none e z = by-test (standsIn w k) (λ y. u-lacks t n w few k y refl (only-none w k e z y)) (u-falls t n w few k)
+
+  pub c-refuses : emptyIn w k ≡ false → Ruled t n (λ goals. ruleC (expand t) goals n k) w w Failed
+  c-refuses z = by-test (standsIn w k) (λ y. c-lacks t n w few k y (sym (ap (_&& eqb (length (freeIn w k)) 0) y) ∙ z)) (c-falls t n w few k)
+
+  pub c-turns : (w′ : List ℕ) (r : Status) → emptyIn w k ≡ true → Ruled t n (λ goals b ws. answer (turn ws)) w w′ r → Ruled t n (λ goals. ruleC (expand t) goals n k) w w′ r
+  c-turns w′ r z R = by-test (standsIn w k) (λ y. c-closes t n w few k y w′ r (sym (ap (_&& eqb (length (freeIn w k)) 0) y) ∙ z) R)
+      (λ y. absurd (false≢true (sym (ap (_&& eqb (length (freeIn w k)) 0) y) ∙ z)))
 
 module _ (t : ℕ → Node) (n : ℕ) (w : List ℕ) (few : n ≤ mostNodes) (l : ℕ) where
   abbrev splits : Rule

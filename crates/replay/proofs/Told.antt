@@ -1,7 +1,7 @@
 -- What is read of a clause is what the rules ask, whatever history the work area holds; and what may be read. Assumes nothing.
 use mathlib.Core.Path.{_≡_, refl, sym, ap, _∙_, subst}
 use mathlib.Core.Bool.{Bool, true, false, not, _&&_}
-use mathlib.Core.List.{List, [], _∷_, map}
+use mathlib.Core.List.{List, [], map}
 use Prim.Native.Nat.{ℕ, suc, _+_, _-_, _*_, _<_, _≤_}
 use native.Mathlib.Omega.{arith}
 use native.Mathlib.Nat.{zero-add}
@@ -15,8 +15,8 @@ use Rattle.scope.proofs.Lists.{length-listFrom, getD-listFrom}
 use Rattle.scope.proofs.Tests.{and-left, and-right}
 use Rattle.calculus.specs.Expansion.{expand}
 use Rattle.calculus.specs.Order.{Value, holds, fails, undecided, valueOf, mem, stateOf}
-use Rattle.calculus.specs.Model.{All, Table, Fresh}
-use Rattle.calculus.proofs.Lists.{all-append, all-at}
+use Rattle.calculus.specs.Model.{Table, Fresh}
+use Rattle.calculus.proofs.Lists.{all-at}
 use Rattle.calculus.proofs.Fresh.{clauses-below}
 use Rattle.rules.specs.Rules.{among, isFails, isUndecided, Branch, anyHolds, clauseAt, stands, left, inList}
 use Rattle.area.specs.Area.{areaSize, mostNodes, mostClauses, mostSlots, clauseCount, depth, newest, baseAt, slotAt, strikeAt, lengthAt, trailAt, gOf, valueCode, Trail, Ranged, wholeIn, standsIn, freeFrom, freeIn, trueFrom}
@@ -25,6 +25,7 @@ use Rattle.seen.specs.Seen.{literalsFrom, stateIn}
 use Rattle.branch.specs.Clauses.{flat, offset}
 use Rattle.branch.specs.Holds.{clausesIn, slotOf, History, branchOf, clausesOf, Holds, Held}
 use Rattle.branch.proofs.Offsets.{offset-most, flat-at}
+use Rattle.branch.proofs.Appends.{all-flat}
 use Rattle.branch.proofs.Scans.{whole-is, struck-is, left-from, true-is}
 use Rattle.branch.proofs.Marks.{slot-below}
 use Rattle.branch.proofs.Branches.{slots-fit, base-is, length-is, ranged, depth-low, push-room}
@@ -50,11 +51,6 @@ pub free-is : (n l : ℕ) (G : List ℕ) {v : ℕ} → l < 2 * n → v ≡ value
 free-is n l G b e z = (b, code-undecided (valueOf G l) (sym e ∙ z))
 
 -- ---- what may be read
-
-all-flat : (P : ℕ → Type 0) (cs : List (List ℕ)) → All (All P) cs → All P (flat cs)
-unfolding flat
-all-flat P [] a = tt
-all-flat P (c ∷ cs) a = all-append P c (flat cs) (a .0) (all-flat P cs (a .1))
 
 module _ {t : ℕ → Node} {n : ℕ} {w : List ℕ} (few : n ≤ mostNodes) (H : Held t n w) where
   pub size-of : areaSize ≤ length w

@@ -34,14 +34,11 @@ fn rule_u(x: &[u16], n: usize, work: &mut [u16], k: usize) -> Status
     requires { ⌜ Held (indexNode (now x)) n (now work) ⌝ }
     ensures { λ r. ⌜ Ruled (indexNode (now (x .entry))) n (λ goals. ruleU (expand (indexNode (now (x .entry)))) goals n k) (now (work .entry)) (now (work .exit)) r ⌝ }
 {
-    if !area::stands(work, k) {
+    let found = area::only(work, k);
+    if found == 0 {
         return Status::Failed;
     }
-    let left = area::remaining(work, k);
-    if left.count != 1 {
-        return Status::Failed;
-    }
-    let s = left.first as usize;
+    let s = found - 1;
     let l = area::literal_in(work, s);
     if area::value(work, n, l) != 0 {
         return Status::Failed;
@@ -111,11 +108,7 @@ fn rule_c(x: &[u16], n: usize, work: &mut [u16], k: usize) -> Status
     requires { ⌜ Held (indexNode (now x)) n (now work) ⌝ }
     ensures { λ r. ⌜ Ruled (indexNode (now (x .entry))) n (λ goals. ruleC (expand (indexNode (now (x .entry)))) goals n k) (now (work .entry)) (now (work .exit)) r ⌝ }
 {
-    if !area::stands(work, k) {
-        return Status::Failed;
-    }
-    let left = area::remaining(work, k);
-    if left.count != 0 {
+    if !area::emptied(work, k) {
         return Status::Failed;
     }
     turn(x, n, work)

@@ -29,7 +29,7 @@ returns c =
     let l = s .args .l in
     let append = c .before .before .before .before .before .before .append in
     let enter = c .before .before .enter in
-    joined-is t l (append .ensures) (enter .ensures)
+    joined-is t l (append .ensures) (s .pre .0 .table) (s .pre .0 .few) (s .pre .1 .1 .1 .1 .0) (enter .ensures)
 
 pub push-spec : {M : Type 1} → statement M
 push-spec = tie.close (tie.spec append-requires enter-requires same-length returns)

@@ -2,27 +2,9 @@
 use native.Mathlib.Omega.{arith}
 use borrow.Author.Needs.{needs}
 use lib.ListN.{length-set}
-use Rattle.branch.proofs.Appends.{two-is}
+use Rattle.branch.proofs.Appends.{two-at}
 use Rattle.branch.proofs.put_two.Statement.{statement}
 use Rattle.branch.proofs.put_two.Tie as tie
-
-slice-read-k : tie.Need-slice-read-k
-slice-read-k c = search needs
-
-cast-k : tie.Need-cast-k
-cast-k c = search needs
-
-add-b : tie.Need-add-b
-add-b c = search needs
-
-mul-b : tie.Need-mul-b
-mul-b c = search needs
-
-slice-read-b : tie.Need-slice-read-b
-slice-read-b c = search needs
-
-cast-b : tie.Need-cast-b
-cast-b c = search needs
 
 add-work : tie.Need-add-work
 add-work c = search needs
@@ -76,18 +58,14 @@ same-length : tie.Need-same-length
 same-length c = search needs
 
 returns : tie.Need-returns
-returns c = two-is (c .before .before .args .work .now) (c .before .before .args .p) (c .before .before .args .q) (c .before .before .pre)
+returns c =
+    let s = c in
+    two-at (s .args .work .now) (s .args .k) (s .args .b) (s .args .p) (s .args .q) (s .pre .0) (s .pre .1) (s .pre .2)
 
 pub put-two-spec : {M : Type 1} → statement M
 put-two-spec =
     tie.close
     (tie.spec
-    slice-read-k
-    cast-k
-    add-b
-    mul-b
-    slice-read-b
-    cast-b
     add-work
     mul-work
     slice-write-work

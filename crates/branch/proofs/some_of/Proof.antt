@@ -10,6 +10,24 @@ choose-requires c κs = search needs
 choose-requires-2 : tie.Need-choose-requires-2
 choose-requires-2 c κs = search needs
 
+slice-read-k : tie.Need-slice-read-k
+slice-read-k c = search needs
+
+cast-k : tie.Need-cast-k
+cast-k c = search needs
+
+add-b : tie.Need-add-b
+add-b c = search needs
+
+mul-b : tie.Need-mul-b
+mul-b c = search needs
+
+slice-read-b : tie.Need-slice-read-b
+slice-read-b c = search needs
+
+cast-b : tie.Need-cast-b
+cast-b c = search needs
+
 put-two-requires : tie.Need-put-two-requires
 put-two-requires c κs = search needs
 
@@ -17,7 +35,7 @@ same-length : tie.Need-same-length
 same-length c = search needs
 
 returns : tie.Need-returns
-returns c = some-is (c .before .before .before .before .before .choose .ensures) (c .before .before .before .before .choose2 .ensures) (c .before .before .put-two .ensures)
+returns c = some-is (c .before .before .before .before .before .before .before .choose .ensures) (c .before .before .before .before .before .before .choose2 .ensures) (c .before .before .put-two .ensures)
 
 pub some-of-spec : {M : Type 1} → statement M
 some-of-spec =
@@ -25,6 +43,12 @@ some-of-spec =
     (tie.spec
     choose-requires
     choose-requires-2
+    slice-read-k
+    cast-k
+    add-b
+    mul-b
+    slice-read-b
+    cast-b
     put-two-requires
     same-length
     returns)

@@ -77,7 +77,8 @@ strike-requires c κs =
     let if2 = c .before .if2 in
     let st = sym (stands .ensures) ∙ not-false _ (if1 .left) in
     let H = s .pre .1 in
-    ((size-of few H, true-below t n w few k st (true-slot .ensures) (if2 .left) H, newest-of few H, omega arith), omega arith)
+    let o = true-below t n w few k st (true-slot .ensures) (if2 .left) H in
+    ((size-of few H, o .0, newest-of few H, omega arith), (omega arith, o .1))
 
 same-length-3 : tie.Need-same-length-3
 same-length-3 c = search needs

@@ -245,7 +245,7 @@ strike-requires c κs =
     let num = number-of t n w few k st in
     let H = s .pre .1 in
     let r = ranged-of few H .ends k num in
-    ((size-of few H, omega (arith, r, base2 .ensures, if2 .left), newest-of few H, omega arith), omega arith)
+    ((size-of few H, omega (arith, r, base2 .ensures, if2 .left), newest-of few H, omega arith), (omega arith, sym (c .before .before .before .before .before .before .strike-in .ensures) ∙ c .before .before .before .before .before .if3 .left))
 
 same-length-5 : tie.Need-same-length-5
 same-length-5 c = search needs
