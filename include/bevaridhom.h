@@ -151,7 +151,7 @@ bev_checked bev_check(const uint8_t *table, size_t table_len, const uint16_t *go
  * as many wishes are true for every way of filling the settings' 2s; `bound`, no setting that makes the goals true makes more of them
  * true; and the questions put, at most the allowance. It stops when met = bound or when the allowance is spent: a larger one never lowers
  * met or raises bound, and 2^wishes - 1, at most 65,535, is enough for both to be equal. The table is read and indexed once, but each
- * question is a search. The work area as for bev_decide, free also after 67. Refusals: 10 to 17, 62 for the goals, 66 over BEV_WISHES
+ * question is a search, unless it has a literal and its negation. The work area as for bev_decide, free also after 67. Refusals: 10 to 17, 62 for the goals, 66 over BEV_WISHES
  * wishes, 20 with the wishes indexed behind the goals, 21, 23, 67 the goals alone are impossible. */
 bev_wished bev_wishes(const uint8_t *table, size_t table_len, const uint16_t *goals, size_t goals_len, const uint16_t *wishes,
                       size_t wishes_len, size_t allowance, uint8_t *settings, size_t settings_len, uint16_t *work, size_t work_len);
