@@ -22,7 +22,7 @@ use Rattle.index.specs.Codes.{numbered, opposite, choiceValue, stateBy, rowStat
 use Rattle.index.specs.Index.{codesAt, mostLiterals, indexNode}
 use Rattle.index.specs.Indexed.{Indexed}
 use Rattle.index.proofs.Nodes.{operand-cell, operand-low}
-use Rattle.clause.specs.Coded.{statesOf, Choice, Coded}
+use Rattle.clause.specs.Coded.{placeOf, statesOf, Choice, Coded}
 use Rattle.clause.proofs.Rows.{Chooses, of-operand, choice-few}
 use Rattle.clause.proofs.States.{renamed, Right, states-renamed, one-kept, empty-kept, open-kept, one-open, first-most, first-has, some-renamed, first-renamed, literal-renamed, state-has}
 
@@ -226,6 +226,9 @@ module _ {x : List ℕ} {n : ℕ} (I : Indexed x n) (G : List ℕ) (good : Good 
   abbrev Reads : ℕ → Type 0
   Reads i = Coded own (statesOf (indexNode x) G (2 * m + sign)) (getD x (codesAt + i) 0)
 
+  known : own .kind < 9
+  known = I .table .kinds m (h .0) .1
+
   -- the code of its row, at numbers that have the operands' values
   code-right : (i row : ℕ) (vs : List ℕ) → i < codesSize → row ≡ 2 * own .kind + sign → ((i : ℕ) → i < arity (own .kind) → getD vs i 0 ≡ valueIn i)
       → codeAt i ≡ rowCode row vs → Reads i
@@ -233,7 +236,7 @@ module _ {x : List ℕ} {n : ℕ} (I : Indexed x n) (G : List ℕ) (good : Good 
       let d : (2 * m + sign) / 2 ≡ m = omega (arith, h .1) in
       let s : (2 * m + sign) % 2 ≡ sign = omega (arith, h .1) in
       rw (I .codes i b ∙ er ∙ ap (λ (k : ℕ). rowCode k vs) e)
-      (rw (d, s) at (coded (indexNode x) (2 * m + sign) (rw d (I .table .kinds m (h .0) .1)) vs n G good
+      (rw (d, s) at (coded (indexNode x) (2 * m + sign) (rw d known) vs n G good
       (rw d (λ i k. rw (operand-cell x m i k) (read-value G (getD x (4 * m + (1 + i)) 0) (getD vs i 0) (ev i k))))))
 
   -- it is read at the values of the first two cells, and of the third where the kind has three operands
@@ -247,20 +250,40 @@ module _ {x : List ℕ} {n : ℕ} (I : Indexed x n) (G : List ℕ) (good : Good 
         values (suc zero) j = eb .0
         values (suc (suc i)) j = absurd (omega (arith, j, arity-pair (own .kind) (omega (arith, k, e))))
 
-    module _ (k : pairCodes ≤ 9 * row + (3 * a + b)) where
-      -- then the third cell is an operand
-      pub third-few : getD x (4 * m + 3) 0 < mostLiterals
-      third-few =
-          let z : 7 ≤ own .kind = omega (arith, k, e, ea .1, eb .1) in
-          omega (arith, operand-low x n m 2 (I .table) (h .0) (omega (arith, arity-three (own .kind) z)), h .0, I .few)
+    three-right : 6 < own .kind → (c : ℕ) → (c ≡ valueIn 2) × (c < 3) → Reads (3 * (9 * row + (3 * a + b)) + c - 2 * pairCodes)
+    three-right k c ec =
+        code-right (3 * (9 * row + (3 * a + b)) + c - 2 * pairCodes) row (a ∷ b ∷ c ∷ [])
+        (omega (arith, known, h .1, e, ea .1, eb .1, ec .1)) e values (code-three row a b (ea .1) (eb .1) c (ec .1) (omega (arith, k, e)))
+      where
+        values : (i : ℕ) → i < arity (own .kind) → getD (a ∷ b ∷ c ∷ []) i 0 ≡ valueIn i
+        values zero j = ea .0
+        values (suc zero) j = eb .0
+        values (suc (suc zero)) j = ec .0
+        values (suc (suc (suc i))) j = absurd (omega (arith, j, arity-most (own .kind)))
 
-      pub three-right : row < 18 → (c : ℕ) → (c ≡ valueIn 2) × (c < 3) → Reads (3 * (9 * row + (3 * a + b)) + c - 2 * pairCodes)
-      three-right few c ec =
-          code-right (3 * (9 * row + (3 * a + b)) + c - 2 * pairCodes) row (a ∷ b ∷ c ∷ []) (omega (arith, few, ea .1, eb .1, ec .1)) e values
-          (code-three row a b (ea .1) (eb .1) c (ec .1) (omega (arith, k, ea .1, eb .1)))
-        where
-          values : (i : ℕ) → i < arity (own .kind) → getD (a ∷ b ∷ c ∷ []) i 0 ≡ valueIn i
-          values zero j = ea .0
-          values (suc zero) j = eb .0
-          values (suc (suc zero)) j = ec .0
-          values (suc (suc (suc i))) j = absurd (omega (arith, j, arity-most (own .kind)))
+  -- where there are three operands, the third cell is one of them
+  pub third-few : 6 < own .kind → getD x (4 * m + 3) 0 < mostLiterals
+  third-few k = omega (arith, operand-low x n m 2 (I .table) (h .0) (omega (arith, arity-three (own .kind) k)), h .0, I .few)
+
+  -- the same at the place that the values lead to
+  module _ {i : ℕ} (e : i ≡ placeOf own sign G) where
+    low-a : valueCode (valueOf G (own .a)) < 3
+    low-a = code-low (valueOf G (own .a))
+
+    low-b : valueCode (valueOf G (own .b)) < 3
+    low-b = code-low (valueOf G (own .b))
+
+    pub place-two : i < pairCodes → Reads i
+    unfolding indexNode
+    place-two k = rw e (pair-right refl (refl, low-a) (refl, low-b) (omega (arith, k, e)))
+
+    pub place-kind : pairCodes ≤ i → 6 < own .kind
+    place-kind k = omega (arith, k, e, h .1, low-a, low-b)
+
+    module _ (k : 6 < own .kind) where
+      pub place-within : (pairCodes ≤ i) × (i < 162)
+      place-within = (omega (arith, k, e), omega (arith, known, h .1, e, low-a, low-b))
+
+      pub place-three : (c : ℕ) → (c ≡ valueIn 2) × (c < 3) → Reads (3 * i + c - 2 * pairCodes)
+      unfolding indexNode
+      place-three c ec = rw e (three-right refl (refl, low-a) (refl, low-b) k c ec)

@@ -2,7 +2,7 @@
 use mathlib.Core.Path.{_≡_}
 use mathlib.Core.Bool.{true}
 use mathlib.Core.List.{List, map}
-use Prim.Native.Nat.{ℕ, _+_, _/_, _%_, _<_}
+use Prim.Native.Nat.{ℕ, _+_, _*_, _/_, _%_, _<_}
 use lib.ListN.{length, getD}
 use Rattle.scope.specs.declared.Node.{Node}
 use Rattle.scope.specs.Table.{operands}
@@ -35,6 +35,10 @@ Valued r = (l : ℕ) → l < mostLiterals → valueAt r l ≡ valueCode (valueOf
 -- what the clauses of a literal are under G
 abbrev pub statesOf : (ℕ → Node) → List ℕ → ℕ → List State
 statesOf t G l = map (stateOf G) (expand t l)
+
+-- the place of a literal of node y, by its row and by the values of the first two operands under G
+abbrev pub placeOf : Node → ℕ → List ℕ → ℕ
+placeOf y sign G = 9 * (2 * y .kind + sign) + (3 * valueCode (valueOf G (y .a)) + valueCode (valueOf G (y .b)))
 
 -- the literal that choice c is of a node's operands
 abbrev pub Choice : Node → ℕ → ℕ → Type 0

@@ -13,7 +13,7 @@ ghost use Rattle.index.specs.Edges.{PairAt, ThreeAt, parentOf, otherOf, edgeAt}
 ghost use Rattle.index.specs.Indexed.{Indexed};
 ghost use Rattle.clause.specs.Templates.{rows, cell};
 ghost use Rattle.clause.specs.Literals.{literals};
-ghost use Rattle.clause.specs.Coded.{tail, gOf, Valued, statesOf, Coded};
+ghost use Rattle.clause.specs.Coded.{tail, gOf, Valued, placeOf, statesOf, Coded};
 ghost use Rattle.clause.specs.Classed.{keptBy, Classed};
 
 // A clause: how many literals it has, 0 to 3, and which.
@@ -171,22 +171,44 @@ fn value(work: &[u16], l: u16) -> usize
     work[TRAIL + (VALUES + l as usize)] as usize
 }
 
-// What the clauses of a node's literal of a sign come to: a code of nine by the values of two operands, or of 27 by those of three.
+// The place of a node's literal of a sign by the values of the first two operands: each row has nine.
+fn place(x: &[u16], n: usize, work: &[u16], node: usize, sign: usize) -> usize
+    requires { ⌜ Indexed (now x) n ⌝ }
+    requires { ⌜ (node < n) × (sign < 2) ⌝ }
+    requires { ⌜ (32768 ≤ length (now work)) × Valued (tail (now work)) ⌝ }
+    ensures { λ r. ⌜ r ≡ placeOf (indexNode (now (x .entry)) node) sign (gOf (now (work .entry))) ⌝ }
+{
+    let a = value(work, x[4 * node + 1]);
+    let b = value(work, x[4 * node + 2]);
+    let row = row_of(x, n, node, sign);
+    9 * row + (3 * a + b)
+}
+
+// What the clauses of the literal come to, where the node has three operands: a code of 27 by their values.
+pub fn code_of_three(x: &[u16], n: usize, work: &[u16], node: usize, sign: usize) -> u16
+    requires { ⌜ Indexed (now x) n ⌝ }
+    requires { ⌜ (node < n) × (sign < 2) ⌝ }
+    requires { ⌜ 6 < indexNode (now x) node .kind ⌝ }
+    requires { ⌜ (32768 ≤ length (now work)) × Valued (tail (now work)) × Good n (gOf (now work)) ⌝ }
+    ensures { λ r. ⌜ Coded (indexNode (now (x .entry)) node) (statesOf (indexNode (now (x .entry))) (gOf (now (work .entry))) (2 * node + sign)) r ⌝ }
+{
+    let i = place(x, n, work, node, sign);
+    let c = value(work, x[4 * node + 3]);
+    x[CODES_AT + (3 * i + c - 2 * PAIR_CODES)]
+}
+
+// The same for any node: a code of nine by the values of two operands, or one of 27.
 pub fn code(x: &[u16], n: usize, work: &[u16], node: usize, sign: usize) -> u16
     requires { ⌜ Indexed (now x) n ⌝ }
     requires { ⌜ (node < n) × (sign < 2) ⌝ }
     requires { ⌜ (32768 ≤ length (now work)) × Valued (tail (now work)) × Good n (gOf (now work)) ⌝ }
     ensures { λ r. ⌜ Coded (indexNode (now (x .entry)) node) (statesOf (indexNode (now (x .entry))) (gOf (now (work .entry))) (2 * node + sign)) r ⌝ }
 {
-    let a = value(work, x[4 * node + 1]);
-    let b = value(work, x[4 * node + 2]);
-    let row = row_of(x, n, node, sign);
-    let i = 9 * row + (3 * a + b);
+    let i = place(x, n, work, node, sign);
     if i < PAIR_CODES {
         return x[CODES_AT + i];
     }
-    let c = value(work, x[4 * node + 3]);
-    x[CODES_AT + (3 * i + c - 2 * PAIR_CODES)]
+    code_of_three(x, n, work, node, sign)
 }
 
 // ---- edges
@@ -213,7 +235,7 @@ pub fn other(x: &[u16], n: usize, node: usize, k: usize) -> u16
 pub fn parent_of_three(x: &[u16], n: usize, node: usize, k: usize) -> usize
     requires { ⌜ Indexed (now x) n ⌝ }
     requires { ⌜ (node < n) × ThreeAt (now x) node k ⌝ }
-    ensures { λ r. ⌜ (r ≡ edgeAt (now (x .entry)) k) × (r < n) ⌝ }
+    ensures { λ r. ⌜ (r ≡ edgeAt (now (x .entry)) k) × (r < n) × (6 < indexNode (now (x .entry)) r .kind) ⌝ }
 {
     x[EDGES + k] as usize
 }

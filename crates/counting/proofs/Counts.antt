@@ -2,11 +2,9 @@
 use mathlib.Core.Path.{_≡_, refl, sym, ap, _∙_}
 use mathlib.Core.Bool.{cond}
 use mathlib.Core.List.{List, [], _∷_}
-use Prim.Native.Nat.{ℕ, zero, suc, _+_, _-_, _<_, _≤_}
+use Prim.Native.Nat.{ℕ, suc, _+_, _-_, _<_, _≤_}
 use native.Mathlib.Omega.{arith}
-use lib.Dec.{eqb}
 use lib.ListN.{length, getD, length-append}
-use borrow.Author.Tests.{ne-eqb}
 use Rattle.scope.specs.declared.Node.{Node}
 use Rattle.calculus.specs.Expansion.{neg, expand}
 use Rattle.calculus.specs.Order.{Value, holds, fails, undecided, valueOf, State, met, empty, one, many, opened, joined, stateOf, clauses, move, tree}
@@ -22,16 +20,13 @@ use Rattle.rules.specs.declared.Version.the-variants.{One, Two}
 use Rattle.rules.specs.Steps.{U, R, C}
 use Rattle.rules.specs.Rules.{isFails}
 use Rattle.rules.specs.Derivation.{removals, removed, stepsOf}
-use Rattle.clause.specs.declared.Clause.{Clause}
-use Rattle.clause.specs.Literals.{literals}
 use Rattle.state.specs.Work.{gOf}
 use Rattle.state.specs.Holds.{Holds}
-use Rattle.moves.specs.Place.{placeNumber, Placed, Reasoned}
 use Rattle.searching.specs.Search.{Searched}
 use Rattle.searching.specs.declared.Stop.the-variants.{Closed as Shut, Model as Ends, Fork}
 use Rattle.searching.specs.declared.Found.the-variants.{Model}
 use Rattle.searching.proofs.Searches.{tree-conflict, tree-unit, tree-split, fuel, Run, run-starts, run-looked, run-conflict, run-done, run-split, run-room, run-unit, shut-open, shut-fork, open-fork, stopped-closed, stopped-model, left-model, right-searched}
-use Rattle.counting.specs.Count.{atMost, stepCount, sizeIn, Sized, SizedIn, Advanced, foundBy, Tallied}
+use Rattle.counting.specs.Count.{atMost, stepCount, sizeIn, SizedIn, Advanced, foundBy, Tallied}
 use Rattle.counting.specs.declared.Told.{Told}
 use Rattle.counting.specs.declared.Tally.{Tally}
 use Rattle.counting.specs.declared.Tally.the-variants.{Open, Closed}
@@ -113,39 +108,6 @@ module _ (v : Version) (t : ℕ → Node) (n : ℕ) (goals G : List ℕ) where
         let right : List Step = stepsOf v (expand t) goals (neg l ∷ G) (tree (expand t) goals (n - suc (length G)) (neg l ∷ G)) in
         rw (fuel t goals G n h, tree-split t goals G (n - suc (length G)) e)
         (omega (arith, length-append left right))
-
--- ---- the size of a clause
-
-module _ {t : ℕ → Node} {n : ℕ} {goals w : List ℕ} {c : Clause} (q : Reasoned t n goals w c) where
-  sized-as : {r : ℕ} → r ≡ length (literals c) → r ≤ 3 → Sized t goals (gOf w) (placeNumber w) r
-  sized-as e h = record { size = e ∙ ap length (q .clause); low = h }
-
-  pub sized-small : c .len < 3 → Sized t goals (gOf w) (placeNumber w) (c .len)
-  sized-small h = sized-as (go (c .len) h) (omega (arith, h))
-    where
-      go : (m : ℕ) → m < 3
-          → m ≡ length (cond (eqb m 0) [] (cond (eqb m 1) (c .first ∷ []) (cond (eqb m 2) (c .first ∷ c .second ∷ []) (c .first ∷ c .second ∷ c .third ∷ []))))
-      go zero i = refl
-      go (suc zero) i = refl
-      go (suc (suc zero)) i = refl
-      go (suc (suc (suc m))) i = absurd (omega arith)
-
-  pub sized-three : 3 ≤ c .len → Sized t goals (gOf w) (placeNumber w) 3
-  sized-three h =
-      sized-as (simp (ne-eqb (c .len) 0 (λ e. omega (arith, e, h)), ne-eqb (c .len) 1 (λ e. omega (arith, e, h)), ne-eqb (c .len) 2 (λ e. omega (arith, e, h))))
-      (omega arith)
-
--- in a version
-pub sized-one : {v : Version} {t : ℕ → Node} {goals G : List ℕ} {k r : ℕ} (free : ℕ) → v ≡ One → Sized t goals G k r → SizedIn v t goals G k free r
-sized-one free e z = rw e (record { size = z .size; low = z .low })
-
-pub sized-two : {v : Version} {t : ℕ → Node} {goals G : List ℕ} {k : ℕ} (free : ℕ) → v ≡ Two → free ≤ 1 → SizedIn v t goals G k free free
-sized-two free e h = rw e (record { size = refl; low = omega arith })
-
--- of the clause that the move looked up is on
-pub sized-on : {v : Version} {t : ℕ → Node} {goals w : List ℕ} {k free r : ℕ} → Placed t goals w k → SizedIn v t goals (gOf w) (placeNumber w) free r
-    → SizedIn v t goals (gOf w) k free r
-sized-on p z = rw (p .number) at z
 
 -- ---- the units
 

@@ -1,2 +1,3 @@
 -- Laws of counting, for the proofs of the functions. Assumes nothing.
+pub mod Sizes
 pub mod Counts

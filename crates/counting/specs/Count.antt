@@ -7,6 +7,7 @@ use lib.ListN.{length, getD}
 use Rattle.scope.specs.declared.Node.{Node}
 use Rattle.calculus.specs.Expansion.{neg, expand}
 use Rattle.calculus.specs.Order.{clauses, tree}
+use Rattle.calculus.specs.Model.{All}
 -- the count stops at its limit; the search goes on, since 30, 'goal possible', is checked before 31, 'more bytes needed'
 pub use Rattle.calculus.specs.Count.{atMost}
 use Rattle.rules.specs.declared.Step.{Step}
@@ -29,6 +30,11 @@ stepsFrom v t n goals G = stepsOf v (expand t) goals G (tree (expand t) goals (n
 
 abbrev pub stepCount : Version → (ℕ → Node) → ℕ → List ℕ → List ℕ → ℕ
 stepCount v t n goals G = length (stepsFrom v t n goals G)
+
+-- each clause of a literal has r literals, at most three
+pub record Lengths (t : ℕ → Node) (l r : ℕ) : Type 0 where
+  pub all : All (λ c. length c ≡ r) (expand t l)
+  pub low : r ≤ 3
 
 -- how many literals clause k has, at most three
 pub record Sized (t : ℕ → Node) (goals G : List ℕ) (k r : ℕ) : Type 0 where

@@ -13,6 +13,9 @@ ghost use Rattle.index.specs.Index.{indexNode};
 ghost use Rattle.index.specs.Indexed.{Indexed};
 ghost use Rattle.deriving.specs.Derives.{Produced, Derives};
 
+// No unit is the next move.
+const NO_UNIT: u32 = 4294967295;
+
 // What derive answers.
 pub enum Derived {
     Steps(usize),
@@ -48,18 +51,7 @@ fn produce(
     let mut masks = [0u64; 33];
     solver::start(x, n, goals, work, &mut masks);
     let most = room(d.len());
-    let templates = clause::templates();
-    let tally = counting::count(
-        version,
-        &templates,
-        x,
-        n,
-        goals,
-        work,
-        &mut masks,
-        most + 1,
-        0,
-    );
+    let tally = counting::count(version, x, n, goals, work, &mut masks, most + 1, 0, NO_UNIT);
     match tally {
         Tally::Open => Derived::Refused(Refusal {
             number: 30,
@@ -74,6 +66,7 @@ fn produce(
                 });
             }
             solver::start(x, n, goals, work, &mut masks);
+            let templates = clause::templates();
             emitting::write(version, &templates, x, n, goals, work, &mut masks, d);
             Derived::Steps(steps)
         }

@@ -23,6 +23,7 @@ ghost use Rattle.clause.specs.Templates.{rows};
 ghost use Rattle.clause.specs.Literals.{literals};
 ghost use Rattle.state.specs.Work.{tail, gOf, Ready, Numbered};
 ghost use Rattle.state.specs.Holds.{Holds};
+ghost use Rattle.state.specs.Picked.{Picks};
 ghost use Rattle.moves.specs.Place.{placeNumber, Placed};
 ghost use Rattle.gather.specs.Kept.{lent, Space, Pushed};
 ghost use Rattle.counting.specs.Count.{stepsFrom};
@@ -118,7 +119,20 @@ fn on_clause(
     gather::add_move(out, block, at, rule, k, bits)
 }
 
-// The moves up to a conflict or a split, with their steps.
+// The step of a split on a literal.
+fn on_split(out: &mut [u8], block: &mut [u8; 512], at: At, l: u16) -> At
+    requires { ⌜ Space 1 (now out) (lent (now block) at) ⌝ }
+    ensures { λ r. ⌜ Pushed (step 83 0 l ∷ []) (now (out .entry)) (lent (now (block .entry)) at) (now (out .exit)) (lent (now (block .exit)) r) ⌝ }
+{
+    let s = Step {
+        rule: 83,
+        position: 0,
+        value: l,
+    };
+    gather::add(out, block, at, s)
+}
+
+// The moves up to a conflict or a split, with their steps. `first` is the unit that is the next move, or NO_UNIT.
 fn phase(
     version: Version,
     templates: &[[u8; 9]; 18],
@@ -130,32 +144,23 @@ fn phase(
     out: &mut [u8],
     block: &mut [u8; 512],
     start: At,
+    first: u32,
 ) -> Told
     requires { ⌜ now templates ≡ rows ⌝ }
     requires { ⌜ Indexed (now x) n ⌝ }
     requires { ⌜ Goals n (now goals) ⌝ }
     requires { ⌜ Holds (indexNode (now x)) n (now goals) (now work) (now masks) ⌝ }
     requires { ⌜ Due version (indexNode (now x)) n (now goals) (gOf (now work)) (now out) (lent (now block) start) ⌝ }
+    requires { ⌜ Picks (now work) (now masks) first ⌝ }
     ensures { λ r. ⌜ Stepped version (indexNode (now (x .entry))) n (now (goals .entry)) (now (work .entry)) (now (work .exit)) (now (masks .exit)) (now (out .entry)) (now (out .exit)) (lent (now (block .entry)) start) (lent (now (block .exit)) (r .at)) (r .turn) ⌝ }
 {
     let mut at = start;
-    let mut u = moves::pick(work, masks);
+    let mut u = first;
     loop {
         if u != NO_UNIT {
             let f = moves::unit_move(x, n, goals, work, masks, u);
-            at = on_clause(
-                version,
-                templates,
-                x,
-                n,
-                goals,
-                work,
-                out,
-                block,
-                at,
-                85,
-                f.number,
-            );
+            let k = f.number;
+            at = on_clause(version, templates, x, n, goals, work, out, block, at, 85, k);
             u = solver::join(x, n, goals, work, masks, u);
         } else {
             let m = moves::next_move(x, n, goals, work, masks);
@@ -179,16 +184,7 @@ fn phase(
                     };
                 }
                 Move::Split(l) => {
-                    at = gather::add(
-                        out,
-                        block,
-                        at,
-                        Step {
-                            rule: 83,
-                            position: 0,
-                            value: l,
-                        },
-                    );
+                    at = on_split(out, block, at, l);
                     return Told {
                         turn: Turn::Fork(l),
                         at,
@@ -199,7 +195,8 @@ fn phase(
     }
 }
 
-// The steps of a search that closes. The literals held stay held; what joined is taken back only before a right branch.
+// The steps of a search that closes. The literals held stay held; what joined is taken back only before a right branch. `first` is the unit
+// that is the next move, or NO_UNIT.
 fn emit(
     version: Version,
     templates: &[[u8; 9]; 18],
@@ -211,26 +208,64 @@ fn emit(
     out: &mut [u8],
     block: &mut [u8; 512],
     at: At,
+    first: u32,
 ) -> At
     requires { ⌜ now templates ≡ rows ⌝ }
     requires { ⌜ Indexed (now x) n ⌝ }
     requires { ⌜ Goals n (now goals) ⌝ }
     requires { ⌜ Holds (indexNode (now x)) n (now goals) (now work) (now masks) ⌝ }
     requires { ⌜ Due version (indexNode (now x)) n (now goals) (gOf (now work)) (now out) (lent (now block) at) ⌝ }
+    requires { ⌜ Picks (now work) (now masks) first ⌝ }
     ensures { λ r. ⌜ Emitted version (indexNode (now (x .entry))) n (now (goals .entry)) (now (work .entry)) (now (work .exit)) (now (masks .exit)) (now (out .entry)) (now (out .exit)) (lent (now (block .entry)) at) (lent (now (block .exit)) r) ⌝ }
 {
-    let a = phase(version, templates, x, n, goals, work, masks, out, block, at);
+    let a = phase(
+        version,
+        templates,
+        x,
+        n,
+        goals,
+        work,
+        masks,
+        out,
+        block,
+        at,
+        first,
+    );
     let turn = a.turn;
     let p = a.at;
     match turn {
         Turn::Closed => p,
         Turn::Fork(l) => {
             let held = state::count(work);
-            solver::assume(x, n, goals, work, masks, l);
-            let b = emit(version, templates, x, n, goals, work, masks, out, block, p);
+            let left = solver::branch(x, n, goals, work, masks, l);
+            let b = emit(
+                version,
+                templates,
+                x,
+                n,
+                goals,
+                work,
+                masks,
+                out,
+                block,
+                p,
+                left,
+            );
             solver::undo_to(x, n, goals, work, masks, held);
-            solver::assume(x, n, goals, work, masks, clause::negated(l));
-            emit(version, templates, x, n, goals, work, masks, out, block, b)
+            let right = solver::branch(x, n, goals, work, masks, clause::negated(l));
+            emit(
+                version,
+                templates,
+                x,
+                n,
+                goals,
+                work,
+                masks,
+                out,
+                block,
+                b,
+                right,
+            )
         }
     }
 }
@@ -269,6 +304,7 @@ fn push_steps(
         out,
         &mut w.block,
         start,
+        NO_UNIT,
     );
     w.count = at.count;
     w.blocks = at.blocks;

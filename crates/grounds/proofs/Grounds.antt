@@ -2,29 +2,27 @@
 use mathlib.Core.Path.{_≡_, refl, sym, ap, ap₂, _∙_, fun-ext}
 use mathlib.Core.List.{List, [], _∷_, map}
 use mathlib.Core.Bool.{Bool, true, false, cond, _||_}
-use Prim.Native.Nat.{ℕ, suc, _+_, _-_, _*_, _/_, _%_, _<_, _≤_}
+use Prim.Native.Nat.{ℕ, suc, _+_, _-_, _*_, _/_, _%_, _<_}
 use native.Mathlib.Omega.{arith}
 use lib.Dec.{eqb}
 use lib.ListN.{getD}
-use borrow.Author.Tests.{lt-ltb, le-ltb}
 use Rattle.scope.specs.declared.Node.{Node}
 use Rattle.scope.specs.Table.{operands}
 use Rattle.calculus.specs.Expansion.{neg, chosen, expand}
 use Rattle.calculus.specs.Order.{Value, holds, fails, undecided, valueOf, State, met, opened, joined, stateOf, clauses}
-use Rattle.calculus.specs.Model.{All, Below, Table, Goals}
-use Rattle.calculus.specs.Jump.{Rests, nothing, both, restOf, falseRest, originRest, clauseRest}
+use Rattle.calculus.specs.Model.{All, Below, Table}
+use Rattle.calculus.specs.Jump.{Rests, both, restOf, falseRest, originRest, clauseRest}
 use Rattle.calculus.proofs.Fresh.{expand-under}
 use Rattle.calculus.proofs.Lists.{all-at, all-imply}
 use Rattle.trail.specs.Trail.{Trail, held}
 use Rattle.trail.proofs.Trails.{trail-length}
-use Rattle.state.specs.Work.{tail, litAt, entryOf, baseOf, gOf, placeOf, Ready, Numbered}
+use Rattle.state.specs.Work.{tail, litAt, entryOf, baseOf, gOf, Ready, Numbered}
 use Rattle.state.proofs.Areas.{held-below}
-use Rattle.state.proofs.Clauses.{at-goal, at-position}
-use Rattle.moves.specs.Place.{goalsAt, placeNumber, Placed}
+use Rattle.state.proofs.Clauses.{at-position}
 use Rattle.rests.specs.Words.{restAt, Put, Sets, heldOf}
 use Rattle.rests.proofs.Held.{held-literals}
-use Rattle.grounds.specs.Ground.{slotOf, operandsIn, over, Room, Unmet, Grounded}
-use Rattle.grounds.proofs.Slots.{before-suc, origin-position, origin-goal, false-slot}
+use Rattle.grounds.specs.Ground.{operandsIn, over, Room, Unmet, Grounded}
+use Rattle.grounds.proofs.Slots.{before-suc, origin-position, false-slot}
 use Rattle.grounds.proofs.Puts.{put-as}
 use Rattle.grounds.proofs.Rows.{choices, chosen-clause, choices-in}
 
@@ -74,96 +72,50 @@ module _ (n : ℕ) (r : ℕ → ℕ) (m : List ℕ) (h : Trail n r) (s : Sets m)
       ∙ ap₂ both (false-slot n r m h s (chosen y c) (b .0) (u .0) ∙ ap (λ (p : ℕ). restAt m ((entryOf r p + 1) / 2)) (chosen-node y c))
       (false-over cs (b .1) (u .1))
 
--- ---- the clause at the place that is kept
+-- ---- clause j of the literal at position q
 
-module _ {t : ℕ → Node} {n : ℕ} {goals w : List ℕ} (R : Ready n w) (N : Numbered t goals (tail w)) (P : Placed t goals w (placeNumber w))
-    (m : List ℕ) (to : ℕ) (g : Grounded t goals w m to) where
+module _ {t : ℕ → Node} {n q j to : ℕ} {goals w m : List ℕ} (R : Ready n w) (N : Numbered t goals (tail w)) (g : Grounded t goals w m q j to) where
   pub room : Room w m to
   room = record { sets = g .sets; past = omega (arith, trail-length (tail w 0) (tail w), g .past); there = g .there }
 
-  -- what its literals rest on, and the literal that gave it
-  abbrev clause : List ℕ
-  clause = getD (clauses (expand t) goals (gOf w)) (placeNumber w) []
+  abbrev l : ℕ
+  l = litAt (tail w) q
 
-  clause-set : (c : List ℕ) (o : Rests) → clause ≡ c → originRest (expand t) goals (heldOf m (gOf w)) (placeNumber w) ≡ o
-      → both (falseRest (heldOf m (gOf w)) c) o ≡ clauseRest (expand t) goals (heldOf m (gOf w)) (placeNumber w)
-  clause-set c o e d =
-      ap₂ both (ap (falseRest (heldOf m (gOf w))) (sym e)
-      ∙ ap (λ (G : List ℕ). falseRest (heldOf m (gOf w)) (getD (clauses (expand t) goals G) (placeNumber w) [])) (sym (held-literals m (gOf w)))) (sym d)
+  -- its number
+  abbrev k : ℕ
+  k = baseOf (tail w) q + j
 
-  -- of the literal at a position
-  module _ (z : placeOf w < goalsAt) where
-    abbrev q : ℕ
-    q = placeOf w / 4
+  clause-is : getD (clauses (expand t) goals (gOf w)) k [] ≡ getD (expand t l) j []
+  clause-is = rw (N q (omega (arith, g .held))) (at-position t goals (tail w) q (tail w 0) j (g .held) (g .column))
 
-    abbrev l : ℕ
-    l = litAt (tail w) q
+  gave-it : originRest (expand t) goals (heldOf m (gOf w)) k ≡ restAt m (q + 1)
+  gave-it =
+      let b = N q (omega (arith, g .held)) in
+      let e : q + 1 ≡ suc q = omega arith in
+      rw e
+      (origin-position (tail w) m (expand t) goals (tail w 0) q k (g .held) (omega (arith, b))
+      (omega (arith, b, before-suc (tail w) m (expand t) goals q, g .column)))
 
-    abbrev j : ℕ
-    j = placeOf w % 4
+  module _ (T : Table n t) where
+    known : t (l / 2) .kind < 9
+    known = T .kinds (l / 2) (omega (arith, held-below R q (g .held))) .1
 
-    clause-position : clause ≡ getD (expand t l) j []
-    unfolding placeNumber
-    clause-position =
-        rw (lt-ltb (placeOf w) goalsAt z, N q (omega (arith, P .held z)))
-        (at-position t goals (tail w) q (tail w 0) j (P .held z) (P .column z))
+    below : Below n (getD (expand t l) j [])
+    below =
+        let b = held-below R q (g .held) in
+        all-imply (λ i. i / 2 < l / 2) (λ i. i < 2 * n) (λ i y. omega (arith, y, b)) (getD (expand t l) j [])
+        (all-at (All (λ i. i / 2 < l / 2)) (expand t l) j [] (expand-under n t T l b) (g .column))
 
-    gave-position : originRest (expand t) goals (heldOf m (gOf w)) (placeNumber w) ≡ restAt m (q + 1)
-    unfolding placeNumber
-    gave-position =
-        let b = N q (omega (arith, P .held z)) in
-        let e : q + 1 ≡ suc q = omega arith in
-        rw (lt-ltb (placeOf w) goalsAt z, e)
-        (origin-position (tail w) m (expand t) goals (tail w 0) q (baseOf (tail w) q + j) (P .held z) (omega (arith, b))
-        (omega (arith, b, before-suc (tail w) m (expand t) goals q, P .column z)))
+    -- what its literals rest on, and the literal that gave it
+    over-clause : over m (tail w) (t (l / 2)) (restAt m (q + 1)) (operandsIn t l j) ≡ clauseRest (expand t) goals (heldOf m (gOf w)) k
+    over-clause =
+        let cs = choices t l j known (g .column) in
+        let e = chosen-clause t l j known (g .column) in
+        ap (over m (tail w) (t (l / 2)) (restAt m (q + 1))) (sym (choices-in t l j known (g .column)))
+        ∙ sym (false-over n (tail w) m (R .trail) (g .sets) (t (l / 2)) (restAt m (q + 1)) cs (rw e at below) (rw (clause-is, e) at (g .unmet)))
+        ∙ ap₂ both (ap (falseRest (heldOf m (gOf w))) (sym (clause-is ∙ e))
+        ∙ ap (λ (G : List ℕ). falseRest (heldOf m (gOf w)) (getD (clauses (expand t) goals G) k [])) (sym (held-literals m (gOf w)))) (sym gave-it)
 
-    module _ (T : Table n t) where
-      known : t (l / 2) .kind < 9
-      known = T .kinds (l / 2) (omega (arith, held-below R q (P .held z))) .1
-
-      below : Below n (getD (expand t l) j [])
-      below =
-          let b = held-below R q (P .held z) in
-          all-imply (λ k. k / 2 < l / 2) (λ k. k < 2 * n) (λ k y. omega (arith, y, b)) (getD (expand t l) j [])
-          (all-at (All (λ k. k / 2 < l / 2)) (expand t l) j [] (expand-under n t T l b) (P .column z))
-
-      over-clause : over m (tail w) (t (l / 2)) (restAt m (q + 1)) (operandsIn t l j)
-          ≡ clauseRest (expand t) goals (heldOf m (gOf w)) (placeNumber w)
-      over-clause =
-          let cs = choices t l j known (P .column z) in
-          let e = chosen-clause t l j known (P .column z) in
-          ap (over m (tail w) (t (l / 2)) (restAt m (q + 1))) (sym (choices-in t l j known (P .column z)))
-          ∙ sym (false-over n (tail w) m (R .trail) (g .sets) (t (l / 2)) (restAt m (q + 1)) cs (rw e at below) (rw (clause-position, e) at (g .unmet)))
-          ∙ clause-set (map (chosen (t (l / 2))) cs) (restAt m (q + 1)) (clause-position ∙ e) gave-position
-
-      pub put-held : {m′ : List ℕ} → Put m to (over m (tail w) (t (l / 2)) (restAt m (q + 1)) (operandsIn t l j)) m′
-          → Put m to (clauseRest (expand t) goals (heldOf m (gOf w)) (placeNumber w)) m′
-      put-held u = put-as over-clause u
-
-  -- of a goal
-  module _ (z : goalsAt ≤ placeOf w) (gs : Goals n goals) where
-    abbrev k : ℕ
-    k = placeOf w - goalsAt
-
-    pub goal-below : getD goals k 0 < 2 * n
-    goal-below = all-at (λ l. l < 2 * n) goals k 0 (gs .below) (P .goal z)
-
-    clause-goal : clause ≡ getD goals k 0 ∷ []
-    unfolding placeNumber
-    clause-goal = rw (le-ltb (placeOf w) goalsAt z) (at-goal t goals (tail w) k (tail w 0) (P .goal z))
-
-    gave-none : originRest (expand t) goals (heldOf m (gOf w)) (placeNumber w) ≡ nothing
-    unfolding placeNumber
-    gave-none = rw (le-ltb (placeOf w) goalsAt z) (origin-goal (tail w) m (expand t) goals (tail w 0) k (P .goal z))
-
-    goal-clause : both (restAt m (slotOf (tail w) (getD goals k 0))) (restAt m 0) ≡ clauseRest (expand t) goals (heldOf m (gOf w)) (placeNumber w)
-    unfolding falseRest
-    goal-clause =
-        let u = rw clause-goal at (g .unmet) in
-        ap₂ both (sym (false-slot n (tail w) m (R .trail) (g .sets) (getD goals k 0) goal-below (u .0))) (g .sets .none)
-        ∙ sym (both-assoc (restOf (heldOf m (gOf w)) (neg (getD goals k 0))) nothing nothing)
-        ∙ clause-set (getD goals k 0 ∷ []) nothing clause-goal gave-none
-
-    pub put-goal : {m′ : List ℕ} → Put m to (both (restAt m (slotOf (tail w) (getD goals k 0))) (restAt m 0)) m′
-        → Put m to (clauseRest (expand t) goals (heldOf m (gOf w)) (placeNumber w)) m′
-    put-goal u = put-as goal-clause u
+    pub put-held : {m′ : List ℕ} → Put m to (over m (tail w) (t (l / 2)) (restAt m (q + 1)) (operandsIn t l j)) m′
+        → Put m to (clauseRest (expand t) goals (heldOf m (gOf w)) k) m′
+    put-held u = put-as over-clause u

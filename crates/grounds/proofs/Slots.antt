@@ -6,7 +6,7 @@ use Prim.Native.Nat.{ℕ, zero, suc, _+_, _-_, _*_, _/_, _%_, _<_, _≤_}
 use native.Mathlib.Omega.{arith}
 use native.Mathlib.Decide.{ℕ-discrete}
 use lib.Dec.{eqb}
-use lib.ListN.{length, length-append, length-map}
+use lib.ListN.{length, length-append}
 use borrow.Author.Tests.{eq-eqb, ne-eqb, lt-ltb, le-ltb}
 use Rattle.scope.proofs.Tests.{or-left, or-right}
 use Rattle.calculus.specs.Expansion.{neg}
@@ -45,10 +45,6 @@ module _ (r : ℕ → ℕ) (m : List ℕ) where
     abbrev pub before : ℕ → ℕ
     before q = length (clauses expand goals (trail q r))
 
-    before-goals : before 0 ≡ length goals
-    unfolding trail clauses
-    before-goals = length-map goals (_∷ [])
-
     pub before-suc : (q : ℕ) → before (suc q) ≡ before q + length (expand (litAt r q))
     unfolding trail clauses
     before-suc q = length-append (clauses expand goals (trail q r)) (expand (litAt r q))
@@ -73,13 +69,6 @@ module _ (r : ℕ → ℕ) (m : List ℕ) where
             → originRest expand goals (heldOf m (trail (suc q) r)) k ≡ restAt m (suc p)
         go (yes e) ih = rw (held-literals m (trail q r), le-ltb k (before q) (rw e at a), e, trail-length q r)
         go (no e) ih = rw (held-literals m (trail q r), lt-ltb k (before q) (omega (arith, b, before-more (suc p) q (omega arith)))) (ih (omega arith))
-
-    -- those of the goals rest on nothing
-    pub origin-goal : (q k : ℕ) → k < length goals → originRest expand goals (heldOf m (trail q r)) k ≡ nothing
-    unfolding heldOf originRest trail
-    origin-goal zero k h = refl
-    origin-goal (suc q) k h =
-        rw (held-literals m (trail q r), lt-ltb k (before q) (omega (arith, before-goals, before-more 0 q (omega arith)))) (origin-goal q k h)
 
 -- ---- a literal that is not true: what its negation rests on, by its node's entry
 

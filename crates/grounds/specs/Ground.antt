@@ -1,4 +1,4 @@
--- What the clause of the last move rests on: the slots of its literals and of the literal that gave it. Assumes nothing.
+-- What the clause of a unit or a conflict rests on: the slots of its literals and of the literal that gave it. Assumes nothing.
 use mathlib.Core.Path.{_≡_}
 use mathlib.Core.Bool.{cond}
 use mathlib.Core.List.{List, [], _∷_}
@@ -11,8 +11,7 @@ use Rattle.calculus.specs.Expansion.{expand}
 use Rattle.calculus.specs.Order.{holds, valueOf, clauses}
 use Rattle.calculus.specs.Model.{All}
 use Rattle.calculus.specs.Jump.{Rests, both}
-use Rattle.state.specs.Work.{tail, gOf, entryOf}
-use Rattle.moves.specs.Place.{placeNumber}
+use Rattle.state.specs.Work.{tail, gOf, litAt, entryOf, baseOf}
 use Rattle.rests.specs.Words.{restAt, There, Sets}
 
 -- the slot of a node's literal: 1 + its position, or 0 where neither literal is held
@@ -49,9 +48,11 @@ pub record Room (w m : List ℕ) (to : ℕ) : Type 0 where
 abbrev pub Unmet : List ℕ → List ℕ → Type 0
 Unmet G c = All (λ l. valueOf G l ≡ holds → ⊥) c
 
--- the clause at the place that is kept has no true literal, and `to` is a slot past those of the literals held
-pub record Grounded (t : ℕ → Node) (goals w m : List ℕ) (to : ℕ) : Type 0 where
+-- position q has a clause j, with no true literal, and `to` is a slot past those of the literals held
+pub record Grounded (t : ℕ → Node) (goals w m : List ℕ) (q j to : ℕ) : Type 0 where
   pub sets : Sets m
-  pub unmet : Unmet (gOf w) (getD (clauses (expand t) goals (gOf w)) (placeNumber w) [])
+  pub held : q < tail w 0
+  pub column : j < length (expand t (litAt (tail w) q))
+  pub unmet : Unmet (gOf w) (getD (clauses (expand t) goals (gOf w)) (baseOf (tail w) q + j) [])
   pub past : length (gOf w) < to
   pub there : There m to

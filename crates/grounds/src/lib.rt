@@ -1,23 +1,15 @@
-// What the clause of the last move, a unit or a conflict, rests on: what its false literals do, and the literal whose expansion gave it.
+// What the clause of a unit or a conflict rests on: what its false literals do, and the literal whose expansion gave it.
 ghost use mathlib.Core.Path.{_≡_};
 ghost use Prim.Native.Nat.{_+_, _*_, _/_, _<_, _≤_};
 ghost use lib.ListN.{length};
 ghost use Rattle.scope.specs.Table.{arity};
 ghost use Rattle.calculus.specs.Expansion.{expand};
-ghost use Rattle.calculus.specs.Model.{Goals};
 ghost use Rattle.calculus.specs.Jump.{clauseRest};
 ghost use Rattle.index.specs.Index.{mostNodes, indexNode};
 ghost use Rattle.index.specs.Indexed.{Indexed};
-ghost use Rattle.state.specs.Work.{area, tail, litAt, placeOf, gOf, Ready, Numbered};
-ghost use Rattle.moves.specs.Place.{placeNumber, Placed};
+ghost use Rattle.state.specs.Work.{area, tail, litAt, baseOf, gOf, Ready, Numbered};
 ghost use Rattle.rests.specs.Words.{restAt, Put, heldOf};
 ghost use Rattle.grounds.specs.Ground.{slotOf, upTo, operandsIn, over, Room, Grounded};
-
-// The cell of the work area that has the place of the last move's clause.
-const PLACE: usize = 3;
-
-// The places of the goals' clauses; before them stand four for each position.
-const GOALS: usize = 8064;
 
 // The rows, 2 * kind + sign, whose clauses have one literal each, that of operand j in clause j: AND, OR negated, IMP negated, AND of three
 // and OR of three negated. Each clause of the other rows has all operands.
@@ -79,40 +71,21 @@ fn put_position(x: &[u16], n: usize, work: &[u16], rests: &mut [u64], to: usize,
     put_all(x, n, work, rests, to, q, node);
 }
 
-// What the clause of the last move rests on is put at slot `to`; its place is given.
-pub fn put_at(
+// What clause j of the literal at position q, which has no true literal, rests on is put at slot `to`.
+pub fn put_clause(
     x: &[u16],
     n: usize,
     goals: &[u16],
     work: &[u16],
     rests: &mut [u64],
     to: usize,
-    place: usize,
+    q: usize,
+    j: usize,
 )
     requires { ⌜ Indexed (now x) n ⌝ }
-    requires { ⌜ Goals n (now goals) ⌝ }
     requires { ⌜ Ready n (now work) × Numbered (indexNode (now x)) (now goals) (tail (now work)) ⌝ }
-    requires { ⌜ Placed (indexNode (now x)) (now goals) (now work) (placeNumber (now work)) ⌝ }
-    requires { ⌜ Grounded (indexNode (now x)) (now goals) (now work) (now rests) to ⌝ }
-    requires { ⌜ place ≡ placeOf (now work) ⌝ }
-    ensures { λ _. ⌜ Put (now (rests .entry)) to (clauseRest (expand (indexNode (now (x .entry)))) (now (goals .entry)) (heldOf (now (rests .entry)) (gOf (now (work .entry)))) (placeNumber (now (work .entry)))) (now (rests .exit)) ⌝ }
+    requires { ⌜ Grounded (indexNode (now x)) (now goals) (now work) (now rests) q j to ⌝ }
+    ensures { λ _. ⌜ Put (now (rests .entry)) to (clauseRest (expand (indexNode (now (x .entry)))) (now (goals .entry)) (heldOf (now (rests .entry)) (gOf (now (work .entry)))) (baseOf (tail (now (work .entry))) q + j)) (now (rests .exit)) ⌝ }
 {
-    if place < GOALS {
-        put_position(x, n, work, rests, to, place / 4, place % 4);
-        return;
-    }
-    let a = slot(n, work, goals[place - GOALS]);
-    rests::put_both(rests, to, a, 0);
-}
-
-// What the clause of the last move rests on is put at slot `to`.
-pub fn put_clause(x: &[u16], n: usize, goals: &[u16], work: &[u16], rests: &mut [u64], to: usize)
-    requires { ⌜ Indexed (now x) n ⌝ }
-    requires { ⌜ Goals n (now goals) ⌝ }
-    requires { ⌜ Ready n (now work) × Numbered (indexNode (now x)) (now goals) (tail (now work)) ⌝ }
-    requires { ⌜ Placed (indexNode (now x)) (now goals) (now work) (placeNumber (now work)) ⌝ }
-    requires { ⌜ Grounded (indexNode (now x)) (now goals) (now work) (now rests) to ⌝ }
-    ensures { λ _. ⌜ Put (now (rests .entry)) to (clauseRest (expand (indexNode (now (x .entry)))) (now (goals .entry)) (heldOf (now (rests .entry)) (gOf (now (work .entry)))) (placeNumber (now (work .entry)))) (now (rests .exit)) ⌝ }
-{
-    put_at(x, n, goals, work, rests, to, work[PLACE] as usize);
+    put_position(x, n, work, rests, to, q, j);
 }

@@ -9,7 +9,7 @@ use lib.ListN.{length, getD, set, length-set}
 use lib.Seq.{getD-set-same, getD-set-other}
 use Rattle.scope.specs.declared.Node.{Node}
 use Rattle.index.specs.Index.{indexSize, mostNodes, mostEdges, firstAt, midAt, endAt, edgesAt}
-use Rattle.index.specs.Edges.{firstOf, midOf, endOf, edgeAt, parentOf, typeOf, otherOf, Pair}
+use Rattle.index.specs.Edges.{firstOf, midOf, endOf, edgeAt, parentOf, typeOf, otherOf, Pair, Triple}
 use Rattle.index.specs.Built.{Agree, is, pairsTo, threesTo, Starts}
 use Rattle.index.proofs.Sums.{is-own}
 use Rattle.index.proofs.Counts.{agree-same, each}
@@ -33,7 +33,7 @@ pub record Filled (t : ℕ → Node) (n : ℕ) (S u v : ℕ → ℕ) (D : ℕ �
   pub end : (m : ℕ) → m < n → endOf x m ≡ S m + (pairsTo t n m + v m)
   pub pairs : (m j : ℕ) → m < n → 2 * j < u m
       → Pair t n m (parentOf x (S m + 2 * j)) (typeOf x (S m + 2 * j)) (otherOf x (S m + 2 * j))
-  pub threes : (m j : ℕ) → m < n → j < v m → edgeAt x (S m + (pairsTo t n m + j)) < n
+  pub threes : (m j : ℕ) → m < n → j < v m → Triple t n (edgeAt x (S m + (pairsTo t n m + j)))
   pub has : (m q : ℕ) → m < n → D m q → Has t n S u v x m q
 
 -- the same said otherwise
@@ -181,7 +181,7 @@ module _ {t : ℕ → Node} {n : ℕ} {S u v : ℕ → ℕ} {D : ℕ → ℕ →
             subst (λ (i : ℕ). Has t n S u′ v x₃ i q) (sym a) (inl (j, omega (arith, is-own l), ap (parentOf x₃) z ∙ ap (_% 2048) new-edge ∙ c ∙ sym b))
 
   -- ---- an edge of one number
-  module _ (room : v (l / 2) + 1 ≤ W (l / 2)) (low : p < n) where
+  module _ (room : v (l / 2) + 1 ≤ W (l / 2)) (new : Triple t n p) where
     abbrev c : ℕ
     c = endOf x (l / 2)
 
@@ -239,18 +239,18 @@ module _ {t : ℕ → Node} {n : ℕ} {S u v : ℕ → ℕ} {D : ℕ → ℕ →
           each l (λ m w. m < n → endOf z₂ m ≡ S m + (L m + (v m + w))) (λ b. new-end ∙ omega (arith, c-is))
           (λ m d b. besides (endAt + m) (λ q. d (omega (arith, q))) (λ q. omega (arith, q)) ∙ omega (arith, F .end m b));
       pairs = λ m j b f. rw (pair-remains m j (S m + 2 * j) b f (inl refl), pair-remains m j (S m + 2 * j + 1) b f (inr refl)) (F .pairs m j b f);
-      threes = λ m j. each l (λ m w. m < n → j < v m + w → edgeAt z₂ (S m + (L m + j)) < n) (λ b f. go j b f (decLt j (v (l / 2)))) (λ m d b f. kept m j b (omega (arith, f))) m;
+      threes = λ m j. each l (λ m w. m < n → j < v m + w → Triple t n (edgeAt z₂ (S m + (L m + j)))) (λ b f. go j b f (decLt j (v (l / 2)))) (λ m d b f. kept m j b (omega (arith, f))) m;
       has = λ m q b. ⊎-elim (λ d. old m q b (F .has m q b d)) (λ d. newly m q (d .0) (d .1));
     }
       where
-        kept : (m j : ℕ) → m < n → j < v m → edgeAt z₂ (S m + (L m + j)) < n
+        kept : (m j : ℕ) → m < n → j < v m → Triple t n (edgeAt z₂ (S m + (L m + j)))
         kept m j b f = rw (three-remains m j b f) (F .threes m j b f)
 
-        go : (j : ℕ) → l / 2 < n → j < v (l / 2) + 1 → Dec (j < v (l / 2)) → edgeAt z₂ (S (l / 2) + (L (l / 2) + j)) < n
+        go : (j : ℕ) → l / 2 < n → j < v (l / 2) + 1 → Dec (j < v (l / 2)) → Triple t n (edgeAt z₂ (S (l / 2) + (L (l / 2) + j)))
         go j b f (yes d) = kept (l / 2) j b d
         go j b f (no d) =
             let r : S (l / 2) + (L (l / 2) + j) ≡ c = omega (arith, c-is, f, d) in
-            omega (arith, ap (edgeAt z₂) r, new-three, low)
+            rw (r, new-three) new
 
         old : (m q : ℕ) → m < n → Has t n S u v x m q → Has t n S u v′ z₂ m q
         old m q b (inl (j, f, r)) = inl (j, f, ap (_% 2048) (pair-remains m j (S m + 2 * j) b f (inl refl)) ∙ r)

@@ -14,7 +14,7 @@ use Rattle.scope.specs.Table.{operands, nodeAt}
 use Rattle.scope.proofs.Operands.{operands-none, operands-two, operands-three}
 use Rattle.index.specs.Codes.{codesSize, classesSize}
 use Rattle.index.specs.Index.{indexSize, mostNodes, mostEdges, firstAt, midAt, endAt, edgesAt, codesAt, none, opNode, indexNode, Codes}
-use Rattle.index.specs.Edges.{firstOf, midOf, endOf, edgeAt, parentOf, typeOf, otherOf, operandOf, Pair, Parent, PairAt, ThreeAt, Edges}
+use Rattle.index.specs.Edges.{firstOf, midOf, endOf, edgeAt, parentOf, typeOf, otherOf, operandOf, Pair, Triple, Parent, PairAt, ThreeAt, Edges}
 use Rattle.index.specs.Built.{Same, Known, Agree, sum, pairsIn, threesIn, pairsTo, threesTo, startOf, Counted, Placed, putPair, putThree, putTwo, putAll, putNode, Room, Linked, Loaded, Copied, Classified, Built}
 use Rattle.index.proofs.Nodes.{node-same}
 use Rattle.index.proofs.Sums.{is-own, sum-next, total-low, apart, pairs-part, threes-part, brings-none, brings-two, brings-three}
@@ -249,15 +249,18 @@ module _ {t : ℕ → Node} {n p : ℕ} {S : ℕ → ℕ} {x : List ℕ} (few : 
     low-c : fits (t p .c)
     low-c = (rw three at (known p h)) .1 .1 .0
 
+    new : Triple t n p
+    new = record { low = h; kind = k }
+
     after-three : After (putAll x p (t p .a) (t p .b) (t p .c))
     after-three =
         after-as (λ m. omega (arith, brings-three (t p) m k .0)) (λ m. omega (arith, brings-three (t p) m k .1))
         (λ m q l. named-more t n p few m q l _ (λ d. inl (inl (inl d))) _ three (cases m q l))
         (filled-three few
         (filled-three few
-        (filled-three few F p (t p .a) low-a (omega (arith, threes-part t n p (t p .a / 2) h, brings-three (t p) (t p .a / 2) k .1, is-own (t p .a))) h)
-        p (t p .b) low-b (omega (arith, threes-part t n p (t p .b / 2) h, brings-three (t p) (t p .b / 2) k .1, is-own (t p .b))) h)
-        p (t p .c) low-c (omega (arith, threes-part t n p (t p .c / 2) h, brings-three (t p) (t p .c / 2) k .1, is-own (t p .c))) h)
+        (filled-three few F p (t p .a) low-a (omega (arith, threes-part t n p (t p .a / 2) h, brings-three (t p) (t p .a / 2) k .1, is-own (t p .a))) new)
+        p (t p .b) low-b (omega (arith, threes-part t n p (t p .b / 2) h, brings-three (t p) (t p .b / 2) k .1, is-own (t p .b))) new)
+        p (t p .c) low-c (omega (arith, threes-part t n p (t p .c / 2) h, brings-three (t p) (t p .c / 2) k .1, is-own (t p .c))) new)
       where
         cases : (m q : ℕ) → m < n → (i : ℕ) → i < 4 → q ≡ p → getD (none ∷ t p .a / 2 ∷ t p .b / 2 ∷ t p .c / 2 ∷ []) i none ≡ m
             → ((Named t p m q ⊎ ((m ≡ t p .a / 2) × (q ≡ p))) ⊎ ((m ≡ t p .b / 2) × (q ≡ p))) ⊎ ((m ≡ t p .c / 2) × (q ≡ p))
@@ -286,7 +289,7 @@ op-as : (t t′ : ℕ → Node) (s : ℕ) → t′ (s / 4) ≡ t (s / 4) → opN
 unfolding opNode
 op-as t t′ s e = rw e
 
--- a pair goes by its own parent alone
+-- an edge goes by its own parent alone
 pair-as : {t t′ : ℕ → Node} {n m p y o : ℕ} → t′ p ≡ t p → Pair t n m p y o → Pair t′ n m p y o
 pair-as e P = record {
   low = P .low;
@@ -298,6 +301,9 @@ pair-as e P = record {
   other = rw e (P .other);
   other-low = P .other-low;
 }
+
+triple-as : {t t′ : ℕ → Node} {n p : ℕ} → t′ p ≡ t p → Triple t n p → Triple t′ n p
+triple-as e P = record { low = P .low; kind = rw e (P .kind) }
 
 module _ {t : ℕ → Node} {n : ℕ} {S : ℕ → ℕ} {x : List ℕ} (few : n ≤ mostNodes) (F : Filled t n S (pairsTo t n) (threesTo t n) (Named t n) x) where
   pub edges-of : Edges (indexNode x) n x
@@ -312,7 +318,8 @@ module _ {t : ℕ → Node} {n : ℕ} {S : ℕ → ℕ} {x : List ℕ} (few : n 
     threes = λ m k h c.
         let j : ℕ = k - (S m + pairsTo t n m) in
         let z : S m + (pairsTo t n m + j) ≡ k = omega (arith, F .mid m h, c .0) in
-        subst (λ (i : ℕ). edgeAt x i < n) z (F .threes m j h (omega (arith, z, F .end m h, c .1)));
+        let P = F .threes m j h (omega (arith, z, F .end m h, c .1)) in
+        subst (λ (i : ℕ). Triple (indexNode x) n (edgeAt x i)) z (triple-as (F .nodes _ (P .low)) P);
     complete = λ s l b.
         let o : opNode (indexNode x) s ≡ opNode t s = op-as t (indexNode x) s (F .nodes (s / 4) (omega arith)) in
         rw o (found (opNode t s) (s / 4) (rw o at b) (F .has (opNode t s) (s / 4) (rw o at b) (s, l, refl, refl)));
@@ -364,7 +371,8 @@ edges-same {t} {t′} {n} x x′ few e s E = record {
       rw (edge k (omega (arith, c′ .1, b .1, b .2)), edge (k + 1) (omega (arith, c′, b, E .even m h))) (pair-as (e _ (P .low)) P);
   threes = λ m k h c.
       let c′ = three-at m k h c in
-      rw (edge k (omega (arith, c′ .1, E .order m h .2))) (E .threes m k h c′);
+      let P = E .threes m k h c′ in
+      rw (edge k (omega (arith, c′ .1, E .order m h .2))) (triple-as (e _ (P .low)) P);
   complete = λ a l b.
       let o : opNode t′ a ≡ opNode t a = op-as t t′ a (e (a / 4) (omega arith)) in
       rw o (found (opNode t a) (a / 4) (rw o at b) (E .complete a l (rw o at b)));

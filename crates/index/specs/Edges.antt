@@ -60,6 +60,11 @@ pub record Pair (t : ℕ → Node) (n m p y o : ℕ) : Type 0 where
   pub other : o ≡ operandOf t p (1 - side)
   pub other-low : o < 2 * n
 
+-- an edge from p, which has three operands
+pub record Triple (t : ℕ → Node) (n p : ℕ) : Type 0 where
+  pub low : p < n
+  pub kind : 6 < t p .kind
+
 -- node m has an edge from p
 abbrev pub Parent : List ℕ → ℕ → ℕ → Type 0
 Parent x m p = ((k : ℕ) × PairAt x m k × (parentOf x k ≡ p)) ⊎ ((k : ℕ) × ThreeAt x m k × (edgeAt x k ≡ p))
@@ -69,5 +74,5 @@ pub record Edges (t : ℕ → Node) (n : ℕ) (x : List ℕ) : Type 0 where
   pub order : (m : ℕ) → m < n → (firstOf x m ≤ midOf x m) × (midOf x m ≤ endOf x m) × (endOf x m ≤ mostEdges)
   pub even : (m : ℕ) → m < n → midOf x m % 2 ≡ firstOf x m % 2
   pub pairs : (m k : ℕ) → m < n → PairAt x m k → Pair t n m (parentOf x k) (typeOf x k) (otherOf x k)
-  pub threes : (m k : ℕ) → m < n → ThreeAt x m k → edgeAt x k < n
+  pub threes : (m k : ℕ) → m < n → ThreeAt x m k → Triple t n (edgeAt x k)
   pub complete : (s : ℕ) → s < 4 * n → opNode t s < n → Parent x (opNode t s) (s / 4)

@@ -12,6 +12,7 @@ use Rattle.scope.specs.declared.Node.{Node}
 use Rattle.calculus.specs.Expansion.{chosen, expand}
 use Rattle.calculus.specs.Order.{Value, holds, fails, undecided, State, met, empty, joined, valueOf, stateOf, literalOf, literalAt, isEmpty, isOne, some, firstOf, bit, moveOf, move}
 use Rattle.calculus.specs.Model.{Goals}
+use Rattle.calculus.specs.declared.Move.{Move}
 use Rattle.calculus.specs.declared.Move.the-variants.{Conflict, Unit as Single, Done, Split}
 use Rattle.calculus.proofs.Literals.{is-false}
 use Rattle.calculus.proofs.Sizes.{expand-few}
@@ -25,7 +26,7 @@ use Rattle.state.specs.Holds.{statesAt, Forces, Entered, Late, FirstLive, Close
 use Rattle.state.specs.Picked.{Picked}
 use Rattle.state.proofs.Areas.{count-most, base-most, ready-same}
 use Rattle.state.proofs.Clauses.{sofar, sofar-length, none-by, first-at, none-sofar, found-goal, found-position, goal-state, goals-length}
-use Rattle.moves.specs.Place.{placeNumber, Placed, Without, FirstGoal, CellSet, FirstOpen, Moved, goalsAt}
+use Rattle.moves.specs.Place.{On, placeNumber, Placed, Without, FirstGoal, CellSet, FirstOpen, OpenFrom, Moved, goalsAt}
 use Rattle.moves.proofs.Tests.{move-conflict, move-unit, move-split, move-done, all-met, met-closed, first-low, goal-false, goal-unfalse, goal-unit, goal-ununit, value-else}
 
 single-same : {a b c d : ℕ} → a ≡ b → c ≡ d → Single a c ≡ Single b d
@@ -132,6 +133,18 @@ module _ {t : ℕ → Node} {n place : ℕ} {goals w w′ m : List ℕ} (few : n
         held = λ i. rw (p, d) (omega (arith, b, rest 4 (omega arith)));
         column = λ i. rw (p, d, f, rest (trailAt + (literalsAt + q)) (omega arith)) l;
       }
+
+-- a literal has fewer than four clauses
+pub on-few : {t : ℕ → Node} {goals w : List ℕ} {q j : ℕ} {v : Move} → On t goals w q j v → j < 4
+on-few {t} {w = w} {q} o = omega (arith, o .column, expand-few t (litAt (tail w) q))
+
+-- a position and its code as one number
+pub open-at : {t : ℕ → Node} {w : List ℕ} {q k : ℕ} → FirstOpen t w q → (q < tail w 0 → Coded (t (litAt (tail w) q / 2)) (statesAt t (gOf w) (tail w) q) k) → k < 65536
+    → OpenFrom t w (65536 * q + k)
+open-at {t} {w} {q} {k} f c b =
+    let d : (65536 * q + k) / 65536 ≡ q = omega (arith, b) in
+    let e : (65536 * q + k) % 65536 ≡ k = omega (arith, b) in
+    record { first = rw d f; code = rw (d, e) c }
 
 -- ---- the unit that was picked
 
@@ -243,22 +256,28 @@ module _ {t : ℕ → Node} {n : ℕ} {goals w m : List ℕ} (few : n ≤ mostNo
     pub conflict-low : q < r 0
     conflict-low = conflict-there .0
 
-    pub conflict-position : {code : ℕ} {w′ : List ℕ} → Without 2 goals G → Coded (t (litAt r q / 2)) (S q) code → CellSet 3 (4 * q + code / 256 % 4) w w′
-        → {k : ℕ} → k ≡ baseOf r q → Moved t n goals w w′ m (Conflict (k + code / 256 % 4))
-    conflict-position {code} f c z {k} y =
+    pub conflict-on : {code : ℕ} → Without 2 goals G → Coded (t (litAt r q / 2)) (S q) code → On t goals w q (code / 256 % 4) (Conflict (baseOf r q + code / 256 % 4))
+    conflict-on {code} f c =
         let (b, s) = conflict-there in
         let n = none-sofar t goals G r isEmpty q (none-false t goals w f) (λ p a. is-false (some isEmpty (S p)) (λ u. omega (arith, e, a, H .entered p (omega (arith, a, b)) .conflict u))) in
         let o = found-position t goals G r isEmpty q (r 0) b n s in
         let j : code / 256 % 4 ≡ firstOf isEmpty (S q) = c .conflict-clause s in
-        let l : code / 256 % 4 < length (expand t (litAt r q)) = omega (arith, j, first-low isEmpty (S q) s, length-map (expand t (litAt r q)) (stateOf G)) in
         record {
-          is =
-              ap Conflict (ap (_+ code / 256 % 4) (y ∙ sym (base-is q (omega (arith, b)))) ∙ ap (length (C q) +_) j ∙ sym (o .1))
-              ∙ sym (move-conflict (C (r 0)) (o .0)) ∙ move-is t goals w;
-          holds-on = keeps few H z;
-          list = keeps-list few H z;
-          kept = rw y (placed-at few H z q (code / 256 % 4) refl (omega arith) b i l);
+          held = b;
+          column = omega (arith, j, first-low isEmpty (S q) s, length-map (expand t (litAt r q)) (stateOf G));
+          next =
+              sym (move-is t goals w) ∙ move-conflict (C (r 0)) (o .0)
+              ∙ ap Conflict (o .1 ∙ ap (length (C q) +_) (sym j) ∙ ap (_+ code / 256 % 4) (base-is q (omega (arith, b))));
         }
+
+    pub conflict-position : {j : ℕ} {w′ : List ℕ} → On t goals w q j (Conflict (baseOf r q + j)) → CellSet 3 (4 * q + j) w w′
+        → {k : ℕ} → k ≡ baseOf r q → Moved t n goals w w′ m (Conflict (k + j))
+    conflict-position {j} o z {k} y = record {
+      is = ap (λ (a : ℕ). Conflict (a + j)) y ∙ sym (o .next);
+      holds-on = keeps few H z;
+      list = keeps-list few H z;
+      kept = rw y (placed-at few H z q j refl (on-few o) (o .held) i (o .column));
+    }
 
   -- ---- no conflict
 
@@ -384,28 +403,38 @@ module _ {t : ℕ → Node} {n : ℕ} {goals w m : List ℕ} (few : n ≤ mostNo
           pub split-low : q < tail w′ 0
           split-low = omega (arith, i, count-is e, rest₀ 4 (omega arith))
 
-          -- of the codes and literals that are read after the cursor has moved on
-          pub split : {l y code : ℕ} → y ≡ litAt (tail w′) q → Coded (t (litAt (tail w′) q / 2)) (statesAt t (gOf w′) (tail w′) q) code
-              → (code / 1024 % 8 / 2 < length (operands (t (y / 2)))) × (l ≡ chosen (t (y / 2)) (code / 1024 % 8) → Moved t n goals w w′ m (Split l))
-          split {l} {y} {code} u v =
-              let same : tail w′ ≡ r = fun-ext (λ j. rest₀ (trailAt + j) (omega arith)) in
+          -- the code was read before the cursor moved on, as a part of p, the literal after
+          pub split : (p : ℕ) {l y : ℕ} → y ≡ litAt (tail w′) q → (q < r 0 → Coded (t (litAt r q / 2)) (S q) (p % 65536))
+              → (p / 1024 % 8 / 2 < length (operands (t (y / 2)))) × (l ≡ chosen (t (y / 2)) (p / 1024 % 8) → Moved t n goals w w′ m (Split l))
+          split p {l} {y} u v =
+              let g : p / 1024 % 8 ≡ p % 65536 / 1024 % 8 = omega arith in
               let b : q < r 0 = omega (arith, i, count-is e) in
               let s = f .here b in
-              let v′ : Coded (t (litAt r q / 2)) (S q) code = subst (λ (h : ℕ → ℕ). Coded (t (litAt h q / 2)) (statesAt t (held h) h q) code) same v in
               let y′ : y ≡ litAt r q = u ∙ rest₀ (trailAt + (literalsAt + q)) (omega arith) in
-              let d = v′ .unmet-literal s in
+              let d = v b .unmet-literal s in
               let n = none-sofar t goals G r isOpen q no-open-goal closed-before in
               let o = found-position t goals G r isOpen q (r 0) b n s in (
-                rw y′ (d .0),
+                rw (y′, g) (d .0),
                 λ k. record {
                   is =
-                      ap Split (k ∙ ap (λ (a : ℕ). chosen (t (a / 2)) (code / 1024 % 8)) y′ ∙ d .1 ∙ sym (o .2))
+                      ap Split (k ∙ ap (λ (a : ℕ). chosen (t (a / 2)) (p / 1024 % 8)) y′ ∙ ap (chosen (t (litAt r q / 2))) g ∙ d .1 ∙ sym (o .2))
                       ∙ sym (move-split (C (r 0)) (all-free t goals w position-free (without z₀)) no-unit (o .0)) ∙ move-is t goals w;
                   holds-on = on;
                   list = on-list;
                   kept = tt;
                 },
               )
+
+  -- the unit that was picked is the next move, on the clause that is kept
+  pub unit-on : {u : ℕ} → Picked w m u → On t goals w (u / 65536) (u / 4096 % 16) (Single (baseOf r (u / 65536) + u / 4096 % 16) (u % 4096))
+  unit-on {u} p =
+      let j : codeAt r (u / 65536) / 4096 ≡ u / 4096 % 16 = omega (arith, p .kept) in
+      let l : codeAt r (u / 65536) % 4096 ≡ u % 4096 = omega (arith, p .kept) in
+      record {
+        held = unit-low (p .free) (p .waiting) (p .first);
+        column = omega (arith, j, unit-column (p .free) (p .waiting) (p .first));
+        next = unit-next (p .free) (p .waiting) (p .first) ∙ single-same (ap (baseOf r (u / 65536) +_) j) l;
+      }
 
   -- the unit that was picked is the next move
   pub picked-next : {u : ℕ} → Picked w m u → (k : ℕ) × (move (expand t) goals G ≡ Single k (u % 4096))

@@ -13,8 +13,10 @@ use Rattle.calculus.specs.declared.Move.{Move}
 use Rattle.calculus.specs.declared.Move.the-variants.{Conflict, Unit as Single, Done, Split}
 use Rattle.clause.specs.declared.Clause.{Clause}
 use Rattle.moves.specs.declared.Forced.{Forced}
+use Rattle.moves.specs.declared.Left.{Left}
+use Rattle.moves.specs.declared.Left.the-variants.{Done as None, Split as Forks}
 use Rattle.clause.specs.Literals.{literals}
-use Rattle.clause.specs.Coded.{isOpen}
+use Rattle.clause.specs.Coded.{isOpen, Coded}
 use Rattle.state.specs.Work.{tail, litAt, baseOf, gOf, valueCode, cursorOf, placeOf}
 use Rattle.state.specs.Holds.{statesAt, Holds}
 
@@ -73,9 +75,25 @@ pub record FirstOpen (t : ℕ → Node) (w : List ℕ) (q : ℕ) : Type 0 where
   pub before : (p : ℕ) → cursorOf w ≤ p → p < q → some isOpen (statesAt t (gOf w) (tail w) p) ≡ true → ⊥
   pub here : q < tail w 0 → some isOpen (statesAt t (gOf w) (tail w) q) ≡ true
 
+-- r is 65,536 × that position, and, where a literal is held there, its code
+pub record OpenFrom (t : ℕ → Node) (w : List ℕ) (r : ℕ) : Type 0 where
+  pub first : FirstOpen t w (r / 65536)
+  pub code : r / 65536 < tail w 0 → Coded (t (litAt (tail w) (r / 65536) / 2)) (statesAt t (gOf w) (tail w) (r / 65536)) (r % 65536)
+
 -- the move of a unit
 abbrev pub forcedMove : Forced → Move
 forcedMove f = Single (f .number) (f .literal)
+
+-- the move of what is left
+abbrev pub leftMove : Left → Move
+leftMove None = Done
+leftMove (Forks l) = Split l
+
+-- the next move is m, on clause j of the literal at position q
+pub record On (t : ℕ → Node) (goals w : List ℕ) (q j : ℕ) (m : Move) : Type 0 where
+  pub held : q < tail w 0
+  pub column : j < length (expand t (litAt (tail w) q))
+  pub next : move (expand t) goals (gOf w) ≡ m
 
 -- r is the next move, and what holds after it was found
 pub record Moved (t : ℕ → Node) (n : ℕ) (goals w w′ m : List ℕ) (r : Move) : Type 0 where

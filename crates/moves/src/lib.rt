@@ -2,26 +2,33 @@
 use calculus::Move;
 use clause::Clause;
 ghost use mathlib.Core.Path.{_≡_};
-ghost use Prim.Native.Nat.{_/_, _%_, _≤_, _<_};
+ghost use Prim.Native.Nat.{_+_, _/_, _%_, _≤_, _<_};
 ghost use lib.ListN.{length};
 ghost use Rattle.calculus.specs.Expansion.{expand};
 ghost use Rattle.calculus.specs.Order.{move};
+ghost use Rattle.calculus.specs.declared.Move.the-variants.{Conflict};
 ghost use Rattle.units.specs.Units.{Units, Empty};
 ghost use Rattle.calculus.specs.Model.{Goals};
 ghost use Rattle.index.specs.Index.{mostNodes, indexNode};
 ghost use Rattle.index.specs.Indexed.{Indexed};
 ghost use Rattle.clause.specs.Coded.{Coded};
 ghost use Rattle.clause.specs.Templates.{rows};
-ghost use Rattle.state.specs.Work.{area, tail, litAt, gOf, Ready, Numbered, cursorOf, conflictOf, waitingOf, placeOf};
+ghost use Rattle.state.specs.Work.{area, tail, litAt, baseOf, gOf, Ready, Numbered, cursorOf, conflictOf, waitingOf, placeOf};
 ghost use Rattle.state.specs.Holds.{Holds, Waiting, statesAt, deniedOf, NoneDenied};
 ghost use Rattle.state.specs.Picked.{noUnit, Picked, Picks};
-ghost use Rattle.moves.specs.Place.{forcedMove, placeNumber, Placed, Kept, Reasoned, Without, FirstGoal, CellSet, FirstOpen, Moved};
+ghost use Rattle.moves.specs.Place.{forcedMove, leftMove, On, placeNumber, Placed, Kept, Reasoned, Without, FirstGoal, CellSet, OpenFrom, Moved};
 
 // A unit: the place and the number of its clause, and its literal.
 pub struct Forced {
     pub place: usize,
     pub number: u16,
     pub literal: u16,
+}
+
+// What is left where there is no conflict and no unit: nothing, or a split on a literal.
+pub enum Left {
+    Done,
+    Split(u16),
 }
 
 // The cells of the work area.
@@ -90,22 +97,23 @@ fn code_at(x: &[u16], n: usize, work: &[u16], q: usize) -> u16
     clause::code(x, n, work, (l / 2) as usize, (l % 2) as usize)
 }
 
-// The first position from the cursor on with an open clause, or how many literals are held.
-fn open_from(x: &[u16], n: usize, work: &[u16]) -> usize
+// The first position from the cursor on with an open clause, times 65,536, and its code; or how many literals are held.
+fn open_from(x: &[u16], n: usize, work: &[u16]) -> u32
     requires { ⌜ Indexed (now x) n ⌝ }
     requires { ⌜ Ready n (now work) ⌝ }
     requires { ⌜ cursorOf (now work) ≤ tail (now work) 0 ⌝ }
-    ensures { λ r. ⌜ FirstOpen (indexNode (now (x .entry))) (now (work .entry)) r ⌝ }
+    ensures { λ r. ⌜ OpenFrom (indexNode (now (x .entry))) (now (work .entry)) r ⌝ }
 {
     let held = state::count(work) as usize;
     let mut q = work[CURSOR] as usize;
     while q < held {
-        if (code_at(x, n, work, q) / 4) % 2 == 1 {
-            return q;
+        let code = code_at(x, n, work, q);
+        if (code / 4) % 2 == 1 {
+            return 65536 * q as u32 + code as u32;
         }
         q += 1;
     }
-    q
+    65536 * q as u32
 }
 
 // The place of the move's clause is kept.
@@ -124,6 +132,25 @@ fn advance(work: &mut [u16], q: usize)
     work[CURSOR] = q as u16;
 }
 
+// Which clause of the first position that has a conflict is all false, where no goal is.
+pub fn conflict_clause(
+    x: &[u16],
+    n: usize,
+    goals: &[u16],
+    work: &[u16],
+    masks: &[u64],
+    q: usize,
+) -> usize
+    requires { ⌜ Indexed (now x) n ⌝ }
+    requires { ⌜ Goals n (now goals) ⌝ }
+    requires { ⌜ Holds (indexNode (now x)) n (now goals) (now work) (now masks) ⌝ }
+    requires { ⌜ (q ≡ conflictOf (now work)) × (q < mostNodes) × Without 2 (now goals) (gOf (now work)) ⌝ }
+    ensures { λ r. ⌜ On (indexNode (now (x .entry))) (now (goals .entry)) (now (work .entry)) q r (Conflict (baseOf (tail (now (work .entry))) q + r)) ⌝ }
+{
+    let code = code_at(x, n, work, q);
+    ((code / 256) % 4) as usize
+}
+
 // The conflict at the first position that has one, where no goal is false.
 fn conflict_at(
     x: &[u16],
@@ -139,11 +166,10 @@ fn conflict_at(
     requires { ⌜ (q ≡ conflictOf (now work)) × (q < mostNodes) × Without 2 (now goals) (gOf (now work)) ⌝ }
     ensures { λ r. ⌜ Moved (indexNode (now (x .entry))) n (now (goals .entry)) (now (work .entry)) (now (work .exit)) (now (masks .entry)) r ⌝ }
 {
-    let code = code_at(x, n, work, q);
-    let j = (code / 256) % 4;
+    let j = conflict_clause(x, n, goals, work, masks, q);
     let base = state::base(work, q);
-    keep(work, 4 * q + j as usize);
-    Move::Conflict(base + j)
+    keep(work, 4 * q + j);
+    Move::Conflict(base + j as u16)
 }
 
 // The next move while some goal is not true.
@@ -218,6 +244,24 @@ pub fn unit_move(
 }
 
 // A split, or none: every goal is true, there is no conflict and no unit. The cursor moves on.
+pub fn choice(x: &[u16], n: usize, goals: &[u16], work: &mut [u16], masks: &[u64]) -> Left
+    requires { ⌜ Indexed (now x) n ⌝ }
+    requires { ⌜ Goals n (now goals) ⌝ }
+    requires { ⌜ Holds (indexNode (now x)) n (now goals) (now work) (now masks) ⌝ }
+    requires { ⌜ (waitingOf (now work) ≡ 0) × (mostNodes ≤ conflictOf (now work)) × Empty (now masks) ⌝ }
+    ensures { λ r. ⌜ Moved (indexNode (now (x .entry))) n (now (goals .entry)) (now (work .entry)) (now (work .exit)) (now (masks .entry)) (leftMove r) ⌝ }
+{
+    let o = open_from(x, n, work);
+    let q = (o / 65536) as usize;
+    advance(work, q);
+    if state::count(work) as usize <= q {
+        return Left::Done;
+    }
+    let l = state::literal(work, q);
+    Left::Split(clause::choose(x, n, (l / 2) as usize, ((o / 1024) % 8) as usize))
+}
+
+// The same as a move.
 fn split_move(x: &[u16], n: usize, goals: &[u16], work: &mut [u16], masks: &[u64]) -> Move
     requires { ⌜ Indexed (now x) n ⌝ }
     requires { ⌜ Goals n (now goals) ⌝ }
@@ -225,14 +269,11 @@ fn split_move(x: &[u16], n: usize, goals: &[u16], work: &mut [u16], masks: &[u64
     requires { ⌜ (waitingOf (now work) ≡ 0) × (mostNodes ≤ conflictOf (now work)) × Empty (now masks) ⌝ }
     ensures { λ r. ⌜ Moved (indexNode (now (x .entry))) n (now (goals .entry)) (now (work .entry)) (now (work .exit)) (now (masks .entry)) r ⌝ }
 {
-    let q = open_from(x, n, work);
-    advance(work, q);
-    if state::count(work) as usize <= q {
-        return Move::Done;
+    let c = choice(x, n, goals, work, masks);
+    match c {
+        Left::Done => Move::Done,
+        Left::Split(l) => Move::Split(l),
     }
-    let code = code_at(x, n, work, q);
-    let l = state::literal(work, q);
-    Move::Split(clause::choose(x, n, (l / 2) as usize, ((code / 1024) % 8) as usize))
 }
 
 // The next move in the solver's order: conflict first, then unit, then split.

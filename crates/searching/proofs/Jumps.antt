@@ -2,15 +2,16 @@
 use mathlib.Core.Path.{_≡_, refl, sym, ap, ap₂, _∙_, subst}
 use mathlib.Core.List.{List, [], _∷_}
 use mathlib.Core.Bool.{Bool, true, false, cond, not, _&&_}
-use Prim.Native.Nat.{ℕ, suc, _+_, _-_, _<_, _≤_}
+use Prim.Native.Nat.{ℕ, suc, _+_, _-_, _*_, _/_, _%_, _<_, _≤_}
 use native.Mathlib.Omega.{arith}
 use lib.Dec.{eqb, ltb}
 use lib.ListN.{length, getD}
-use borrow.Author.Tests.{lt-ltb}
+use borrow.Author.Tests.{eq-eqb, ne-eqb, lt-ltb}
+use native.Mathlib.Decide.{ℕ-discrete}
 use Rattle.scope.specs.declared.Node.{Node}
 use Rattle.calculus.specs.Expansion.{neg, expand}
 use Rattle.calculus.specs.Order.{clauses, move}
-use Rattle.calculus.specs.Model.{Table, Below}
+use Rattle.calculus.specs.Model.{Table, Below, Goals}
 use Rattle.calculus.specs.Jump.{Rests, nothing, both, only, less, Held, hold, literals, restOf, falseRest, originRest, clauseRest, found, closed, Jumped, stop, sides, jump, endAnswer, stopped}
 use Rattle.calculus.specs.declared.Move.{Move}
 use Rattle.calculus.specs.declared.Move.the-variants.{Conflict, Unit as Single, Done, Split}
@@ -20,22 +21,24 @@ use Rattle.calculus.proofs.Moves.{conflict-clause, unit-clause}
 use Rattle.jumping.proofs.Moves.{jump-conflict, jump-done, jump-unit, jump-split}
 use Rattle.jumping.proofs.Answers.{same-answer}
 use Rattle.index.specs.Index.{mostNodes}
-use Rattle.state.specs.Work.{gOf, Ready}
+use Rattle.state.specs.Work.{tail, baseOf, gOf, conflictOf, Ready}
 use Rattle.state.specs.Holds.{Holds}
-use Rattle.moves.specs.Place.{placeNumber, Placed}
+use Rattle.state.specs.Picked.{noUnit, Picks}
+use Rattle.moves.specs.Place.{On}
+use Rattle.moves.proofs.Moves.{on-few, unit-on}
 use Rattle.rests.specs.Words.{restAt, There, Put, Sets, conflictSlot, SameTo, heldOf}
 use Rattle.rests.proofs.Held.{held-literals, held-same, put-same, put-sets, held-joined, rests-blank}
 use Rattle.grounds.specs.Ground.{Grounded}
 use Rattle.grounds.proofs.Grounds.{unmet}
 use Rattle.searching.specs.Search.{Extends, foundOf, Solved}
-use Rattle.searching.specs.Jumps.{blank, Due, Joined, Stepped, jumpedFrom, Propagated, endOf, madeBy, foundBy, withLeft, Jumps, Counted, askedOf, Answered}
+use Rattle.searching.specs.Jumps.{blank, Aimed, slotFor, Concluded, Stepped, jumpedFrom, Propagated, endOf, madeBy, foundBy, withLeft, Jumps, Counted, askedOf, Answered}
 use Rattle.searching.specs.declared.Stop.{Stop}
 use Rattle.searching.specs.declared.Stop.the-variants.{Closed as Shut, Model as Open, Fork}
 use Rattle.searching.specs.declared.Found.{Found}
 use Rattle.searching.specs.declared.Asked.{Asked}
 use Rattle.searching.specs.declared.Ended.{Ended}
 use Rattle.searching.specs.declared.Ended.the-variants.{Model, Closed}
-use Rattle.searching.proofs.Searches.{placed-there, Run, run-starts, run-looked, run-room, run-unit, Forked, fork-room, fork-grows, shut-open, shut-fork, open-fork}
+use Rattle.searching.proofs.Searches.{Run, run-starts, run-looked, run-room, run-unit, Forked, fork-room, fork-grows, shut-open, shut-fork, open-fork}
 
 -- ---- sets that stay
 
@@ -114,6 +117,29 @@ module _ (expand : ℕ → List (List ℕ)) (goals : List ℕ) where
     other = λ q e. refl;
   }
 
+-- ---- what comes next
+
+module _ {t : ℕ → Node} {goals w : List ℕ} where
+  pub aimed-unit : {u : ℕ} → (u ≡ noUnit → ⊥) → Aimed t goals w u u
+  aimed-unit f = record { unit = λ _. refl; conflict = λ e. absurd (f e); free = λ e. absurd (f e) }
+
+  pub aimed-free : {u c : ℕ} → u ≡ noUnit → c ≡ conflictOf w → mostNodes ≤ c → Aimed t goals w u noUnit
+  aimed-free e d b = record { unit = λ f. absurd (f e); conflict = λ _ f. absurd (f refl); free = λ _ _. omega (arith, d, b) }
+
+  pub aimed-conflict : {u q j : ℕ} → u ≡ noUnit → q < mostNodes → On t goals w q j (Conflict (baseOf (tail w) q + j)) → Aimed t goals w u (65536 * q + 4096 * j)
+  aimed-conflict {u} {q} {j} e b o =
+      let d : (65536 * q + 4096 * j) / 65536 ≡ q = omega (arith, on-few o) in
+      let g : (65536 * q + 4096 * j) / 4096 % 16 ≡ j = omega (arith, on-few o) in
+      record { unit = λ f. absurd (f e); conflict = λ _ _. rw (d, g) o; free = λ _ i. absurd (omega (arith, i, b, on-few o)) }
+
+  -- nothing does: there is no unit and no conflict
+  pub aimed-none : {u v : ℕ} → Aimed t goals w u v → v ≡ noUnit → (u ≡ noUnit) × (mostNodes ≤ conflictOf w)
+  aimed-none {u} A e = go (ℕ-discrete u noUnit)
+    where
+      go : Dec (u ≡ noUnit) → (u ≡ noUnit) × (mostNodes ≤ conflictOf w)
+      go (yes y) = (y, A .free y e)
+      go (no y) = absurd (y (sym (A .unit y) ∙ e))
+
 -- ---- the units
 
 -- what holds before each turn
@@ -168,41 +194,68 @@ module _ {t : ℕ → Node} {n : ℕ} {goals w k m w′ k′ m′ : List ℕ} (r
     past-all : length (gOf w′) < conflictSlot
     past-all = omega (arith, at-most n (gOf w′) (r .run .holds .ready .trail .good))
 
-    module _ {c : ℕ} (number : placeNumber w′ ≡ c) where
-      -- the clause of a conflict
-      module _ (e : move (expand t) goals (gOf w′) ≡ Conflict c) where
-        pub conflict-grounded : Grounded t goals w′ m′ conflictSlot
-        conflict-grounded = record {
-          sets = r .sets;
-          unmet = rw number (unmet (gOf w′) (getD (clauses (expand t) goals (gOf w′)) c [])
-              (λ z. absurd (let q = conflict-clause (expand t) goals (gOf w′) c e .1 in let x : _≡_ {A = ℕ} 0 1 = cc in omega arith)));
-          past = past-all;
-          there = omega (arith, r .sets .size);
-        }
+    -- the clause of a conflict
+    pub rested-conflict : {c : ℕ} {m″ : List ℕ} → move (expand t) goals (gOf w′) ≡ Conflict c
+        → Put m′ conflictSlot (clauseRest (expand t) goals (heldOf m′ (gOf w′)) c) m″ → Propagated t n goals w m w′ k′ m″ Shut
+    rested-conflict e u = record {
+      holds = r .run .holds;
+      grows = r .run .grows;
+      sets = put-sets (r .sets) u (omega arith);
+      kept = put-kept u past-all;
+      same = put-from u past-all;
+      closes = λ _ d. from-put t n goals u (gOf w′) past-all d ∙ from-conflict t n goals d m′ (gOf w′) e ∙ ap (λ (s : Rests). stop (closed s)) (sym (u .here));
+      ends = λ q. shut-open q;
+      forks = λ l q. shut-fork q;
+    }
 
-        pub rested-conflict : {m″ : List ℕ} → Put m′ conflictSlot (clauseRest (expand t) goals (heldOf m′ (gOf w′)) (placeNumber w′)) m″
-            → Propagated t n goals w m w′ k′ m″ Shut
-        rested-conflict {m″} u = record {
-          holds = r .run .holds;
-          grows = r .run .grows;
-          sets = put-sets (r .sets) u (omega arith);
-          kept = put-kept u past-all;
-          same = put-from u past-all;
-          closes = λ _ d. from-put t n goals u (gOf w′) past-all d ∙ from-conflict t n goals d m′ (gOf w′) e
-              ∙ ap (λ (s : Rests). stop (closed s)) (sym (u .here ∙ ap (clauseRest (expand t) goals (heldOf m′ (gOf w′))) number));
-          ends = λ q. shut-open q;
-          forks = λ l q. shut-fork q;
-        }
+    module _ {q j : ℕ} where
+      pub conflict-grounded : On t goals w′ q j (Conflict (baseOf (tail w′) q + j)) → Grounded t goals w′ m′ q j conflictSlot
+      conflict-grounded o = record {
+        sets = r .sets;
+        held = o .held;
+        column = o .column;
+        unmet = unmet (gOf w′) (getD (clauses (expand t) goals (gOf w′)) (baseOf (tail w′) q + j) [])
+            (λ z. absurd (let y = conflict-clause (expand t) goals (gOf w′) (baseOf (tail w′) q + j) (o .next) .1 in let x : _≡_ {A = ℕ} 0 1 = cc in omega arith));
+        past = past-all;
+        there = omega (arith, r .sets .size);
+      }
 
-      -- the clause of a unit
-      module _ (T : Table n t) (B : Below n goals) {l : ℕ} (e : move (expand t) goals (gOf w′) ≡ Single c l) {h : ℕ} (z : h ≡ suc (length (gOf w′))) where
-        pub unit-grounded : Grounded t goals w′ m′ h
-        unit-grounded = record {
-          sets = r .sets;
-          unmet = rw number (unmet (gOf w′) (getD (clauses (expand t) goals (gOf w′)) c [])
-              (λ y. absurd (let q = unit-clause (expand t) goals (gOf w′) c l e .1 in let x : _≡_ {A = ℕ} 0 1 = cc in omega arith)));
-          past = omega arith;
-          there = omega (arith, r .sets .size, run-room (r .run) T B e);
+      -- that of a unit
+      pub unit-grounded : Table n t → Below n goals → {l h : ℕ} → On t goals w′ q j (Single (baseOf (tail w′) q + j) l) → h ≡ suc (length (gOf w′))
+          → Grounded t goals w′ m′ q j h
+      unit-grounded T B {l} o z = record {
+        sets = r .sets;
+        held = o .held;
+        column = o .column;
+        unmet = unmet (gOf w′) (getD (clauses (expand t) goals (gOf w′)) (baseOf (tail w′) q + j) [])
+            (λ y. absurd (let v = unit-clause (expand t) goals (gOf w′) (baseOf (tail w′) q + j) l (o .next) .1 in let x : _≡_ {A = ℕ} 0 1 = cc in omega arith));
+        past = omega arith;
+        there = omega (arith, r .sets .size, run-room (r .run) T B (o .next));
+      }
+
+    -- the clause of what comes next
+    module _ (T : Table n t) (B : Below n goals) (gs : Goals n goals) {u v h : ℕ} (L : Picks w′ k′ u) (A : Aimed t goals w′ u v) (z : v ≡ noUnit → ⊥) where
+      pub aimed-grounded : h ≡ slotFor u (gOf w′) → Grounded t goals w′ m′ (v / 65536) (v / 4096 % 16) h
+      aimed-grounded e = go (ℕ-discrete u noUnit)
+        where
+          go : Dec (u ≡ noUnit) → Grounded t goals w′ m′ (v / 65536) (v / 4096 % 16) h
+          go (yes y) = subst (Grounded t goals w′ m′ (v / 65536) (v / 4096 % 16)) (sym (e ∙ simp (eq-eqb u noUnit y))) (conflict-grounded (A .conflict y z))
+          go (no y) = rw (A .unit y) (unit-grounded T B (unit-on few gs (r .run .holds) (L y)) (e ∙ simp (ne-eqb u noUnit y)))
+
+      module _ (e : h ≡ slotFor u (gOf w′)) {m″ : List ℕ}
+          (p : Put m′ h (clauseRest (expand t) goals (heldOf m′ (gOf w′)) (baseOf (tail w′) (v / 65536) + v / 4096 % 16)) m″) where
+        -- a conflict
+        pub aimed-closed : u ≡ noUnit → Propagated t n goals w m w′ k′ m″ Shut
+        aimed-closed y = rested-conflict (A .conflict y z .next) (rw (e, eq-eqb u noUnit y) at p)
+
+        -- a unit, which joins
+        pub aimed-stepped : (u ≡ noUnit → ⊥) → {w″ k″ : List ℕ} → Holds t n goals w″ k″ → gOf w″ ≡ u % 4096 ∷ gOf w′ → Stepped t n (u % 4096) goals w′ m′ w″ k″ m″
+        aimed-stepped y a b = record {
+          clause = baseOf (tail w′) (u / 65536) + u / 4096 % 16;
+          next = unit-on few gs (r .run .holds) (L y) .next;
+          holds = a;
+          list = b;
+          put = rw (e, ne-eqb u noUnit y, A .unit y) at p;
         }
 
     -- a unit has joined
@@ -216,23 +269,12 @@ module _ {t : ℕ → Node} {n : ℕ} {goals w k m w′ k′ m′ : List ℕ} (r
       same = λ d. rw (S .list) (sym (from-unit t n goals d m′ (gOf w′) (run-room (r .run) T B (S .next)) (S .next) (S .put)) ∙ r .same d);
     }
 
--- the unit that was found
-pub due : {t : ℕ → Node} {goals w G : List ℕ} {v : Move} {k l : ℕ} → v ≡ move (expand t) goals G → v ≡ Single k l → gOf w ≡ G → Placed t goals w k → Due t goals w l
-due {t} {goals} {l = l} e q g p = record {
-  placed = placed-there p;
-  next = ap (move (expand t) goals) g ∙ sym e ∙ q ∙ ap (λ (j : ℕ). Single j l) (sym (p .number));
-}
-
--- it has joined; w₁ is the work area once its place is kept
-pub stepped : {t : ℕ → Node} {n l : ℕ} {goals w w₁ m w″ k″ m″ : List ℕ} → gOf w₁ ≡ gOf w → Due t goals w₁ l → Joined t n l goals w₁ m w″ k″ m″
-    → Stepped t n l goals w m w″ k″ m″
-stepped {t} {n} {l} {goals} {w} {w₁} {m} {m″ = m″} g D J = record {
-  clause = placeNumber w₁;
-  next = ap (move (expand t) goals) (sym g) ∙ D .next;
-  holds = J .holds;
-  list = J .list ∙ ap (l ∷_) g;
-  put = subst (λ (G : List ℕ). Put m (suc (length G)) (clauseRest (expand t) goals (heldOf m G) (placeNumber w₁)) m″) g (J .put);
-}
+-- the units end with no conflict
+pub rested-concluded : {t : ℕ → Node} {n : ℕ} {goals w k m w′ k′ m′ w″ : List ℕ} → Rested t n goals w k m w′ k′ m′ → (v : Stop) → Concluded t n goals w′ w″ k′ v
+    → length w″ ≡ length w′ → Propagated t n goals w m w″ k′ m′ v
+rested-concluded r Shut C z = absurd (C .ending)
+rested-concluded r Open C z = rested-done (rested-looked r (C .holds) (C .list) z) (C .ending)
+rested-concluded r (Fork l) C z = rested-split (rested-looked r (C .holds) (C .list) z) (C .ending)
 
 module _ {t : ℕ → Node} {n : ℕ} {goals w k : List ℕ} (few : n ≤ mostNodes) (h : Holds t n goals w k) where
   past-held : length (gOf w) < conflictSlot
@@ -249,8 +291,8 @@ module _ {t : ℕ → Node} {n : ℕ} {goals w k : List ℕ} (few : n ≤ mostNo
     put = put-blank (expand t) goals (gOf w) past-held c (suc (length (gOf w))) (omega (arith, past-held));
   }
 
-  pub conflict-blank : Put blank conflictSlot (clauseRest (expand t) goals (heldOf blank (gOf w)) (placeNumber w)) blank
-  conflict-blank = put-blank (expand t) goals (gOf w) past-held (placeNumber w) conflictSlot (omega arith)
+  pub conflict-blank : (c : ℕ) → Put blank conflictSlot (clauseRest (expand t) goals (heldOf blank (gOf w)) c) blank
+  conflict-blank c = put-blank (expand t) goals (gOf w) past-held c conflictSlot (omega arith)
 
 -- ---- both sides of a split
 

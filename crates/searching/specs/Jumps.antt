@@ -1,18 +1,22 @@
 -- What the search that jumps leaves of the work area and its sets: what the definition of the jumping search ends on, from the literals
 -- held with what each rests on. Assumes nothing.
 use mathlib.Core.Path.{_≡_}
-use mathlib.Core.Bool.{Bool, true, false}
+use mathlib.Core.Bool.{Bool, true, false, cond}
 use mathlib.Core.List.{List, [], _∷_}
-use Prim.Native.Nat.{ℕ, suc, _+_, _-_}
+use Prim.Native.Nat.{ℕ, suc, _+_, _-_, _/_, _%_, _≤_}
+use lib.Dec.{eqb}
 use lib.ListN.{length, replicate}
 use Rattle.scope.specs.declared.Node.{Node}
 use Rattle.calculus.specs.Expansion.{expand}
 use Rattle.calculus.specs.Order.{move}
 use Rattle.calculus.specs.Jump.{Rests, clauseRest, End, found, closed, Jumped, stop, jump, endAnswer, stopped}
-use Rattle.calculus.specs.declared.Move.the-variants.{Unit as Single, Split}
-use Rattle.state.specs.Work.{gOf, Ready}
+use Rattle.calculus.specs.declared.Move.{Move}
+use Rattle.calculus.specs.declared.Move.the-variants.{Conflict, Unit as Single, Done, Split}
+use Rattle.index.specs.Index.{mostNodes}
+use Rattle.state.specs.Work.{tail, baseOf, gOf, conflictOf, Ready}
 use Rattle.state.specs.Holds.{Holds, Splits}
-use Rattle.moves.specs.Place.{placeNumber, Placed}
+use Rattle.state.specs.Picked.{noUnit}
+use Rattle.moves.specs.Place.{On}
 use Rattle.rests.specs.Words.{restAt, Put, Sets, setsSize, conflictSlot, SameTo, heldOf}
 use Rattle.searching.specs.Search.{Extends, foundOf}
 use Rattle.searching.specs.declared.Stop.{Stop}
@@ -32,16 +36,27 @@ jumpedFrom t n goals d m G = jump 128 (expand t) goals (n - length G) d (heldOf 
 abbrev pub blank : List ℕ
 blank = replicate setsSize 0
 
--- the next move is a unit, l, and the place of its clause is kept
-pub record Due (t : ℕ → Node) (goals w : List ℕ) (l : ℕ) : Type 0 where
-  pub placed : Placed t goals w (placeNumber w)
-  pub next : move (expand t) goals (gOf w) ≡ Single (placeNumber w) l
+-- what comes next, r, where u is the unit that is the next move, or `noUnit`: u; or the clause of the first conflict as units have theirs
+pub record Aimed (t : ℕ → Node) (goals w : List ℕ) (u r : ℕ) : Type 0 where
+  pub unit : (u ≡ noUnit → ⊥) → r ≡ u
+  pub conflict : u ≡ noUnit → (r ≡ noUnit → ⊥) → On t goals w (r / 65536) (r / 4096 % 16) (Conflict (baseOf (tail w) (r / 65536) + r / 4096 % 16))
+  pub free : u ≡ noUnit → r ≡ noUnit → mostNodes ≤ conflictOf w
 
--- it has joined, with what it rests on
-pub record Joined (t : ℕ → Node) (n l : ℕ) (goals w m w′ k′ m′ : List ℕ) : Type 0 where
-  pub holds : Holds t n goals w′ k′
-  pub list : gOf w′ ≡ l ∷ gOf w
-  pub put : Put m (suc (length (gOf w))) (clauseRest (expand t) goals (heldOf m (gOf w)) (placeNumber w)) m′
+-- the slot of what it rests on
+abbrev pub slotFor : ℕ → List ℕ → ℕ
+slotFor u G = cond (eqb u noUnit) conflictSlot (suc (length G))
+
+-- the move of what the units end at, where that is no conflict
+abbrev pub Ending : Stop → Move → Type 0
+Ending Shut v = ⊥
+Ending Open v = v ≡ Done
+Ending (Fork l) v = v ≡ Split l
+
+-- no conflict and no unit is left: a model or a split
+pub record Concluded (t : ℕ → Node) (n : ℕ) (goals w w′ k : List ℕ) (r : Stop) : Type 0 where
+  pub holds : Holds t n goals w′ k
+  pub list : gOf w′ ≡ gOf w
+  pub ending : Ending r (move (expand t) goals (gOf w′))
 
 -- the next move, a unit on a clause, has joined, with what that rests on
 pub record Stepped (t : ℕ → Node) (n l : ℕ) (goals w m w′ k′ m′ : List ℕ) : Type 0 where

@@ -2,20 +2,22 @@
 // along, and taken back to a split before its right branch. Each literal held, and the last conflict, has the set of the splits that it
 // rests on: a right branch is skipped where the left one's conflict does not rest on the split.
 use calculus::Move;
+use moves::Left;
 ghost use mathlib.Core.Path.{_≡_};
 ghost use mathlib.Core.List.{[]};
-ghost use Prim.Native.Nat.{suc, _+_, _%_, _≤_};
+ghost use Prim.Native.Nat.{suc, _+_, _≤_};
 ghost use lib.ListN.{length};
 ghost use Rattle.calculus.specs.Model.{Goals};
 ghost use Rattle.calculus.specs.Jump.{stopped};
-ghost use Rattle.index.specs.Index.{indexNode};
+ghost use Rattle.index.specs.Index.{mostNodes, indexNode};
+ghost use Rattle.units.specs.Units.{Empty};
 ghost use Rattle.index.specs.Indexed.{Indexed};
-ghost use Rattle.state.specs.Work.{gOf, Ready};
+ghost use Rattle.state.specs.Work.{area, gOf, conflictOf, waitingOf, Ready};
 ghost use Rattle.state.specs.Holds.{Holds};
-ghost use Rattle.state.specs.Picked.{Picked, Picks};
+ghost use Rattle.state.specs.Picked.{Leads};
 ghost use Rattle.rests.specs.Words.{Sets};
 ghost use Rattle.searching.specs.Search.{Solved};
-ghost use Rattle.searching.specs.Jumps.{blank, Due, Joined, Stepped, Begun, Paused, LeftOff, Propagated, withLeft, Jumps, Counted, Lent, askedOf, Answered};
+ghost use Rattle.searching.specs.Jumps.{blank, Aimed, slotFor, Concluded, Begun, Paused, LeftOff, Propagated, withLeft, Jumps, Counted, Lent, askedOf, Answered};
 
 // Where the units end: at a conflict, at a model, or at a split on a literal.
 pub enum Stop {
@@ -49,57 +51,61 @@ const CONFLICT: usize = 2017;
 // How many words the sets are.
 const SETS: usize = 4036;
 
+// No position.
+const NONE: usize = 2016;
+
 // No unit is the next move.
 const NO_UNIT: u32 = 4294967295;
 
 // The count of splits stops here.
 const MOST: u64 = 4294967295;
 
-// A unit joins, whose clause's place is kept, with what it rests on.
-fn join(
-    x: &[u16],
-    n: usize,
-    goals: &[u16],
-    work: &mut [u16],
-    masks: &mut [u64],
-    rests: &mut [u64],
-    l: u16,
-)
+// What comes next where u is the unit that is the next move, if it is one: u, or the clause of the first conflict in the same form, with no
+// literal, or NO_UNIT.
+fn aim(x: &[u16], n: usize, goals: &[u16], work: &[u16], masks: &[u64], u: u32) -> u32
+    requires { ⌜ Indexed (now x) n ⌝ }
+    requires { ⌜ Goals n (now goals) ⌝ }
+    requires { ⌜ Holds (indexNode (now x)) n (now goals) (now work) (now masks) × (waitingOf (now work) ≡ 0) ⌝ }
+    ensures { λ r. ⌜ Aimed (indexNode (now (x .entry))) (now (goals .entry)) (now (work .entry)) u r ⌝ }
+{
+    if u != NO_UNIT {
+        return u;
+    }
+    let c = state::conflict(work) as usize;
+    if NONE <= c {
+        return NO_UNIT;
+    }
+    let j = moves::conflict_clause(x, n, goals, work, masks, c);
+    65536 * c as u32 + 4096 * j as u32
+}
+
+// The slot of what comes next: of the unit that joins, or of a conflict.
+fn slot(work: &[u16], u: u32) -> usize
+    requires { ⌜ area ≤ length (now work) ⌝ }
+    ensures { λ r. ⌜ r ≡ slotFor u (gOf (now (work .entry))) ⌝ }
+{
+    if u == NO_UNIT {
+        return CONFLICT;
+    }
+    state::count(work) as usize + 1
+}
+
+// No conflict and no unit is left: a model, or a split.
+fn conclude(x: &[u16], n: usize, goals: &[u16], work: &mut [u16], masks: &[u64]) -> Stop
     requires { ⌜ Indexed (now x) n ⌝ }
     requires { ⌜ Goals n (now goals) ⌝ }
     requires { ⌜ Holds (indexNode (now x)) n (now goals) (now work) (now masks) ⌝ }
-    requires { ⌜ Sets (now rests) × Due (indexNode (now x)) (now goals) (now work) l ⌝ }
-    ensures { λ _. ⌜ Joined (indexNode (now (x .entry))) n l (now (goals .entry)) (now (work .entry)) (now (rests .entry)) (now (work .exit)) (now (masks .exit)) (now (rests .exit)) ⌝ }
+    requires { ⌜ (waitingOf (now work) ≡ 0) × (mostNodes ≤ conflictOf (now work)) × Empty (now masks) ⌝ }
+    ensures { λ r. ⌜ Concluded (indexNode (now (x .entry))) n (now (goals .entry)) (now (work .entry)) (now (work .exit)) (now (masks .entry)) r ⌝ }
 {
-    let slot = state::count(work) as usize + 1;
-    grounds::put_clause(x, n, goals, work, rests, slot);
-    solver::assume(x, n, goals, work, masks, l);
+    let left = moves::choice(x, n, goals, work, masks);
+    match left {
+        Left::Done => Stop::Model,
+        Left::Split(l) => Stop::Fork(l),
+    }
 }
 
-// A unit that was picked joins, with what it rests on. The answer is the next one, or none.
-fn step(
-    x: &[u16],
-    n: usize,
-    goals: &[u16],
-    work: &mut [u16],
-    masks: &mut [u64],
-    rests: &mut [u64],
-    u: u32,
-) -> u32
-    requires { ⌜ Indexed (now x) n ⌝ }
-    requires { ⌜ Goals n (now goals) ⌝ }
-    requires { ⌜ Holds (indexNode (now x)) n (now goals) (now work) (now masks) ⌝ }
-    requires { ⌜ Sets (now rests) × Picked (now work) (now masks) u ⌝ }
-    ensures { λ _. ⌜ Stepped (indexNode (now (x .entry))) n (u % 4096) (now (goals .entry)) (now (work .entry)) (now (rests .entry)) (now (work .exit)) (now (masks .exit)) (now (rests .exit)) ⌝ }
-    ensures { λ r. ⌜ Picks (now (work .exit)) (now (masks .exit)) r ⌝ }
-{
-    let f = moves::unit_move(x, n, goals, work, masks, u);
-    let slot = state::count(work) as usize + 1;
-    grounds::put_at(x, n, goals, work, rests, slot, f.place);
-    solver::join(x, n, goals, work, masks, u)
-}
-
-// The units join, one after another, up to another move.
+// The units join, each with what it rests on, from a first one on, if there is one, up to another move. Every goal is true.
 fn propagate(
     x: &[u16],
     n: usize,
@@ -107,36 +113,28 @@ fn propagate(
     work: &mut [u16],
     masks: &mut [u64],
     rests: &mut [u64],
+    first: u32,
 ) -> Stop
     requires { ⌜ Indexed (now x) n ⌝ }
     requires { ⌜ Goals n (now goals) ⌝ }
     requires { ⌜ Holds (indexNode (now x)) n (now goals) (now work) (now masks) ⌝ }
-    requires { ⌜ Sets (now rests) ⌝ }
+    requires { ⌜ Sets (now rests) × Leads (now work) (now masks) first ⌝ }
     ensures { λ r. ⌜ Propagated (indexNode (now (x .entry))) n (now (goals .entry)) (now (work .entry)) (now (rests .entry)) (now (work .exit)) (now (masks .exit)) (now (rests .exit)) r ⌝ }
 {
-    let mut u = moves::pick(work, masks);
+    let mut u = first;
     loop {
-        if u != NO_UNIT {
-            u = step(x, n, goals, work, masks, rests, u);
-        } else {
-            let m = moves::next_move(x, n, goals, work, masks);
-            match m {
-                Move::Conflict(_) => {
-                    grounds::put_clause(x, n, goals, work, rests, CONFLICT);
-                    return Stop::Closed;
-                }
-                Move::Unit(_, l) => {
-                    join(x, n, goals, work, masks, rests, l);
-                    u = moves::pick(work, masks);
-                }
-                Move::Done => {
-                    return Stop::Model;
-                }
-                Move::Split(l) => {
-                    return Stop::Fork(l);
-                }
-            }
+        let on = aim(x, n, goals, work, masks, u);
+        if on == NO_UNIT {
+            return conclude(x, n, goals, work, masks);
         }
+        let q = (on / 65536) as usize;
+        let j = ((on / 4096) % 16) as usize;
+        let to = slot(work, u);
+        grounds::put_clause(x, n, goals, work, rests, to, q, j);
+        if u == NO_UNIT {
+            return Stop::Closed;
+        }
+        u = solver::join(x, n, goals, work, masks, u);
     }
 }
 
@@ -212,7 +210,8 @@ fn with_left(left: u32, right: Ended) -> Ended
 }
 
 // The search from the literals held, which stay held, with d splits on the branch: a model, or every branch closes, and the last
-// conflict's slot has what that rests on. What joined is taken back only before a right branch.
+// conflict's slot has what that rests on. What joined is taken back only before a right branch. Every goal is true; u is the unit that is
+// the next move, if it is one.
 fn search(
     x: &[u16],
     n: usize,
@@ -221,14 +220,15 @@ fn search(
     masks: &mut [u64],
     rests: &mut [u64],
     d: usize,
+    u: u32,
 ) -> Ended
     requires { ⌜ Indexed (now x) n ⌝ }
     requires { ⌜ Goals n (now goals) ⌝ }
     requires { ⌜ Holds (indexNode (now x)) n (now goals) (now work) (now masks) ⌝ }
-    requires { ⌜ Sets (now rests) × (d ≤ length (gOf (now work))) ⌝ }
+    requires { ⌜ Sets (now rests) × (d ≤ length (gOf (now work))) × Leads (now work) (now masks) u ⌝ }
     ensures { λ r. ⌜ Jumps (indexNode (now (x .entry))) n (now (goals .entry)) d (now (work .entry)) (now (rests .entry)) (now (work .exit)) (now (masks .exit)) (now (rests .exit)) r ⌝ }
 {
-    let stop = propagate(x, n, goals, work, masks, rests);
+    let stop = propagate(x, n, goals, work, masks, rests, u);
     match stop {
         Stop::Closed => Ended::Closed(0),
         Stop::Model => Ended::Model(0),
@@ -236,8 +236,8 @@ fn search(
             let held = state::count(work);
             let slot = held as usize + 1;
             rests::put_only(rests, slot, d);
-            solver::assume(x, n, goals, work, masks, l);
-            let left = search(x, n, goals, work, masks, rests, d + 1);
+            let first = solver::branch(x, n, goals, work, masks, l);
+            let left = search(x, n, goals, work, masks, rests, d + 1, first);
             match left {
                 Ended::Model(s) => Ended::Model(one_more(s, 0)),
                 Ended::Closed(s) => {
@@ -246,8 +246,8 @@ fn search(
                     }
                     solver::undo_to(x, n, goals, work, masks, held);
                     rests::put_less(rests, slot, CONFLICT, d);
-                    solver::assume(x, n, goals, work, masks, clause::negated(l));
-                    let right = search(x, n, goals, work, masks, rests, d + 1);
+                    let second = solver::branch(x, n, goals, work, masks, clause::negated(l));
+                    let right = search(x, n, goals, work, masks, rests, d + 1, second);
                     with_left(s, right)
                 }
             }
@@ -285,7 +285,8 @@ fn from_split(
     }
     let held = state::count(work) as usize;
     rests::clear(rests, held);
-    let e = search(x, n, goals, work, masks, rests, 0);
+    let u = moves::pick(work, masks);
+    let e = search(x, n, goals, work, masks, rests, 0, u);
     answer(e)
 }
 
@@ -339,7 +340,7 @@ fn alone(x: &[u16], n: usize, goals: &[u16], work: &mut [u16]) -> Ended
 {
     let mut masks = [0u64; 33];
     let mut rests = [0u64; 4036];
-    search(x, n, goals, work, &mut masks, &mut rests, 0)
+    search(x, n, goals, work, &mut masks, &mut rests, 0, NO_UNIT)
 }
 
 // One question put from the start, whatever is held: as `put`, but that sets are made at the first split.

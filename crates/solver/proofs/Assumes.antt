@@ -21,7 +21,7 @@ use Rattle.units.specs.Units.{member, positions, Units, Putted}
 use Rattle.clause.specs.Coded.{statesOf, Coded}
 use Rattle.state.specs.Work.{tail, litAt, baseOf, cursorAt, codeAt, cursorOf, conflictOf, waitingOf, gOf, trail, Ready, Numbered, trailAt, literalsAt, basesAt, valuesAt, cursorsAt, codesAt, area}
 use Rattle.state.specs.Holds.{statesAt, Entered, Late, Closed, AllMet, Holds, deniedAt, deniedOf, NoneDenied}
-use Rattle.state.specs.Picked.{Picked, Picks}
+use Rattle.state.specs.Picked.{Picked, Leads}
 use Rattle.state.specs.Changes.{Pushed, baseSet}
 use Rattle.state.proofs.Areas.{count-most, room-left, held-below, held-still, base-most, ready-same}
 use Rattle.solver.specs.Changes.{Beside, Renewed, Pending, Touchable, Touched, Taken, Forcing, Tidied, Attached, Served, Apart, Awaited}
@@ -425,8 +425,12 @@ module _ {x goals w m m₀ : List ℕ} {n l : ℕ} (I : Indexed x n) (H : Holds 
                 denied = denied₅;
               }
 
-              pub picked : waitingOf w₅ ≡ 0 → Picks w₅ m₄ u
-              picked e d = let (a, b, c) = Z₄ .next d in record { waiting = e; free = omega (arith, a, conflicts₅); first = b; kept = codes₅ _ ∙ c }
+              pub leads : waitingOf w₅ ≡ 0 → Leads w₅ m₄ u
+              leads e = record {
+                idle = e;
+                picks = λ d. let (a, b, c) = Z₄ .next d in record { waiting = e; free = omega (arith, a, conflicts₅); first = b; kept = codes₅ _ ∙ c };
+                none = λ d a. Z₄ .none d (omega (arith, a, conflicts₅));
+              }
 
 -- all of it together
 module _ {x goals w m m₀ w′ m′ : List ℕ} {n l u : ℕ} (I : Indexed x n) (H : Holds (indexNode x) n goals w m) (N : Taken w m l m₀) (f : Fresh n (gOf w) l)
@@ -450,8 +454,8 @@ module _ {x goals w m m₀ w′ m′ : List ℕ} {n l u : ℕ} (I : Indexed x n)
     pub list-attached : gOf w″ ≡ l ∷ gOf w
     list-attached = list₅ I H N f C (a .pushed) (a .own) (a .parents) (a .more) (a .based) A (a .clauses)
 
-    pub picks-attached : waitingOf w″ ≡ 0 → Picks w″ m′ u
-    picks-attached = picked I H N f C (a .pushed) (a .own) (a .parents) (a .more) (a .based) A (a .clauses) (a .tidied)
+    pub leads-attached : waitingOf w″ ≡ 0 → Leads w″ m′ u
+    leads-attached = leads I H N f C (a .pushed) (a .own) (a .parents) (a .more) (a .based) A (a .clauses) (a .tidied)
 
   -- where no goal waits, none is waited for
   module _ (e : waitingOf w ≡ 0) where
@@ -464,8 +468,8 @@ module _ {x goals w m m₀ w′ m′ : List ℕ} {n l u : ℕ} (I : Indexed x n)
     pub list-joined : gOf w′ ≡ l ∷ gOf w
     list-joined = list-attached (awaited-none served-attached none-waits)
 
-    pub picks-joined : Picks w′ m′ u
-    picks-joined = picks-attached (awaited-none served-attached none-waits) none-waits
+    pub leads-joined : Leads w′ m′ u
+    leads-joined = leads-attached (awaited-none served-attached none-waits) none-waits
 
 -- ---- what is taken out of the set
 

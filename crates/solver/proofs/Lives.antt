@@ -95,6 +95,7 @@ module _ {w m₀ m : List ℕ} {q : ℕ} (d : Dropped w m₀ m) (f : First m q) 
         ap (λ (o : ℕ). valueOf (gOf w) (codeAt (tail w) o % 4096)) (first-only j g) ∙ ap (λ (o : ℕ). valueOf (gOf w) (o % 4096)) (sym e)
         ∙ code-undecided (valueOf (gOf w) (k % 4096)) (sym i ∙ z);
     next = λ y. (rw at-is f, rw at-is (sym e) ∙ rest);
+    none = λ y. absurd (omega (arith, y, s, f .low));
   }
     where
       at-is : (65536 * q + k) / 65536 ≡ q
@@ -104,12 +105,12 @@ module _ {w m₀ m : List ℕ} {q : ℕ} (d : Dropped w m₀ m) (f : First m q) 
       rest = omega (arith, s)
 
 pub lived-none : {w m₀ m : List ℕ} → Dropped w m₀ m → Empty m → Lived w m₀ m noUnit
-lived-none d e = record { dropped = d; first = λ q f. absurd (omega (arith, f .here, e q (f .low))); next = λ y. absurd (y refl) }
+lived-none d e = record { dropped = d; first = λ q f. absurd (omega (arith, f .here, e q (f .low))); next = λ y. absurd (y refl); none = λ y. e }
 
 -- ---- behind a conflict nothing is dropped
 
 pub tidied-conflict : {w m : List ℕ} → Units m → conflictOf w < mostNodes → Tidied w m m noUnit
-tidied-conflict u c = record { dropped = dropped-starts u; first = λ f. absurd (omega (arith, f, c)); next = λ y. absurd (y refl) }
+tidied-conflict u c = record { dropped = dropped-starts u; first = λ f. absurd (omega (arith, f, c)); next = λ y. absurd (y refl); none = λ y f. absurd (omega (arith, f, c)) }
 
 pub tidied-lived : {w m m′ : List ℕ} {u : ℕ} → mostNodes ≤ conflictOf w → Lived w m m′ u → Tidied w m m′ u
-tidied-lived c k = record { dropped = k .dropped; first = λ f. k .first; next = λ y. (c, k .next y .0, k .next y .1) }
+tidied-lived c k = record { dropped = k .dropped; first = λ f. k .first; next = λ y. (c, k .next y .0, k .next y .1); none = λ y f. k .none y }

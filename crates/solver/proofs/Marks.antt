@@ -259,8 +259,11 @@ module _ {n : ℕ} {w : List ℕ} {p : ℕ} (h : Ready n w) (b : p < n) where
     pub at-node : litAt r₀ at / 2 ≡ p
     at-node = subst (λ (k : ℕ). litAt r₀ ((k - 1) / 2) / 2 ≡ p) (sym entry) (h .trail .from p b (λ z. omega (arith, entry, some-e, z)))
 
-    pub at-literal : litAt r₀ at ≡ 2 * p + (e - 1) % 2
+    at-literal : litAt r₀ at ≡ 2 * p + (e - 1) % 2
     at-literal = omega (arith, at-node, only at at-low at-node, entry)
+
+    pub at-coded : (t : ℕ → Node) {code : ℕ} → Coded (t p) (statesOf t (gOf w) (2 * p + (e - 1) % 2)) code → Coded (t p) (statesAt t (gOf w) r₀ at) code
+    at-coded t c = rw at-literal c
 
     at-only : (q : ℕ) → q < r₀ 0 → litAt r₀ q / 2 ≡ p → q ≡ at
     at-only q i k = omega (arith, only q i k, entry)
@@ -281,3 +284,9 @@ module _ {n : ℕ} {w : List ℕ} {p : ℕ} (h : Ready n w) (b : p < n) where
             subst (Late t n (gOf w′) (tail w′) (conflictOf w′) m′) (sym z) (k .late (subst (Late t n (gOf w) r₀ (conflictOf w) m) z y))
         go q i y (no z) =
             late-still (still-states few h (k .beside) t q i) (k .lower) (k .else q (omega (arith, i, count-most h, few)) z) (still-list few h (k .beside)) y
+
+    -- where no clause of it is a unit or all false, nothing is entered
+    pub visited-idle : {t : ℕ → Node} {m : List ℕ} {code : ℕ} → Table n t → n ≤ mostNodes → Units m
+        → Coded (t p) (statesOf t (gOf w) (2 * p + (e - 1) % 2)) code → code % 4 ≡ 0 → Visited t n w m p w m
+    visited-idle {t} T few u c z =
+        visited few (coded-same t T few h at-low b (at-coded t c) u (λ y. omega (arith, y, z)) (λ y. omega (arith, y, z)))

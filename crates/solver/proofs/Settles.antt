@@ -52,10 +52,9 @@ goal-low {n} {k} {goals} g i = all-at (λ l. l < 2 * n) goals k 0 (g .below) i
 
 -- ---- the cells are set
 
-module _ {w m′ : List ℕ} {c v : ℕ} (size : area ≤ length w) (u : Units m′ × Empty m′) where
-  pub settled : Settled w c v (set (set (set w 0 c) 1 mostNodes) 2 v) m′
+module _ {w : List ℕ} {c v : ℕ} (size : area ≤ length w) where
+  pub settled : Settled w c v (set (set (set w 0 c) 1 mostNodes) 2 v)
   settled = record {
-    units = u;
     size = simp length-set;
     cursor =
         getD-set-other (set (set w 0 c) 1 mostNodes) 2 0 v 0 (λ e. omega (arith, e)) ∙ getD-set-other (set w 0 c) 1 0 mostNodes 0 (λ e. omega (arith, e))
@@ -69,15 +68,15 @@ module _ {w m′ : List ℕ} {c v : ℕ} (size : area ≤ length w) (u : Units m
         ∙ getD-set-other w 0 i c 0 (λ e. omega (arith, e, k));
   }
 
--- the work area holds where no position of its trail has a unit or a conflict
-module _ {n : ℕ} {w w′ m′ : List ℕ} {c v : ℕ} (few : n ≤ mostNodes) (h : Ready n w) (z : Settled w c v w′ m′) where
+-- the work area holds, with an empty set, where no position of its trail has a unit or a conflict
+module _ {n : ℕ} {w w′ : List ℕ} {c v : ℕ} (few : n ≤ mostNodes) (h : Ready n w) (z : Settled w c v w′) where
   same : tail w′ ≡ tail w
   same = fun-ext (λ i. z .rest (trailAt + i) (omega arith))
 
   pub settled-list : gOf w′ ≡ gOf w
   settled-list = ap held same
 
-  module _ {t : ℕ → Node} {goals : List ℕ} (numbered : Numbered t goals (tail w)) (low : c ≤ tail w 0) (before : AllMet t (gOf w) (tail w) c)
+  module _ {t : ℕ → Node} {goals m′ : List ℕ} (u : Units m′ × Empty m′) (numbered : Numbered t goals (tail w)) (low : c ≤ tail w 0) (before : AllMet t (gOf w) (tail w) c)
       (cursors : (q : ℕ) → q < tail w 0 → (cursorAt (tail w) q ≤ q) × AllMet t (trail q (tail w)) (tail w) (cursorAt (tail w) q))
       (waiting : Waiting goals (gOf w) v) (undenied : NoneDenied goals (gOf w))
       (none : (q : ℕ) → q < tail w 0 → (some isEmpty (statesAt t (gOf w) (tail w) q) ≡ false) × (some isOne (statesAt t (gOf w) (tail w) q) ≡ false)) where
@@ -85,17 +84,17 @@ module _ {n : ℕ} {w w′ m′ : List ℕ} {c v : ℕ} (few : n ≤ mostNodes) 
     settled-holds = record {
       ready = ready-same few h (z .size) (λ i k. z .rest (trailAt + i) (omega arith)) (λ l k. z .rest (trailAt + (valuesAt + l)) (omega arith));
       numbered = subst (Numbered t goals) (sym same) numbered;
-      units = z .units .0;
+      units = u .0;
       entered = λ q i. record {
         unit = λ f y. absurd (false≢true (sym (none′ q i .1) ∙ y));
         conflict = λ y. absurd (false≢true (sym (none′ q i .0) ∙ y));
       };
       late = λ q i. record {
-        low = λ y. absurd (omega (arith, y, z .units .1 q (omega (arith, low′, i, few))));
-        live = λ f y u. absurd (omega (arith, y, z .units .1 q (omega (arith, low′, i, few))));
+        low = λ y. absurd (omega (arith, y, u .1 q (omega (arith, low′, i, few))));
+        live = λ f y v. absurd (omega (arith, y, u .1 q (omega (arith, low′, i, few))));
       };
-      first = λ f q y. absurd (omega (arith, y .here, z .units .1 q (y .low)));
-      clear = λ q i k. z .units .1 q k;
+      first = λ f q y. absurd (omega (arith, y .here, u .1 q (y .low)));
+      clear = λ q i k. u .1 q k;
       closed = λ k. absurd (omega (arith, k, z .conflict));
       cursor = omega (arith, z .cursor, low, ap (λ (r : ℕ → ℕ). r 0) same);
       met-before = subst (λ (r : ℕ → ℕ). AllMet t (held r) r (cursorOf w′)) (sym same) (subst (AllMet t (gOf w) (tail w)) (sym (z .cursor)) before);

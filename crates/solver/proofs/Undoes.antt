@@ -9,7 +9,7 @@ use lib.ListN.{length, getD, set, drop, replicate, length-set, getD-replicate}
 use lib.Seq.{getD-set-same, getD-set-other}
 use Rattle.scope.specs.declared.Node.{Node}
 use Rattle.calculus.specs.Expansion.{expand}
-use Rattle.calculus.specs.Order.{Value, holds, fails, undecided, valueOf, mem, empty, joined, isEmpty, isOne, some, clauses, move}
+use Rattle.calculus.specs.Order.{undecided, valueOf, mem, isEmpty, isOne, some, clauses, move}
 use Rattle.trail.proofs.Trails.{trail-length, trail-same}
 use Rattle.state.specs.Work.{tail, cursorAt, gOf, trail, Numbered, trailAt, basesAt, valuesAt}
 use Rattle.units.specs.Units.{words, Units, Empty}
@@ -17,7 +17,8 @@ use Rattle.units.proofs.Sets.{cleared}
 use Rattle.state.specs.Holds.{Holds, AllMet, Waiting, Splits, statesAt, deniedAt, NoneDenied}
 use Rattle.state.specs.Changes.{Blank}
 use Rattle.state.proofs.Areas.{count-most, ready-same}
-use Rattle.state.proofs.Clauses.{sofar, sofar-length, none-at, none-goals, none-position, goal-state, goals-length, split-none}
+use Rattle.state.proofs.Idle.{split-clear, split-true}
+use Rattle.state.proofs.Clauses.{sofar-length, none-position, goals-length}
 use Rattle.solver.specs.Changes.{Settled, Left}
 use Rattle.solver.proofs.Stays.{holds-fails}
 use Rattle.solver.proofs.Settles.{waiting-over, settled-list, settled-holds}
@@ -31,12 +32,6 @@ trail-drop zero q r =
 trail-drop (suc k) q r =
     let e : suc k + q ≡ suc (k + q) = omega arith in
     rw e (trail-drop k q r)
-
--- a goal that is neither false nor undecided is true
-goal-holds : (v : Value) (l : ℕ) → isEmpty (joined v l empty) ≡ false → isOne (joined v l empty) ≡ false → v ≡ holds
-goal-holds holds l a b = refl
-goal-holds fails l a b = absurd (false≢true (sym a))
-goal-holds undecided l a b = absurd (false≢true (sym b))
 
 -- ---- back to a split
 
@@ -57,19 +52,11 @@ module _ {t : ℕ → Node} {n to : ℕ} {goals w m w₁ : List ℕ} (few : n �
       ap (λ (q : ℕ). trail q (tail w₁)) (k .count) ∙ trails to (omega arith) ∙ trail-drop (length (gOf w) - to) to (tail w)
       ∙ ap (λ (q : ℕ). drop (length (gOf w) - to) (trail q (tail w))) e
 
-  -- the clauses of a split: none is all false, none is a unit
-  none : (some isEmpty (sofar t goals (gOf w₁) (tail w₁) (tail w₁ 0)) ≡ false) × (some isOne (sofar t goals (gOf w₁) (tail w₁) (tail w₁ 0)) ≡ false)
-  unfolding move
-  none = split-none (sofar t goals (gOf w₁) (tail w₁) (tail w₁ 0)) (s .0) (ap (move (expand t) goals) list ∙ s .1)
+  splits : Splits (expand t) goals (gOf w₁)
+  splits = (s .0, ap (move (expand t) goals) list ∙ s .1)
 
   waiting : Waiting goals (gOf w₁) 0
-  waiting =
-      waiting-over {k = length goals} (omega arith) (λ i b.
-      let z : i < length (sofar t goals (gOf w₁) (tail w₁) 0) = omega (arith, b, goals-length t goals (gOf w₁) (tail w₁)) in
-      let a = none-at isEmpty (sofar t goals (gOf w₁) (tail w₁) 0) i (none-goals t goals (gOf w₁) (tail w₁) isEmpty (tail w₁ 0) (none .0)) z in
-      let o = none-at isOne (sofar t goals (gOf w₁) (tail w₁) 0) i (none-goals t goals (gOf w₁) (tail w₁) isOne (tail w₁ 0) (none .1)) z in
-      let g = goal-state t goals (gOf w₁) (tail w₁) i b in
-      goal-holds (valueOf (gOf w₁) (getD goals i 0)) (getD goals i 0) (rw g at a) (rw g at o))
+  waiting = waiting-over {k = length goals} (omega arith) (split-true t goals w₁ splits)
 
   -- a cursor of before
   met-before : (q : ℕ) → q ≤ to → (cursorAt (tail w₁) q ≤ q) × AllMet t (trail q (tail w₁)) (tail w₁) (cursorAt (tail w₁) q)
@@ -79,10 +66,10 @@ module _ {t : ℕ → Node} {n to : ℕ} {goals w m w₁ : List ℕ} (few : n �
         λ p b. rw (trails q i, k .lits p (omega (arith, b, k .cursors q, c .0, i, under, most))) (c .1 p (omega (arith, b, k .cursors q))),
       )
 
-  module _ {c : ℕ} {w₂ m₂ : List ℕ} (e : c ≡ cursorAt (tail w₁) to) (z : Settled w₁ c 0 w₂ m₂) where
-    pub undone : Holds t n goals w₂ m₂
-    undone =
-        settled-holds few (k .ready) z
+  module _ {c : ℕ} {w₂ : List ℕ} (e : c ≡ cursorAt (tail w₁) to) (z : Settled w₁ c 0 w₂) where
+    pub undone : {m₂ : List ℕ} → Units m₂ × Empty m₂ → Holds t n goals w₂ m₂
+    undone u =
+        settled-holds few (k .ready) z u
         (λ q i. k .bases q (omega (arith, i, k .count, under, most)) ∙ H .numbered q (omega (arith, i, k .count, under))
         ∙ ap (λ (F : List ℕ). length (clauses (expand t) goals F)) (sym (trails q (omega (arith, i, k .count)))))
         (omega (arith, e, met-before to (omega arith) .0, k .count))
@@ -92,8 +79,8 @@ module _ {t : ℕ → Node} {n to : ℕ} {goals w m w₁ : List ℕ} (few : n �
         waiting
         (λ i b y. holds-fails (sym (waiting .over i (omega (arith, b))) ∙ y))
         (λ q i. (
-          none-position t goals (gOf w₁) (tail w₁) isEmpty q (tail w₁ 0) i (none .0),
-          none-position t goals (gOf w₁) (tail w₁) isOne q (tail w₁ 0) i (none .1),
+          none-position t goals (gOf w₁) (tail w₁) isEmpty q (tail w₁ 0) i (split-clear t goals w₁ splits .0),
+          none-position t goals (gOf w₁) (tail w₁) isOne q (tail w₁ 0) i (split-clear t goals w₁ splits .1),
         ))
 
     pub undone-list : gOf w₂ ≡ drop (length (gOf w) - to) (gOf w)
@@ -107,8 +94,7 @@ module _ {t : ℕ → Node} {n to : ℕ} {goals w m w₁ : List ℕ} (few : n �
 -- at a split an empty set will do, as no clause is a unit
 module _ {t : ℕ → Node} {n : ℕ} {goals w m : List ℕ} (few : n ≤ mostNodes) (H : Holds t n goals w m) (s : Splits (expand t) goals (gOf w)) where
   no-one : (q : ℕ) → q < tail w 0 → some isOne (statesAt t (gOf w) (tail w) q) ≡ false
-  unfolding move
-  no-one q i = none-position t goals (gOf w) (tail w) isOne q (tail w 0) i (split-none (sofar t goals (gOf w) (tail w) (tail w 0)) (s .0) (s .1) .1)
+  no-one q i = none-position t goals (gOf w) (tail w) isOne q (tail w 0) i (split-clear t goals w s .1)
 
   emptied : {m′ : List ℕ} → Units m′ × Empty m′ → Holds t n goals w m′
   emptied {m′} (u, e) = record {
@@ -135,8 +121,8 @@ module _ {t : ℕ → Node} {n : ℕ} {goals w m : List ℕ} (few : n ≤ mostNo
 
 -- ---- nothing is held
 
-module _ (t : ℕ → Node) (goals : List ℕ) {n : ℕ} {w w′ m′ : List ℕ} (few : n ≤ mostNodes) (b : Blank n (length goals) w)
-    (z : Settled w 0 (length goals) w′ m′) where
+module _ (t : ℕ → Node) (goals : List ℕ) {n : ℕ} {w w′ : List ℕ} (few : n ≤ mostNodes) (b : Blank n (length goals) w)
+    (z : Settled w 0 (length goals) w′) where
   empty-list : gOf w ≡ []
   unfolding trail
   empty-list = ap (λ (q : ℕ). trail q (tail w)) (b .count)
@@ -160,9 +146,9 @@ module _ (t : ℕ → Node) (goals : List ℕ) {n : ℕ} {w w′ m′ : List ℕ
   undenied : NoneDenied goals (gOf w)
   undenied k i y = let z : _≡_ {A = ℕ} 0 1 = cc (no-value (getD goals k 0)) in omega arith
 
-  pub started : Holds t n goals w′ m′
-  started =
-      settled-holds few (b .ready) z numbered (omega arith) (λ q i. absurd (omega (arith, i))) (λ q i. absurd (omega (arith, i, b .count))) waits
+  pub started : {m′ : List ℕ} → Units m′ × Empty m′ → Holds t n goals w′ m′
+  started u =
+      settled-holds few (b .ready) z u numbered (omega arith) (λ q i. absurd (omega (arith, i))) (λ q i. absurd (omega (arith, i, b .count))) waits
       undenied (λ q i. absurd (omega (arith, i, b .count)))
 
   pub started-list : gOf w′ ≡ []

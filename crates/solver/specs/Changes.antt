@@ -107,12 +107,14 @@ pub record Lived (w m m′ : List ℕ) (u : ℕ) : Type 0 where
   pub dropped : Dropped w m m′
   pub first : (q : ℕ) → First m′ q → valueOf (gOf w) (codeAt (tail w) q % 4096) ≡ undecided
   pub next : (u ≡ noUnit → ⊥) → First m′ (u / 65536) × (codeAt (tail w) (u / 65536) ≡ u % 65536)
+  pub none : u ≡ noUnit → Empty m′
 
 -- the same where there is no conflict; behind one u is `noUnit`
 pub record Tidied (w m m′ : List ℕ) (u : ℕ) : Type 0 where
   pub dropped : Dropped w m m′
   pub first : FirstLive (gOf w) (tail w) (conflictOf w) m′
   pub next : (u ≡ noUnit → ⊥) → (mostNodes ≤ conflictOf w) × First m′ (u / 65536) × (codeAt (tail w) (u / 65536) ≡ u % 65536)
+  pub none : u ≡ noUnit → mostNodes ≤ conflictOf w → Empty m′
 
 -- what a joining literal asks: the work area holds, for some goals, with the set as it was before a position was taken out of it
 abbrev pub Held : (ℕ → Node) → ℕ → List ℕ → ℕ → List ℕ → Type 0
@@ -175,9 +177,8 @@ pub record Enlisted (t : ℕ → Node) (n : ℕ) (goals : List ℕ) (l : ℕ) (w
 
 -- ---- undo and start
 
--- the cursor is c, no position is a unit or has a conflict, v goals wait; the trail is not changed
-pub record Settled (w : List ℕ) (c v : ℕ) (w′ m′ : List ℕ) : Type 0 where
-  pub units : Units m′ × Empty m′
+-- the cursor is c, no position has a conflict, v goals wait; the trail is not changed
+pub record Settled (w : List ℕ) (c v : ℕ) (w′ : List ℕ) : Type 0 where
   pub size : length w′ ≡ length w
   pub cursor : cursorOf w′ ≡ c
   pub conflict : conflictOf w′ ≡ mostNodes

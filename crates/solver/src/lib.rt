@@ -13,11 +13,11 @@ ghost use Rattle.calculus.specs.Model.{Goals, Fresh, questionSize};
 ghost use Rattle.index.specs.Index.{mostNodes, indexNode};
 ghost use Rattle.index.specs.Edges.{PairAt, parentOf};
 ghost use Rattle.index.specs.Indexed.{Indexed};
-ghost use Rattle.units.specs.Units.{words, positions, member, Units, Empty};
+ghost use Rattle.units.specs.Units.{words, positions, member, Units};
 ghost use Rattle.clause.specs.Coded.{Coded};
-ghost use Rattle.state.specs.Work.{area, tail, litAt, gOf, conflictOf, Ready, trailAt, basesAt};
+ghost use Rattle.state.specs.Work.{area, tail, litAt, gOf, conflictOf, waitingOf, Ready, trailAt, basesAt};
 ghost use Rattle.state.specs.Holds.{Holds, Splits, Waiting, statesAt, deniedAt};
-ghost use Rattle.state.specs.Picked.{Picked, Picks};
+ghost use Rattle.state.specs.Picked.{Picked, Leads};
 ghost use Rattle.solver.specs.Changes.{Lowered, Flagged, Renewed, Visited, ThreeFrom, Walk, Touchable, Touched, Forcing, Lived, Tidied, Taken, Held, Attached, Served, Awaited, Stands, Enlisted, Settled, Left, Apart};
 
 // The cells of the work area.
@@ -107,18 +107,21 @@ fn renew(
     code
 }
 
-// The same, if node p's literal is held.
+// The same for node p, which has three operands, if its literal is held. Most looks end at the test: no clause is a unit or all false.
 fn visit(x: &[u16], n: usize, work: &mut [u16], masks: &mut [u64], p: usize)
     requires { ⌜ Indexed (now x) n ⌝ }
     requires { ⌜ Ready n (now work) × Units (now masks) ⌝ }
-    requires { ⌜ p < n ⌝ }
+    requires { ⌜ (p < n) × (6 < indexNode (now x) p .kind) ⌝ }
     ensures { λ _. ⌜ Visited (indexNode (now (x .entry))) n (now (work .entry)) (now (masks .entry)) p (now (work .exit)) (now (masks .exit)) ⌝ }
 {
     let e = state::entry(work, p) as usize;
     if e == 0 {
         return;
     }
-    renew(x, n, work, masks, p, (e - 1) / 2, (e - 1) % 2);
+    let code = clause::code_of_three(x, n, work, p, (e - 1) % 2);
+    if code % 4 != 0 {
+        enter(x, n, work, masks, p, (e - 1) / 2, code);
+    }
 }
 
 // The edge of a node at offset k, as the node's literal of a sign has become true: so is what the clauses of its parent's literal come to,
@@ -331,7 +334,28 @@ pub fn assume(x: &[u16], n: usize, goals: &[u16], work: &mut [u16], masks: &mut 
     wait(n, goals, work, l);
 }
 
-// The unit that is the next move joins. The answer is the one behind it, or NO_UNIT, and then the next move is to be looked for.
+// A literal, which is undecided, is assumed true where no goal waits, as at a split. The answer is the next unit, or NO_UNIT: then there
+// is a conflict, or none.
+pub fn branch(
+    x: &[u16],
+    n: usize,
+    goals: &[u16],
+    work: &mut [u16],
+    masks: &mut [u64],
+    l: u16,
+) -> u32
+    requires { ⌜ Indexed (now x) n ⌝ }
+    requires { ⌜ Goals n (now goals) ⌝ }
+    requires { ⌜ Holds (indexNode (now x)) n (now goals) (now work) (now masks) ⌝ }
+    requires { ⌜ Fresh n (gOf (now work)) l × (waitingOf (now work) ≡ 0) ⌝ }
+    ensures { λ _. ⌜ Holds (indexNode (now (x .entry))) n (now (goals .entry)) (now (work .exit)) (now (masks .exit)) ⌝ }
+    ensures { λ _. ⌜ gOf (now (work .exit)) ≡ l ∷ gOf (now (work .entry)) ⌝ }
+    ensures { λ r. ⌜ Leads (now (work .exit)) (now (masks .exit)) r ⌝ }
+{
+    attach(x, n, work, masks, l)
+}
+
+// The unit that is the next move joins. The answer is the one behind it, or NO_UNIT: then there is a conflict, or none.
 pub fn join(x: &[u16], n: usize, goals: &[u16], work: &mut [u16], masks: &mut [u64], u: u32) -> u32
     requires { ⌜ Indexed (now x) n ⌝ }
     requires { ⌜ Goals n (now goals) ⌝ }
@@ -339,7 +363,7 @@ pub fn join(x: &[u16], n: usize, goals: &[u16], work: &mut [u16], masks: &mut [u
     requires { ⌜ Picked (now work) (now masks) u ⌝ }
     ensures { λ _. ⌜ Holds (indexNode (now (x .entry))) n (now (goals .entry)) (now (work .exit)) (now (masks .exit)) ⌝ }
     ensures { λ _. ⌜ gOf (now (work .exit)) ≡ u % 4096 ∷ gOf (now (work .entry)) ⌝ }
-    ensures { λ r. ⌜ Picks (now (work .exit)) (now (masks .exit)) r ⌝ }
+    ensures { λ r. ⌜ Leads (now (work .exit)) (now (masks .exit)) r ⌝ }
 {
     units::leave(masks, (u / 65536) as usize);
     attach(x, n, work, masks, (u % 4096) as u16)
@@ -396,23 +420,14 @@ pub fn join_goal(
     false
 }
 
-// No clause is a unit.
-fn no_units(masks: &mut [u64])
-    requires { ⌜ length (now masks) ≡ words ⌝ }
-    ensures { λ _. ⌜ Units (now (masks .exit)) × Empty (now (masks .exit)) ⌝ }
-{
-    units::clear(masks);
-}
-
-// The cursor is set; no clause is a unit or all false, and this many goals wait.
-fn settle(work: &mut [u16], masks: &mut [u64], cursor: u16, waiting: u16)
-    requires { ⌜ (area ≤ length (now work)) × (length (now masks) ≡ words) ⌝ }
-    ensures { λ _. ⌜ Settled (now (work .entry)) cursor waiting (now (work .exit)) (now (masks .exit)) ⌝ }
+// The cursor is set; no clause is all false, and this many goals wait.
+fn settle(work: &mut [u16], cursor: u16, waiting: u16)
+    requires { ⌜ area ≤ length (now work) ⌝ }
+    ensures { λ _. ⌜ Settled (now (work .entry)) cursor waiting (now (work .exit)) ⌝ }
 {
     work[CURSOR] = cursor;
     work[CONFLICT] = NONE;
     work[WAITING] = waiting;
-    no_units(masks);
 }
 
 // The literals after the first `held` leave those held.
@@ -438,7 +453,8 @@ pub fn undo_to(x: &[u16], n: usize, goals: &[u16], work: &mut [u16], masks: &mut
 {
     leave(n, work, held);
     let cursor = state::cursor_at(work, held as usize);
-    settle(work, masks, cursor, 0);
+    settle(work, cursor, 0);
+    units::drain(masks);
 }
 
 // Nothing is assumed.
@@ -481,5 +497,6 @@ pub fn restart(x: &[u16], n: usize, goals: &[u16], work: &mut [u16], masks: &mut
     leave(n, work, 0);
     rebase(work, waiting);
     allow(work);
-    settle(work, masks, 0, waiting);
+    settle(work, 0, waiting);
+    units::clear(masks);
 }

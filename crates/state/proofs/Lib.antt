@@ -3,3 +3,4 @@ pub mod Areas
 pub mod Values
 pub mod Joins
 pub mod Clauses
+pub mod Idle

@@ -5,11 +5,14 @@ ghost use lib.ListN.{length};
 ghost use Rattle.calculus.specs.Model.{Fresh};
 ghost use Rattle.calculus.specs.Order.{valueOf};
 ghost use Rattle.index.specs.Index.{mostNodes};
-ghost use Rattle.state.specs.Work.{area, tail, litAt, entryOf, baseOf, cursorAt, codeAt, gOf, waitingOf, valueCode, Ready};
+ghost use Rattle.state.specs.Work.{area, tail, litAt, entryOf, baseOf, cursorAt, codeAt, gOf, conflictOf, waitingOf, valueCode, Ready};
 ghost use Rattle.state.specs.Changes.{valuesSet, entrySet, baseSet, codeSet, Pushed, Popped, Wiped, Blank};
 
 // The cursor: every clause of the positions before it is met.
 const CURSOR: usize = 0;
+
+// The first position that has a conflict, or none.
+const CONFLICT: usize = 1;
 
 // How many goals wait.
 const WAITING: usize = 2;
@@ -38,6 +41,14 @@ pub fn waiting(work: &[u16]) -> u16
     ensures { λ r. ⌜ r ≡ waitingOf (now (work .entry)) ⌝ }
 {
     work[WAITING]
+}
+
+// The first position that has a conflict, or none.
+pub fn conflict(work: &[u16]) -> u16
+    requires { ⌜ area ≤ length (now work) ⌝ }
+    ensures { λ r. ⌜ r ≡ conflictOf (now (work .entry)) ⌝ }
+{
+    work[CONFLICT]
 }
 
 // How many literals are held.

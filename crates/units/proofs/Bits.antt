@@ -7,7 +7,7 @@ use native.Mathlib.Numerals.{one-add}
 use native.Mathlib.Omega.{arith}
 use lib.Dec.{eqb}
 use lib.Pow.{shr-shr}
-use lib.Bits.{bitOr, or-step}
+use lib.Bits.{bitAnd, bitOr, and-step, or-step, and-self}
 use lib.Count.{under, trailingZeros}
 use Rattle.units.specs.Units.{bit}
 
@@ -95,6 +95,27 @@ lowest (suc n) x h f = go (x % 2) refl (λ (e : x % 2 ≡ 0). lowest n (x / 2) (
         least zero l = bit-zero x ∙ e
         least (suc j) l = bit-suc x j ∙ r e .under j (omega arith)
     go (suc d) e r = record { low = omega arith; here = bit-zero x ∙ omega arith; under = λ j l. absurd (omega (arith, l)) }
+
+-- a number without its lowest bit
+pub less-lowest : (n x : ℕ) → 0 < x → x < 2 ^ n → Turned x (bitAnd x (x - 1)) (trailingZeros n x) 0
+unfolding trailingZeros
+less-lowest zero x h f = absurd (omega (arith, h, f))
+less-lowest (suc n) x h f = go (x % 2) refl (λ (e : x % 2 ≡ 0). less-lowest n (x / 2) (omega arith) (omega (arith, pow-suc 2 n)))
+  where
+    go : (d : ℕ) → x % 2 ≡ d → (x % 2 ≡ 0 → Turned (x / 2) (bitAnd (x / 2) (x / 2 - 1)) (trailingZeros n (x / 2)) 0)
+        → Turned x (bitAnd x (x - 1)) (under d (trailingZeros n (x / 2))) 0
+    go zero e r =
+        let a : (x - 1) / 2 ≡ x / 2 - 1 = omega arith in
+        let b : (x - 1) % 2 ≡ 1 = omega arith in
+        let s = rw (a, b, e) at (and-step x (x - 1)) in
+        let half : bitAnd x (x - 1) / 2 ≡ bitAnd (x / 2) (x / 2 - 1) = omega (arith, s) in
+        turned-suc x (bitAnd x (x - 1)) (trailingZeros n (x / 2)) 0 (omega (arith, s)) (rw half (r e))
+    go (suc d) e r =
+        let a : (x - 1) / 2 ≡ x / 2 = omega arith in
+        let b : (x - 1) % 2 ≡ 0 = omega arith in
+        let o : x % 2 ≡ 1 = omega arith in
+        let s = rw (a, b, o, and-self (x / 2)) at (and-step x (x - 1)) in
+        turned-zero x (bitAnd x (x - 1)) 0 (omega (arith, s)) (omega (arith, s))
 
 -- ---- the bits of `|`
 

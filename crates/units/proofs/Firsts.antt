@@ -14,9 +14,9 @@ use Rattle.units.specs.Units.{blocks, member, someIn, Units, Some, Empty
 use Rattle.units.proofs.Bits.{Lowest, lowest, bit-none}
 use Rattle.units.proofs.Sets.{some-block, some-past}
 
-module _ (m : List ℕ) (U : Units m) where
+module _ (m : List ℕ) where
   -- the sum's bit of a block is 1 where its word is not 0, and 0 where it is
-  some-one : (b : ℕ) → someIn m b ≡ 1 → (b < blocks) × (getD m b 0 ≡ 0 → ⊥)
+  pub some-one : (b : ℕ) → someIn m b ≡ 1 → (b < blocks) × (getD m b 0 ≡ 0 → ⊥)
   some-one b h = (in-range, λ e. omega (arith, h, some-block m b in-range, zero e))
     where
       in-range : b < blocks
@@ -25,7 +25,7 @@ module _ (m : List ℕ) (U : Units m) where
       zero : getD m b 0 ≡ 0 → _≡_ {A = ℕ} (cond (eqb (getD m b 0) 0) 0 1) 0
       zero e = rw (eq-eqb (getD m b 0) 0 e)
 
-  word-none : (b : ℕ) → b < blocks → someIn m b ≡ 0 → getD m b 0 ≡ 0
+  pub word-none : (b : ℕ) → b < blocks → someIn m b ≡ 0 → getD m b 0 ≡ 0
   word-none b l h = go (ℕ-discrete (getD m b 0) 0)
     where
       one : (getD m b 0 ≡ 0 → ⊥) → _≡_ {A = ℕ} (cond (eqb (getD m b 0) 0) 0 1) 1
@@ -35,6 +35,7 @@ module _ (m : List ℕ) (U : Units m) where
       go (yes e) = e
       go (no e) = absurd (omega (arith, h, some-block m b l, one e))
 
+module _ (m : List ℕ) (U : Units m) where
   -- a word that is 0 has no position
   none-in : (j : ℕ) → getD m (j / 64) 0 ≡ 0 → member m j ≡ 0
   unfolding member
@@ -42,7 +43,7 @@ module _ (m : List ℕ) (U : Units m) where
 
   none-found : getD m blocks 0 ≡ 0 → Empty m
   none-found e q h =
-      none-in q (word-none (q / 64) (omega arith) (sym (U .sums (q / 64) (omega arith)) ∙ rw e (bit-none (q / 64))))
+      none-in q (word-none m (q / 64) (omega arith) (sym (U .sums (q / 64) (omega arith)) ∙ rw e (bit-none (q / 64))))
 
   -- where there is a position, the sum is not 0
   pub sum-some : Some m → getD m blocks 0 ≡ 0 → ⊥
@@ -57,7 +58,7 @@ module _ (m : List ℕ) (U : Units m) where
     low-block = lowest 64 (getD m blocks 0) (omega (arith, n)) low
 
     pub block-some : (block < blocks) × (getD m block 0 ≡ 0 → ⊥)
-    block-some = some-one block (sym (U .sums block (low-block .low)) ∙ low-block .here)
+    block-some = some-one m block (sym (U .sums block (low-block .low)) ∙ low-block .here)
 
     module _ (fits : getD m block 0 < 2 ^ 64) where
       abbrev place : ℕ
@@ -70,7 +71,7 @@ module _ (m : List ℕ) (U : Units m) where
       unfolding member
       earlier j k (yes e) = rw e (low-place .under (j % 64) (omega arith))
       earlier j k (no e) =
-          none-in j (word-none (j / 64) (omega (arith, low-place .low, block-some .0))
+          none-in j (word-none m (j / 64) (omega (arith, low-place .low, block-some .0))
           (sym (U .sums (j / 64) (omega (arith, low-place .low, block-some .0))) ∙ low-block .under (j / 64) (omega (arith, low-place .low))))
 
       pub first-found : First m (64 * block + place)

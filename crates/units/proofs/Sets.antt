@@ -28,7 +28,7 @@ unfolding someIn
 some-past m b h = rw (le-ltb b blocks h)
 
 -- it goes by the block's word alone
-some-same : (m m′ : List ℕ) (b : ℕ) → (b < blocks → getD m′ b 0 ≡ getD m b 0) → someIn m′ b ≡ someIn m b
+pub some-same : (m m′ : List ℕ) (b : ℕ) → (b < blocks → getD m′ b 0 ≡ getD m b 0) → someIn m′ b ≡ someIn m b
 some-same m m′ b e = go (decLt b blocks)
   where
     go : Dec (b < blocks) → someIn m′ b ≡ someIn m b

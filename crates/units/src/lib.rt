@@ -66,3 +66,17 @@ pub fn clear(m: &mut [u64])
         i += 1;
     }
 }
+
+// The same for words that hold a set: those that are 0 are passed over, as the sum tells them.
+pub fn drain(m: &mut [u64])
+    requires { ⌜ Units (now m) ⌝ }
+    ensures { λ _. ⌜ Units (now (m .exit)) × Empty (now (m .exit)) ⌝ }
+{
+    let mut sum = m[SUM];
+    while sum != 0 {
+        let b = u64::trailing_zeros(sum) as usize;
+        m[b] = 0;
+        sum = sum & (sum - 1);
+    }
+    m[SUM] = 0;
+}

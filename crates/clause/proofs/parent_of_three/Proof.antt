@@ -1,8 +1,8 @@
--- `clause::parent_of_three` meets its contract: the parent is below n, as that of each edge. Assumes nothing.
+-- `clause::parent_of_three` meets its contract: the parent is one of the nodes and has three operands, as that of each edge. Assumes nothing.
 use mathlib.Core.Path.{refl}
 use Prim.Native.Nat.{_<_}
-use Rattle.index.specs.Index.{mostEdges}
-use Rattle.index.specs.Edges.{edgeAt}
+use Rattle.index.specs.Index.{mostEdges, indexNode}
+use Rattle.index.specs.Edges.{Triple, edgeAt}
 use Rattle.clause.proofs.Classes.{three-within}
 use native.Mathlib.Omega.{arith}
 use Rattle.clause.proofs.parent_of_three.Statement.{statement}
@@ -11,11 +11,8 @@ use Rattle.clause.proofs.parent_of_three.Tie as tie
 within : (s : tie.Start) → s .args .k < mostEdges
 within s = three-within (s .pre .0) (s .args .node) (s .args .k) (s .pre .1 .0) (s .pre .1 .1)
 
-below : (s : tie.Start) → edgeAt (s .args .x .now) (s .args .k) < s .args .n
-below s = s .pre .0 .edges .threes (s .args .node) (s .args .k) (s .pre .1 .0) (s .pre .1 .1)
-
-returns : tie.Need-returns
-returns c = (refl, below (c .before))
+edge : (s : tie.Start) → Triple (indexNode (s .args .x .now)) (s .args .n) (edgeAt (s .args .x .now) (s .args .k))
+edge s = s .pre .0 .edges .threes (s .args .node) (s .args .k) (s .pre .1 .0) (s .pre .1 .1)
 
 pub parent-of-three-spec : {M : Type 1} → statement M
 parent-of-three-spec =
@@ -24,5 +21,5 @@ parent-of-three-spec =
     (λ c. omega (arith, within c))
     (λ c. omega (arith, within c))
     (λ c. omega (arith, within (c .before)))
-    (λ c. omega (arith, below (c .before), c .before .pre .0 .few))
-    returns)
+    (λ c. omega (arith, edge (c .before) .low, c .before .pre .0 .few))
+    (λ c. (refl, edge (c .before) .low, edge (c .before) .kind)))

@@ -16,31 +16,26 @@ use Rattle.emitting.proofs.phase.Statement.{statement}
 use Rattle.emitting.proofs.phase.Tie as tie
 
 abbrev Inv-loop : tie.InvT-loop
-Inv-loop version templates x n goals work₀ masks₀ out₀ block₀ at₀ u₀ work masks out block at u =
+Inv-loop version templates x n goals work₀ masks₀ out₀ block₀ first at₀ u₀ work masks out block at u =
     Run version (indexNode x) n goals work₀ masks₀ work masks out₀ out (lent block₀ at₀) (lent block at) × Picks work masks u
 
 abbrev μ-loop : tie.MeasureT-loop
-μ-loop version templates x n goals work₀ masks₀ out₀ block₀ at₀ u₀ work masks out block at u = n - length (gOf work)
-
-pick-requires : tie.Need-pick-requires Inv-loop μ-loop
-pick-requires c κs =
-    let H = c .before .before .before .before .before .before .before .pre .1 .1 .1 .0 in
-    (H .ready .size, H .units)
+μ-loop version templates x n goals work₀ masks₀ out₀ block₀ first at₀ u₀ work masks out block at u = n - length (gOf work)
 
 loop-holds : tie.Need-loop-holds Inv-loop μ-loop
 loop-holds c =
-    let p = c .before .before .before .before .before .before .before .before .pre .1 in
-    (run-starts (p .1 .1 .0) (p .1 .1 .1), c .pick .ensures .0)
+    let p = c .before .before .before .before .before .pre .1 in
+    (run-starts (p .1 .1 .0) (p .1 .1 .1 .0), p .1 .1 .1 .1)
 
 unit-move-requires : tie.Need-unit-move-requires Inv-loop μ-loop
 unit-move-requires c κs =
-    let p = c .before .before .before .before .before .before .before .before .before .before .before .before .pre .1 in
+    let p = c .before .before .before .before .before .before .before .before .before .pre .1 in
     let i = c .before .before .before .loop .inv in
     (p .0, (p .1 .0, (i .0 .holds, i .1 (c .before .before .if1 .taken))))
 
 on-clause-requires : tie.Need-on-clause-requires Inv-loop μ-loop
 on-clause-requires c κs =
-    let s = c .before .before .before .before .before .before .before .before .before .before .before .before .before .before .before .before .before .before .pre in
+    let s = c .before .before .before .before .before .before .before .before .before .before .before .before .before .before .before .pre in
     let p = s .1 in
     let v = c .before .before .before .before .before .unit-move in
     let r = run-looked (c .before .before .before .before .before .before .before .before .before .loop .inv .0) (v .ensures .0 .holds-on) (v .ensures .0 .list) (v .kept .1 .1 .1 .0) in
@@ -49,13 +44,13 @@ on-clause-requires c κs =
 
 join-requires : tie.Need-join-requires Inv-loop μ-loop
 join-requires c κs =
-    let p = c .before .before .before .before .before .before .before .before .before .before .before .before .before .before .before .before .before .before .before .before .before .before .before .pre .1 in
+    let p = c .before .before .before .before .before .before .before .before .before .before .before .before .before .before .before .before .before .before .before .before .pre .1 in
     let v = c .before .before .before .before .before .before .before .before .before .before .unit-move .ensures in
     (p .0, (p .1 .0, (v .0 .holds-on, v .1 .1)))
 
 loop-less : tie.Need-loop-less Inv-loop μ-loop
 loop-less c =
-    let p = c .before .before .before .before .before .before .before .before .before .before .before .before .before .before .before .before .before .before .before .before .before .before .before .before .before .before .before .before .pre .1 in
+    let p = c .before .before .before .before .before .before .before .before .before .before .before .before .before .before .before .before .before .before .before .before .before .before .before .before .before .pre .1 in
     let v = c .before .before .before .before .before .before .before .before .before .before .before .before .before .before .before .unit-move in
     let r = run-looked (c .before .before .before .before .before .before .before .before .before .before .before .before .before .before .before .before .before .before .before .loop .inv .0) (v .ensures .0 .holds-on) (v .ensures .0 .list) (v .kept .1 .1 .1 .0) in
     let e = looked (r .holds) (v .ensures .0 .is) (v .ensures .0 .list) refl in
@@ -63,16 +58,16 @@ loop-less c =
 
 loop-again : tie.Need-loop-again Inv-loop μ-loop
 loop-again c =
-    let p = c .before .before .before .before .before .before .before .before .before .before .before .before .before .before .before .before .before .before .before .before .before .before .before .before .before .before .before .before .pre .1 in
+    let p = c .before .before .before .before .before .before .before .before .before .before .before .before .before .before .before .before .before .before .before .before .before .before .before .before .before .pre .1 in
     let v = c .before .before .before .before .before .before .before .before .before .before .before .before .before .before .before .unit-move in
     let a = c .before .before .before .before .join in
     let r = run-looked (c .before .before .before .before .before .before .before .before .before .before .before .before .before .before .before .before .before .before .before .loop .inv .0) (v .ensures .0 .holds-on) (v .ensures .0 .list) (v .kept .1 .1 .1 .0) in
     let e = looked (r .holds) (v .ensures .0 .is) (v .ensures .0 .list) (ap (Single (v .result .number)) (v .ensures .1 .0 .1)) in
-    (run-unit r (p .0 .table) (p .1 .0 .below) e (c .before .before .before .before .before .before .before .before .before .on-clause .ensures) (a .ensures .0) (a .ensures .1 .0) (a .kept .1 .1 .1 .0) (a .kept .1 .1 .1 .1 .0), a .ensures .1 .1)
+    (run-unit r (p .0 .table) (p .1 .0 .below) e (c .before .before .before .before .before .before .before .before .before .on-clause .ensures) (a .ensures .0) (a .ensures .1 .0) (a .kept .1 .1 .1 .0) (a .kept .1 .1 .1 .1 .0), a .ensures .1 .1 .picks)
 
 next-move-requires : tie.Need-next-move-requires Inv-loop μ-loop
 next-move-requires c κs =
-    let p = c .before .before .before .before .before .before .before .before .before .before .before .before .pre .1 in
+    let p = c .before .before .before .before .before .before .before .before .before .pre .1 in
     (p .0, (p .1 .0, c .before .before .before .loop .inv .0 .holds))
 
 enum-known-m : tie.Need-enum-known-m Inv-loop μ-loop
@@ -80,7 +75,7 @@ enum-known-m c = search needs
 
 on-clause-requires-2 : tie.Need-on-clause-requires-2 Inv-loop μ-loop
 on-clause-requires-2 c κs =
-    let s = c .before .before .before .before .before .before .before .before .before .before .before .before .before .before .before .before .before .before .before .before .before .pre in
+    let s = c .before .before .before .before .before .before .before .before .before .before .before .before .before .before .before .before .before .before .pre in
     let p = s .1 in
     let v = c .before .before .before .before .before .before .before .before .next-move in
     let r = run-looked (c .before .before .before .before .before .before .before .before .before .before .before .before .loop .inv .0) (v .ensures .1 .0) (v .ensures .1 .1 .0) (v .kept .1 .1 .1 .0) in
@@ -109,7 +104,7 @@ enum-known-m-2 c = search needs
 
 on-clause-requires-3 : tie.Need-on-clause-requires-3 Inv-loop μ-loop
 on-clause-requires-3 c κs =
-    let s = c .before .before .before .before .before .before .before .before .before .before .before .before .before .before .before .before .before .before .before .before .before .pre in
+    let s = c .before .before .before .before .before .before .before .before .before .before .before .before .before .before .before .before .before .before .pre in
     let p = s .1 in
     let v = c .before .before .before .before .before .before .before .before .next-move in
     let r = run-looked (c .before .before .before .before .before .before .before .before .before .before .before .before .loop .inv .0) (v .ensures .1 .0) (v .ensures .1 .1 .0) (v .kept .1 .1 .1 .0) in
@@ -119,20 +114,20 @@ on-clause-requires-3 c κs =
 
 assume-requires : tie.Need-assume-requires Inv-loop μ-loop
 assume-requires c κs =
-    let p = c .before .before .before .before .before .before .before .before .before .before .before .before .before .before .before .before .before .before .before .before .before .before .before .before .before .before .pre .1 in
+    let p = c .before .before .before .before .before .before .before .before .before .before .before .before .before .before .before .before .before .before .before .before .before .before .before .pre .1 in
     let v = c .before .before .before .before .before .before .before .before .before .before .before .before .before .next-move in
     let r = run-looked (c .before .before .before .before .before .before .before .before .before .before .before .before .before .before .before .before .before .loop .inv .0) (v .ensures .1 .0) (v .ensures .1 .1 .0) (v .kept .1 .1 .1 .0) in
     let e = looked (r .holds) (v .ensures .0) (v .ensures .1 .1 .0) (c .before .before .before .before .before .before .before .before .before .m2 .given .1) in
     (p .0, (p .1 .0, (r .holds, run-fresh r (p .0 .table) (p .1 .0 .below) e)))
 
-pick-requires-2 : tie.Need-pick-requires-2 Inv-loop μ-loop
-pick-requires-2 c κs =
+pick-requires : tie.Need-pick-requires Inv-loop μ-loop
+pick-requires c κs =
     let H = c .before .before .before .before .before .before .assume .ensures .0 in
     (H .ready .size, H .units)
 
 loop-less-2 : tie.Need-loop-less-2 Inv-loop μ-loop
 loop-less-2 c =
-    let p = c .before .before .before .before .before .before .before .before .before .before .before .before .before .before .before .before .before .before .before .before .before .before .before .before .before .before .before .before .before .before .before .before .before .before .pre .1 in
+    let p = c .before .before .before .before .before .before .before .before .before .before .before .before .before .before .before .before .before .before .before .before .before .before .before .before .before .before .before .before .before .before .before .pre .1 in
     let v = c .before .before .before .before .before .before .before .before .before .before .before .before .before .before .before .before .before .before .before .before .before .next-move in
     let r = run-looked (c .before .before .before .before .before .before .before .before .before .before .before .before .before .before .before .before .before .before .before .before .before .before .before .before .before .loop .inv .0) (v .ensures .1 .0) (v .ensures .1 .1 .0) (v .kept .1 .1 .1 .0) in
     let e = looked (r .holds) (v .ensures .0) (v .ensures .1 .1 .0) (c .before .before .before .before .before .before .before .before .before .before .before .before .before .before .before .before .before .m2 .given .1) in
@@ -140,12 +135,12 @@ loop-less-2 c =
 
 loop-again-2 : tie.Need-loop-again-2 Inv-loop μ-loop
 loop-again-2 c =
-    let p = c .before .before .before .before .before .before .before .before .before .before .before .before .before .before .before .before .before .before .before .before .before .before .before .before .before .before .before .before .before .before .before .before .before .before .pre .1 in
+    let p = c .before .before .before .before .before .before .before .before .before .before .before .before .before .before .before .before .before .before .before .before .before .before .before .before .before .before .before .before .before .before .before .pre .1 in
     let v = c .before .before .before .before .before .before .before .before .before .before .before .before .before .before .before .before .before .before .before .before .before .next-move in
     let a = c .before .before .before .before .before .before .before .assume in
     let r = run-looked (c .before .before .before .before .before .before .before .before .before .before .before .before .before .before .before .before .before .before .before .before .before .before .before .before .before .loop .inv .0) (v .ensures .1 .0) (v .ensures .1 .1 .0) (v .kept .1 .1 .1 .0) in
     let e = looked (r .holds) (v .ensures .0) (v .ensures .1 .1 .0) (c .before .before .before .before .before .before .before .before .before .before .before .before .before .before .before .before .before .m2 .given .1) in
-    (run-unit r (p .0 .table) (p .1 .0 .below) e (c .before .before .before .before .before .before .before .before .before .before .before .before .on-clause3 .ensures) (a .ensures .0) (a .ensures .1) (a .kept .1 .1 .1 .0) (a .kept .1 .1 .1 .1 .0), c .pick2 .ensures .0)
+    (run-unit r (p .0 .table) (p .1 .0 .below) e (c .before .before .before .before .before .before .before .before .before .before .before .before .on-clause3 .ensures) (a .ensures .0) (a .ensures .1) (a .kept .1 .1 .1 .0) (a .kept .1 .1 .1 .1 .0), c .pick .ensures .0)
 
 enum-told : tie.Need-enum-told Inv-loop μ-loop
 enum-told c = search needs
@@ -168,9 +163,9 @@ returns-2 c =
 enum-known-m-3 : tie.Need-enum-known-m-3 Inv-loop μ-loop
 enum-known-m-3 c = search needs
 
-add-requires : tie.Need-add-requires Inv-loop μ-loop
-add-requires c κs =
-    let p = c .before .before .before .before .before .before .before .before .before .before .before .before .before .before .before .before .before .before .before .before .pre .1 in
+on-split-requires : tie.Need-on-split-requires Inv-loop μ-loop
+on-split-requires c κs =
+    let p = c .before .before .before .before .before .before .before .before .before .before .before .before .before .before .before .before .before .pre .1 in
     let v = c .before .before .before .before .before .before .before .next-move in
     let r = run-looked (c .before .before .before .before .before .before .before .before .before .before .before .loop .inv .0) (v .ensures .1 .0) (v .ensures .1 .1 .0) (v .kept .1 .1 .1 .0) in
     let e = looked (r .holds) (v .ensures .0) (v .ensures .1 .1 .0) (c .before .before .before .m3 .given .1) in
@@ -183,15 +178,15 @@ same-length-8 : tie.Need-same-length-8 Inv-loop μ-loop
 same-length-8 c = c .before .before .before .before .before .before .before .before .before .before .before .before .before .before .loop .inv .0 .sets
 
 same-length-9 : tie.Need-same-length-9 Inv-loop μ-loop
-same-length-9 c = c .before .before .add .ensures .size ∙ c .before .before .before .before .before .before .before .before .before .before .before .before .before .before .loop .inv .0 .pushed .size
+same-length-9 c = c .before .before .on-split .ensures .size ∙ c .before .before .before .before .before .before .before .before .before .before .before .before .before .before .loop .inv .0 .pushed .size
 
 returns-3 : tie.Need-returns-3 Inv-loop μ-loop
 returns-3 c =
-    let p = c .before .before .before .before .before .before .before .before .before .before .before .before .before .before .before .before .before .before .before .before .before .before .before .pre .1 in
+    let p = c .before .before .before .before .before .before .before .before .before .before .before .before .before .before .before .before .before .before .before .before .pre .1 in
     let v = c .before .before .before .before .before .before .before .before .before .before .next-move in
     let r = run-looked (c .before .before .before .before .before .before .before .before .before .before .before .before .before .before .loop .inv .0) (v .ensures .1 .0) (v .ensures .1 .1 .0) (v .kept .1 .1 .1 .0) in
     let e = looked (r .holds) (v .ensures .0) (v .ensures .1 .1 .0) (c .before .before .before .before .before .before .m3 .given .1) in
-    run-split r (p .0 .table) (p .1 .0 .below) e (c .before .before .add .ensures)
+    run-split r (p .0 .table) (p .1 .0 .below) e (c .before .before .on-split .ensures)
 
 pub phase-spec : {M : Type 1} → statement M
 phase-spec =
@@ -199,7 +194,6 @@ phase-spec =
     (tie.spec
     Inv-loop
     μ-loop
-    pick-requires
     loop-holds
     unit-move-requires
     on-clause-requires
@@ -216,7 +210,7 @@ phase-spec =
     enum-known-m-2
     on-clause-requires-3
     assume-requires
-    pick-requires-2
+    pick-requires
     loop-less-2
     loop-again-2
     enum-told
@@ -225,7 +219,7 @@ phase-spec =
     same-length-6
     returns-2
     enum-known-m-3
-    add-requires
+    on-split-requires
     same-length-7
     same-length-8
     same-length-9

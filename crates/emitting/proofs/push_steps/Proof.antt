@@ -1,10 +1,13 @@
 -- `emitting::push_steps` meets its contract: the search adds its steps to the writer's block, from the writer's counts on. Assumes nothing.
+use mathlib.Core.Path.{refl}
 use borrow.Author.Needs.{needs}
 use Rattle.emitting.proofs.push_steps.Statement.{statement}
 use Rattle.emitting.proofs.push_steps.Tie as tie
 
 emit-requires : tie.Need-emit-requires
-emit-requires c κs = c .before .before .before .before .before .before .before .before .before .pre
+emit-requires c κs =
+    let p = c .before .before .before .before .before .before .before .before .before .pre in
+    (p .0, (p .1 .0, (p .1 .1 .0, (p .1 .1 .1 .0, (p .1 .1 .1 .1, λ y. absurd (y refl))))))
 
 same-length : tie.Need-same-length
 same-length c = search needs

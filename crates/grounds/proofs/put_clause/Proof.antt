@@ -1,29 +1,19 @@
--- `grounds::put_clause` meets its contract: the place is the one that is kept. Assumes nothing.
-use mathlib.Core.Path.{refl}
-use native.Mathlib.Omega.{arith}
+-- `grounds::put_clause` meets its contract. Assumes nothing.
+use Rattle.grounds.proofs.Grounds.{room, put-held}
 use borrow.Author.Needs.{needs}
 use Rattle.grounds.proofs.put_clause.Statement.{statement}
 use Rattle.grounds.proofs.put_clause.Tie as tie
 
-shared-slice-read-put-at : tie.Need-shared-slice-read-put-at
-shared-slice-read-put-at c = search needs
-
-cast-put-at : tie.Need-cast-put-at
-cast-put-at c =
-    omega (arith, c .shared-slice-known4 .given 3)
-
-put-at-requires : tie.Need-put-at-requires
-put-at-requires c κs =
-    let s = c .before .before .before .before .before .before in
-    let p = s .pre in
-    (p .0, (p .1 .0, (p .1 .1 .0, (p .1 .1 .1 .0, (p .1 .1 .1 .1, refl)))))
-
-same-length : tie.Need-same-length
-same-length c = search needs
+put-position-requires : tie.Need-put-position-requires
+put-position-requires c κs =
+    let p = c .before .before .before .before .before .pre in
+    let g = p .1 .1 in
+    (p .0, (p .1 .0 .0, (room (p .1 .0 .0) (p .1 .0 .1) g, (g .held, g .column))))
 
 returns : tie.Need-returns
-returns c = search needs
+returns c =
+    let p = c .before .before .before .before .before .before .before .before .pre in
+    put-held (p .1 .0 .0) (p .1 .0 .1) (p .1 .1) (p .0 .table) (c .before .before .put-position .ensures)
 
 pub put-clause-spec : {M : Type 1} → statement M
-put-clause-spec =
-    tie.close (tie.spec shared-slice-read-put-at cast-put-at put-at-requires same-length returns)
+put-clause-spec = tie.close (tie.spec put-position-requires (λ c. search needs) returns)

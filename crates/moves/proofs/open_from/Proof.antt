@@ -1,7 +1,7 @@
 -- `moves::open_from` meets its contract. The invariant: no position passed has an open clause. Assumes nothing.
 use mathlib.Core.Path.{_≡_, sym, ap, _∙_}
 use mathlib.Core.Bool.{true}
-use Prim.Native.Nat.{ℕ, _-_, _<_, _≤_}
+use Prim.Native.Nat.{ℕ, _+_, _-_, _*_, _<_, _≤_}
 use native.Mathlib.Decide.{ℕ-discrete}
 use Rattle.calculus.specs.Order.{bit, some}
 use Rattle.trail.proofs.Trails.{trail-length}
@@ -10,7 +10,7 @@ use Rattle.clause.specs.Coded.{isOpen}
 use Rattle.state.specs.Work.{tail, gOf, cursorOf}
 use Rattle.state.specs.Holds.{statesAt}
 use Rattle.state.proofs.Areas.{count-most}
-use Rattle.moves.proofs.Moves.{bit-true, step}
+use Rattle.moves.proofs.Moves.{bit-true, step, open-at}
 use native.Mathlib.Omega.{arith}
 use borrow.Author.Needs.{needs}
 use Rattle.moves.proofs.open_from.Statement.{statement}
@@ -43,15 +43,22 @@ code-at-requires c κs =
     let w = s .args .work .now in
     (s .pre .0, (s .pre .1 .0, omega (arith, c .loop-test .taken, c .before .before .before .count .ensures, trail-length (tail w 0) (tail w))))
 
+cast-result : tie.Need-cast-result Inv-loop μ-loop
+cast-result c = omega (arith, c .before .before .before .loop .inv .1, count-most (c .before .before .before .before .before .before .before .before .pre .1 .0), c .before .before .before .before .before .before .before .before .pre .0 .few)
+
+mul-result : tie.Need-mul-result Inv-loop μ-loop
+mul-result c = omega (arith, c .before .before .before .loop .inv .1, count-most (c .before .before .before .before .before .before .before .before .pre .1 .0), c .before .before .before .before .before .before .before .before .pre .0 .few)
+
+add-result : tie.Need-add-result Inv-loop μ-loop
+add-result c = omega (arith, c .before .before .before .loop .inv .1, count-most (c .before .before .before .before .before .before .before .before .pre .1 .0), c .before .before .before .before .before .before .before .before .pre .0 .few)
+
 returns : tie.Need-returns Inv-loop μ-loop
 returns c =
     let inv = c .before .before .before .loop .inv in
-    record {
-      from = inv .0;
-      low = inv .1;
-      before = λ p a b. inv .2 p b a;
-      here = λ i. bit-true _ (sym (c .before .code-at .ensures .unmet) ∙ c .if1 .taken);
-    }
+    let k = c .before .code-at in
+    open-at
+    (record { from = inv .0; low = inv .1; before = λ p a b. inv .2 p b a; here = λ i. bit-true _ (sym (k .ensures .unmet) ∙ c .if1 .taken) })
+    (λ i. k .ensures) (omega arith)
 
 add-q : tie.Need-add-q Inv-loop μ-loop
 add-q c = omega (arith, c .before .before .before .loop .inv .1, count-most (c .before .before .before .before .before .before .before .before .pre .1 .0), c .before .before .before .before .before .before .before .before .pre .0 .few)
@@ -71,16 +78,20 @@ loop-again c =
       λ p a. step p a (ℕ-discrete p (c .before .before .before .loop .q)) (λ k e. c .if1 .left (c .before .code-at .ensures .unmet ∙ ap bit e)) (inv .2),
     )
 
+cast-result-3 : tie.Need-cast-result-3 Inv-loop μ-loop
+cast-result-3 c = omega (arith, c .before .loop .inv .1, count-most (c .before .before .before .before .before .before .pre .1 .0), c .before .before .before .before .before .before .pre .0 .few)
+
+mul-result-2 : tie.Need-mul-result-2 Inv-loop μ-loop
+mul-result-2 c = omega (arith, c .before .loop .inv .1, count-most (c .before .before .before .before .before .before .pre .1 .0), c .before .before .before .before .before .before .pre .0 .few)
+
 returns-2 : tie.Need-returns-2 Inv-loop μ-loop
 returns-2 c =
     let w = c .before .before .before .before .before .before .args .work .now in
     let inv = c .before .loop .inv in
-    record {
-      from = inv .0;
-      low = inv .1;
-      before = λ p a b. inv .2 p b a;
-      here = λ i. absurd (omega (arith, i, c .loop-test .left, c .before .before .before .count .ensures, trail-length (tail w 0) (tail w)));
-    }
+    let past : c .before .loop .q < tail w 0 → ⊥ = λ i. omega (arith, i, c .loop-test .left, c .before .before .before .count .ensures, trail-length (tail w 0) (tail w)) in
+    let z : 65536 * c .before .loop .q + 0 ≡ 65536 * c .before .loop .q = omega arith in
+    rw (sym z)
+    (open-at {k = 0} (record { from = inv .0; low = inv .1; before = λ p a b. inv .2 p b a; here = λ i. absurd (past i) }) (λ i. absurd (past i)) (omega arith))
 
 pub open-from-spec : {M : Type 1} → statement M
 open-from-spec =
@@ -94,8 +105,14 @@ open-from-spec =
     cast-q
     loop-holds
     code-at-requires
+    cast-result
+    mul-result
+    (λ c. search needs)
+    add-result
     returns
     add-q
     loop-less
     loop-again
+    cast-result-3
+    mul-result-2
     returns-2)

@@ -84,7 +84,7 @@ loop-again c =
     let g = at-loop .loop .inv .1 in
     let e = picked-next (p .0 .few) (p .1 .0) (g .stands .holds) (at-loop .loop .inv .2 (at-if1 .if1 .taken)) .1 in
     let f = went-picked (g .stands) e (at-if2 .if2 .left) (at-join .join .ensures .0) (at-join .join .ensures .1 .0) in
-    (omega (arith, at-loop-test .loop-test .taken), going-more g f refl (at-join .join .kept .1 .1 .1 .0) (at-join .join .kept .1 .1 .1 .1 .0) refl, at-join .join .ensures .1 .1)
+    (omega (arith, at-loop-test .loop-test .taken), going-more g f refl (at-join .join .kept .1 .1 .1 .0) (at-join .join .kept .1 .1 .1 .1 .0) refl, at-join .join .ensures .1 .1 .picks)
 
 follow-requires : tie.Need-follow-requires Inv-loop μ-loop
 follow-requires c κs =

@@ -48,7 +48,7 @@ loop-again c =
     let g = at-loop .loop .inv .1 in
     let e = picked-next (p .0 .few) (p .1 .0) (g .stands .holds) (at-loop .loop .inv .2 (at-if1 .if1 .taken)) .1 in
     let a = made-unit (g .stands) refl e (at-join .join .ensures .0) (at-join .join .ensures .1 .0) in
-    (omega (arith, at-loop-test .loop-test .taken), running-more g a refl (at-join .join .kept .1 .1 .1 .0) (at-join .join .kept .1 .1 .1 .1 .0) refl, at-join .join .ensures .1 .1)
+    (omega (arith, at-loop-test .loop-test .taken), running-more g a refl (at-join .join .kept .1 .1 .1 .0) (at-join .join .kept .1 .1 .1 .1 .0) refl, at-join .join .ensures .1 .1 .picks)
 
 turn-requires : tie.Need-turn-requires Inv-loop μ-loop
 turn-requires c κs =

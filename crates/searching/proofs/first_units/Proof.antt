@@ -1,6 +1,6 @@
 -- `searching::first_units` meets its contract: as `propagate`, over sets that stay empty. Assumes nothing.
 use Rattle.searching.specs.Jumps.{blank}
-use Rattle.searching.proofs.Jumps.{Rested, rested-starts, rested-looked, rested-conflict, due, stepped-blank, rested-stepped, conflict-blank, rested-done, rested-split}
+use Rattle.searching.proofs.Jumps.{Rested, rested-starts, rested-looked, rested-conflict, stepped-blank, rested-stepped, conflict-blank, rested-done, rested-split}
 use Rattle.searching.proofs.Searches.{looked, run-fresh, run-room}
 use Rattle.moves.proofs.Moves.{picked-next}
 use Rattle.rests.proofs.Held.{sets-blank}
@@ -48,7 +48,7 @@ loop-again c =
     let e = picked-next (p .0 .few) (p .1 .0) (r .run .holds) (c .before .before .before .before .before .before .before .before .loop .inv .1 (c .before .before .before .before .before .before .before .if1 .taken)) .1 in
     let a = c .before .before .before .before .join in
     let S = stepped-blank (p .0 .few) (r .run .holds) e (a .ensures .0) (a .ensures .1 .0) in
-    (rested-stepped r (p .0 .few) (p .0 .table) (p .1 .0 .below) S (a .kept .1 .1 .1 .0) (a .kept .1 .1 .1 .1 .0), a .ensures .1 .1)
+    (rested-stepped r (p .0 .few) (p .0 .table) (p .1 .0 .below) S (a .kept .1 .1 .1 .0) (a .kept .1 .1 .1 .1 .0), a .ensures .1 .1 .picks)
 
 next-move-requires : tie.Need-next-move-requires Inv-loop μ-loop
 next-move-requires c κs =
@@ -70,8 +70,7 @@ returns c =
     let v = c .before .before .before .before .next-move in
     let r = rested-looked (c .before .before .before .before .before .before .before .before .loop .inv .0) (v .ensures .1 .0) (v .ensures .1 .1 .0) (v .kept .1 .1 .1 .0) in
     let e = looked (r .run .holds) (v .ensures .0) (v .ensures .1 .1 .0) (c .enum-told .given .1) in
-    let k = rw (c .enum-told .given .1) at (v .ensures .1 .1 .1) in
-    rested-conflict r (p .0 .few) (k .number) e (conflict-blank (p .0 .few) (r .run .holds))
+    rested-conflict r (p .0 .few) e (conflict-blank (p .0 .few) (r .run .holds) _)
 
 enum-known-m : tie.Need-enum-known-m Inv-loop μ-loop
 enum-known-m c = search needs
@@ -82,8 +81,8 @@ assume-requires c κs =
     let v = c .before .before .before .before .before .before .before .next-move in
     let r = rested-looked (c .before .before .before .before .before .before .before .before .before .before .before .loop .inv .0) (v .ensures .1 .0) (v .ensures .1 .1 .0) (v .kept .1 .1 .1 .0) in
     let g = c .before .before .before .m .given .1 in
-    let D = due (v .ensures .0) g (v .ensures .1 .1 .0) (rw g at (v .ensures .1 .1 .1)) in
-    (p .0, (p .1 .0, (r .run .holds, run-fresh (r .run) (p .0 .table) (p .1 .0 .below) (D .next))))
+    let e = looked (r .run .holds) (v .ensures .0) (v .ensures .1 .1 .0) g in
+    (p .0, (p .1 .0, (r .run .holds, run-fresh (r .run) (p .0 .table) (p .1 .0 .below) e)))
 
 pick-requires-2 : tie.Need-pick-requires-2 Inv-loop μ-loop
 pick-requires-2 c κs =
@@ -96,8 +95,8 @@ loop-less-2 c =
     let v = c .before .before .before .before .before .before .before .before .before .before .before .before .before .before .before .next-move in
     let r = rested-looked (c .before .before .before .before .before .before .before .before .before .before .before .before .before .before .before .before .before .before .before .loop .inv .0) (v .ensures .1 .0) (v .ensures .1 .1 .0) (v .kept .1 .1 .1 .0) in
     let g = c .before .before .before .before .before .before .before .before .before .before .before .m .given .1 in
-    let D = due (v .ensures .0) g (v .ensures .1 .1 .0) (rw g at (v .ensures .1 .1 .1)) in
-    omega (arith, run-room (r .run) (p .0 .table) (p .1 .0 .below) (D .next), ap length (c .before .before .before .before .before .before .before .assume .ensures .1), ap length (v .ensures .1 .1 .0))
+    let e = looked (r .run .holds) (v .ensures .0) (v .ensures .1 .1 .0) g in
+    omega (arith, run-room (r .run) (p .0 .table) (p .1 .0 .below) e, ap length (c .before .before .before .before .before .before .before .assume .ensures .1), ap length (v .ensures .1 .1 .0))
 
 loop-again-2 : tie.Need-loop-again-2 Inv-loop μ-loop
 loop-again-2 c =
@@ -105,9 +104,9 @@ loop-again-2 c =
     let v = c .before .before .before .before .before .before .before .before .before .before .before .before .before .before .before .next-move in
     let r = rested-looked (c .before .before .before .before .before .before .before .before .before .before .before .before .before .before .before .before .before .before .before .loop .inv .0) (v .ensures .1 .0) (v .ensures .1 .1 .0) (v .kept .1 .1 .1 .0) in
     let g = c .before .before .before .before .before .before .before .before .before .before .before .m .given .1 in
-    let D = due (v .ensures .0) g (v .ensures .1 .1 .0) (rw g at (v .ensures .1 .1 .1)) in
+    let e = looked (r .run .holds) (v .ensures .0) (v .ensures .1 .1 .0) g in
     let a = c .before .before .before .before .before .before .before .assume in
-    let S = stepped-blank (p .0 .few) (r .run .holds) (D .next) (a .ensures .0) (a .ensures .1) in
+    let S = stepped-blank (p .0 .few) (r .run .holds) e (a .ensures .0) (a .ensures .1) in
     (rested-stepped r (p .0 .few) (p .0 .table) (p .1 .0 .below) S (a .kept .1 .1 .1 .0) (a .kept .1 .1 .1 .1 .0), c .pick2 .ensures .0)
 
 enum-told-2 : tie.Need-enum-told-2 Inv-loop μ-loop

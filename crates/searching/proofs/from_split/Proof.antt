@@ -1,6 +1,7 @@
 -- `searching::from_split` meets its contract: where sets are lent, those of the literals held are empty. Assumes nothing.
 use Rattle.searching.specs.Jumps.{blank}
 use Rattle.searching.proofs.Jumps.{jumps-from, held-low, counted-whole, answered}
+use Rattle.state.proofs.Idle.{split-idle}
 use Rattle.rests.proofs.Held.{cleared-same, cleared-sets}
 use native.Mathlib.Omega.{arith}
 use borrow.Author.Needs.{needs}
@@ -24,11 +25,20 @@ clear-requires c κs =
     let low = held-low (p .1 .1 .0 .holds) (p .0 .few) in
     omega (arith, low, c .before .count .ensures, c .before .before .before .if1 .left)
 
+pick-requires : tie.Need-pick-requires
+pick-requires c κs =
+    let H = c .before .before .before .before .before .before .before .before .before .before .before .before .before .before .pre .1 .1 .0 .holds in
+    (H .ready .size, H .units)
+
 search-requires : tie.Need-search-requires
 search-requires c κs =
-    let p = c .before .before .before .before .before .before .before .before .before .before .before .before .before .before .before .pre in
-    let sets = cleared-sets (c .before .before .before .before .before .before .before .count .result) (p .1 .1 .1 (c .before .before .before .before .before .before .before .before .before .if1 .left)) (c .before .before .before .before .before .clear .ensures) in
-    (p .0, (p .1 .0, (p .1 .1 .0 .holds, (sets, omega arith))))
+    let at-pick = c .before .before .before in
+    let at-count = at-pick .before .before .before .before .before .before .before in
+    let p = at-count .before .before .before .before .before .before .before .before .pre in
+    let sets = cleared-sets (at-count .count .result) (p .1 .1 .1 (at-count .before .before .if1 .left)) (at-pick .before .before .before .before .before .clear .ensures) in
+    let idle = split-idle (p .1 .1 .0 .holds) (p .1 .1 .0 .splits) in
+    let k = at-pick .pick .ensures in
+    (p .0, (p .1 .0, (p .1 .1 .0 .holds, (sets, omega arith, record { idle = idle; picks = k .0; none = λ e. k .1 e idle }))))
 
 answer-requires : tie.Need-answer-requires
 answer-requires c κs = search needs
@@ -44,13 +54,17 @@ same-length-3 c = search needs
 
 returns-2 : tie.Need-returns-2
 returns-2 c =
-    let p = c .before .before .before .before .before .before .before .before .before .before .before .before .before .before .before .before .before .before .before .before .before .before .before .pre in
+    let at-search = c .before .before .before .before .before .before .before in
+    let at-clear = at-search .before .before .before .before .before .before .before .before .before in
+    let at-count = at-clear .before .before in
+    let s = at-count .before .before .before .before .before .before .before .before in
+    let p = s .pre in
     let low = held-low (p .1 .1 .0 .holds) (p .0 .few) in
-    let n = c .before .before .before .before .before .before .before .before .before .before .before .before .before .before .before .count in
-    let cleared = cleared-same (n .result) (omega (arith, low, n .ensures)) (c .before .before .before .before .before .before .before .before .before .before .before .before .before .clear .ensures) in
-    let done = c .before .before .before .before .before .before .before .search .ensures in
+    let n = at-count .count in
+    let cleared = cleared-same (n .result) (omega (arith, low, n .ensures)) (at-clear .clear .ensures) in
+    let done = at-search .search .ensures in
     let whole = counted-whole {m = blank} (p .1 .1 .0 .same) (jumps-from {m = blank} (λ q h. cleared q (omega (arith, h, n .ensures))) done) in
-    (answered (c .before .before .before .before .before .before .before .before .before .before .before .before .before .before .before .before .before .before .before .before .before .before .before .args .rests .now) (c .before .before .before .before .before .before .before .search .result) (c .answer .ensures) whole, λ _. done .sets)
+    (answered (s .args .rests .now) (at-search .search .result) (c .answer .ensures) whole, λ _. done .sets)
 
 pub from-split-spec : {M : Type 1} → statement M
 from-split-spec =
@@ -60,6 +74,7 @@ from-split-spec =
     count-requires
     cast-held
     clear-requires
+    pick-requires
     search-requires
     answer-requires
     same-length

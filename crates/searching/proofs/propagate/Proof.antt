@@ -1,158 +1,123 @@
 -- `searching::propagate` meets its contract: before each turn the jumping search from here is that from the start, and the unit that is
--- the next move, if any, is picked. The measure is the number of undecided nodes. Assumes nothing.
-use Rattle.searching.proofs.Jumps.{Rested, rested-starts, rested-looked, conflict-grounded, rested-conflict, due, stepped, rested-stepped, rested-done, rested-split}
-use Rattle.searching.proofs.Searches.{placed-there, looked, run-room}
+-- the next move, if any, is at hand. The measure is the number of undecided nodes. Assumes nothing.
+use Rattle.searching.proofs.Jumps.{Rested, rested-starts, aimed-none, rested-concluded, aimed-grounded, aimed-closed, aimed-stepped, rested-stepped}
+use Rattle.moves.proofs.Moves.{unit-on}
+use Rattle.searching.proofs.Searches.{run-room}
 use Rattle.state.specs.Work.{gOf}
-use Rattle.state.specs.Picked.{Picks}
+use Rattle.state.specs.Picked.{Leads}
 use Rattle.index.specs.Index.{indexNode}
 use lib.ListN.{length}
 use Prim.Native.Nat.{_-_}
-use mathlib.Core.Path.{refl, ap, _∙_}
+use mathlib.Core.Path.{ap, _∙_}
 use native.Mathlib.Omega.{arith}
 use borrow.Author.Needs.{needs}
 use Rattle.searching.proofs.propagate.Statement.{statement}
 use Rattle.searching.proofs.propagate.Tie as tie
 
 abbrev Inv-loop : tie.InvT-loop
-Inv-loop x n goals work₀ masks₀ rests₀ u₀ work masks rests u = Rested (indexNode x) n goals work₀ masks₀ rests₀ work masks rests × Picks work masks u
+Inv-loop x n goals work₀ masks₀ rests₀ first u₀ work masks rests u = Rested (indexNode x) n goals work₀ masks₀ rests₀ work masks rests × Leads work masks u
 
 abbrev μ-loop : tie.MeasureT-loop
-μ-loop x n goals work₀ masks₀ rests₀ u₀ work masks rests u = n - length (gOf work)
-
-pick-requires : tie.Need-pick-requires Inv-loop μ-loop
-pick-requires c κs =
-    let H = c .before .before .before .before .before .before .before .pre .1 .1 .0 in
-    (H .ready .size, H .units)
+μ-loop x n goals work₀ masks₀ rests₀ first u₀ work masks rests u = n - length (gOf work)
 
 loop-holds : tie.Need-loop-holds Inv-loop μ-loop
 loop-holds c =
-    let p = c .before .before .before .before .before .before .before .before .pre in
-    (rested-starts (p .1 .1 .0) (p .1 .1 .1), c .pick .ensures .0)
+    let p = c .before .before .before .before .before .pre in
+    (rested-starts (p .1 .1 .0) (p .1 .1 .1 .0), p .1 .1 .1 .1)
 
-step-requires : tie.Need-step-requires Inv-loop μ-loop
-step-requires c κs =
-    let p = c .before .before .before .before .before .before .before .before .before .before .before .before .before .pre in
-    let r = c .before .before .before .before .loop .inv .0 in
-    (p .0, (p .1 .0, (r .run .holds, (r .sets, c .before .before .before .before .loop .inv .1 (c .before .before .before .if1 .taken)))))
+aim-requires : tie.Need-aim-requires Inv-loop μ-loop
+aim-requires c κs =
+    let at-loop = c .before .before in
+    let p = at-loop .before .before .before .before .before .before .pre in
+    let (r, L) = at-loop .loop .inv in
+    (p .0, (p .1 .0, (r .run .holds, L .idle)))
 
-loop-less : tie.Need-loop-less Inv-loop μ-loop
-loop-less c =
-    let p = c .before .before .before .before .before .before .before .before .before .before .before .before .before .before .before .before .before .before .before .before .pre in
-    let S = c .before .before .before .before .before .before .step .ensures .0 in
-    omega (arith, run-room (c .before .before .before .before .before .before .before .before .before .before .before .loop .inv .0 .run) (p .0 .table) (p .1 .0 .below) (S .next), ap length (S .list))
-
-loop-again : tie.Need-loop-again Inv-loop μ-loop
-loop-again c =
-    let p = c .before .before .before .before .before .before .before .before .before .before .before .before .before .before .before .before .before .before .before .before .pre in
-    let a = c .before .before .before .before .before .before .step in
-    (rested-stepped (c .before .before .before .before .before .before .before .before .before .before .before .loop .inv .0) (p .0 .few) (p .0 .table) (p .1 .0 .below) (a .ensures .0) (a .kept .1 .1 .1 .0) (a .kept .1 .1 .1 .1 .0), a .ensures .1)
-
-next-move-requires : tie.Need-next-move-requires Inv-loop μ-loop
-next-move-requires c κs =
-    let p = c .before .before .before .before .before .before .before .before .before .before .before .before .pre in
-    (p .0, (p .1 .0, c .before .before .before .loop .inv .0 .run .holds))
-
-enum-told : tie.Need-enum-told Inv-loop μ-loop
-enum-told c = search needs
-
-put-clause-requires : tie.Need-put-clause-requires Inv-loop μ-loop
-put-clause-requires c κs =
-    let p = c .before .before .before .before .before .before .before .before .before .before .before .before .before .before .before .before .before .before .before .pre in
-    let v = c .before .before .before .before .before .before .next-move in
-    let r = rested-looked (c .before .before .before .before .before .before .before .before .before .before .loop .inv .0) (v .ensures .1 .0) (v .ensures .1 .1 .0) (v .kept .1 .1 .1 .0) in
-    let e = looked (r .run .holds) (v .ensures .0) (v .ensures .1 .1 .0) (c .before .before .enum-told .given .1) in
-    let k = rw (c .before .before .enum-told .given .1) at (v .ensures .1 .1 .1) in
-    (p .0, (p .1 .0, ((r .run .holds .ready, r .run .holds .numbered), (placed-there k, conflict-grounded r (p .0 .few) (k .number) e))))
+conclude-requires : tie.Need-conclude-requires Inv-loop μ-loop
+conclude-requires c κs =
+    let at-loop = c .before .before .before .before .before .before in
+    let p = at-loop .before .before .before .before .before .before .pre in
+    let (r, L) = at-loop .loop .inv in
+    let A = c .before .before .before .aim .ensures in
+    let f = aimed-none A (c .before .before .if1 .taken) in
+    (p .0, (p .1 .0, (r .run .holds, (L .idle, f .1, L .none (f .0) (f .1)))))
 
 same-length : tie.Need-same-length Inv-loop μ-loop
-same-length c = c .before .before .before .before .before .before .before .before .before .next-move .kept .1 .1 .1 .0 ∙ c .before .before .before .before .before .before .before .before .before .before .before .before .before .loop .inv .0 .run .size
+same-length c =
+    let at-loop = c .before .before .before .before .before .before .before .before .before in
+    c .before .before .conclude .kept .1 .1 .1 .0 ∙ at-loop .loop .inv .0 .run .size
 
 same-length-2 : tie.Need-same-length-2 Inv-loop μ-loop
-same-length-2 c = c .before .before .before .before .before .before .before .before .before .before .before .before .before .loop .inv .0 .run .sets
+same-length-2 c = c .before .before .before .before .before .before .before .before .before .loop .inv .0 .run .sets
 
 same-length-3 : tie.Need-same-length-3 Inv-loop μ-loop
-same-length-3 c = c .before .before .put-clause .ensures .size ∙ c .before .before .before .before .before .before .before .before .before .before .before .before .before .loop .inv .0 .words
+same-length-3 c = c .before .before .before .before .before .before .before .before .before .loop .inv .0 .words
 
 returns : tie.Need-returns Inv-loop μ-loop
 returns c =
-    let p = c .before .before .before .before .before .before .before .before .before .before .before .before .before .before .before .before .before .before .before .before .before .before .pre in
-    let v = c .before .before .before .before .before .before .before .before .before .next-move in
-    let r = rested-looked (c .before .before .before .before .before .before .before .before .before .before .before .before .before .loop .inv .0) (v .ensures .1 .0) (v .ensures .1 .1 .0) (v .kept .1 .1 .1 .0) in
-    let e = looked (r .run .holds) (v .ensures .0) (v .ensures .1 .1 .0) (c .before .before .before .before .before .enum-told .given .1) in
-    let k = rw (c .before .before .before .before .before .enum-told .given .1) at (v .ensures .1 .1 .1) in
-    rested-conflict r (p .0 .few) (k .number) e (c .before .before .put-clause .ensures)
+    let at-loop = c .before .before .before .before .before .before .before .before .before in
+    let a = c .before .before .conclude in
+    rested-concluded (at-loop .loop .inv .0) (a .result) (a .ensures) (a .kept .1 .1 .1 .0)
 
-enum-known-m : tie.Need-enum-known-m Inv-loop μ-loop
-enum-known-m c = search needs
+slot-requires : tie.Need-slot-requires Inv-loop μ-loop
+slot-requires c κs = c .before .before .before .before .before .loop .inv .0 .run .holds .ready .size
 
-join-requires : tie.Need-join-requires Inv-loop μ-loop
-join-requires c κs =
-    let p = c .before .before .before .before .before .before .before .before .before .before .before .before .before .before .before .before .before .before .before .before .before .pre in
-    let v = c .before .before .before .before .before .before .before .before .next-move in
-    let r = rested-looked (c .before .before .before .before .before .before .before .before .before .before .before .before .loop .inv .0) (v .ensures .1 .0) (v .ensures .1 .1 .0) (v .kept .1 .1 .1 .0) in
-    let g = c .before .before .before .before .m .given .1 in
-    let D = due (v .ensures .0) g (v .ensures .1 .1 .0) (rw g at (v .ensures .1 .1 .1)) in
-    (p .0, (p .1 .0, (r .run .holds, (r .sets, D))))
-
-pick-requires-2 : tie.Need-pick-requires-2 Inv-loop μ-loop
-pick-requires-2 c κs =
-    let H = c .before .before .before .before .before .before .before .before .join .ensures .holds in
-    (H .ready .size, H .units)
-
-loop-less-2 : tie.Need-loop-less-2 Inv-loop μ-loop
-loop-less-2 c =
-    let p = c .before .before .before .before .before .before .before .before .before .before .before .before .before .before .before .before .before .before .before .before .before .before .before .before .before .before .before .before .before .before .before .pre in
-    let v = c .before .before .before .before .before .before .before .before .before .before .before .before .before .before .before .before .before .before .next-move in
-    let r = rested-looked (c .before .before .before .before .before .before .before .before .before .before .before .before .before .before .before .before .before .before .before .before .before .before .loop .inv .0) (v .ensures .1 .0) (v .ensures .1 .1 .0) (v .kept .1 .1 .1 .0) in
-    let g = c .before .before .before .before .before .before .before .before .before .before .before .before .before .before .m .given .1 in
-    let D = due (v .ensures .0) g (v .ensures .1 .1 .0) (rw g at (v .ensures .1 .1 .1)) in
-    omega (arith, run-room (r .run) (p .0 .table) (p .1 .0 .below) (D .next), ap length (c .before .before .before .before .before .before .before .before .before .join .ensures .list), ap length (v .ensures .1 .1 .0))
-
-loop-again-2 : tie.Need-loop-again-2 Inv-loop μ-loop
-loop-again-2 c =
-    let p = c .before .before .before .before .before .before .before .before .before .before .before .before .before .before .before .before .before .before .before .before .before .before .before .before .before .before .before .before .before .before .before .pre in
-    let v = c .before .before .before .before .before .before .before .before .before .before .before .before .before .before .before .before .before .before .next-move in
-    let r = rested-looked (c .before .before .before .before .before .before .before .before .before .before .before .before .before .before .before .before .before .before .before .before .before .before .loop .inv .0) (v .ensures .1 .0) (v .ensures .1 .1 .0) (v .kept .1 .1 .1 .0) in
-    let g = c .before .before .before .before .before .before .before .before .before .before .before .before .before .before .m .given .1 in
-    let D = due (v .ensures .0) g (v .ensures .1 .1 .0) (rw g at (v .ensures .1 .1 .1)) in
-    let a = c .before .before .before .before .before .before .before .before .before .join in
-    (rested-stepped r (p .0 .few) (p .0 .table) (p .1 .0 .below) (stepped refl D (a .ensures)) (a .kept .1 .1 .1 .0) (a .kept .1 .1 .1 .1 .0), c .pick2 .ensures .0)
-
-enum-told-2 : tie.Need-enum-told-2 Inv-loop μ-loop
-enum-told-2 c = search needs
+put-clause-requires : tie.Need-put-clause-requires Inv-loop μ-loop
+put-clause-requires c κs =
+    let at-if1 = c .before .before .before .before in
+    let at-loop = at-if1 .before .before .before .before in
+    let p = at-loop .before .before .before .before .before .before .pre in
+    let (r, L) = at-loop .loop .inv in
+    let H = r .run .holds in
+    (p .0, ((H .ready, H .numbered), aimed-grounded r (p .0 .few) (p .0 .table) (p .1 .0 .below) (p .1 .0) (L .picks) (at-if1 .before .aim .ensures) (at-if1 .if1 .left) (c .before .before .slot .ensures)))
 
 same-length-4 : tie.Need-same-length-4 Inv-loop μ-loop
-same-length-4 c = c .before .before .before .before .next-move .kept .1 .1 .1 .0 ∙ c .before .before .before .before .before .before .before .before .loop .inv .0 .run .size
+same-length-4 c = c .before .before .before .before .before .before .before .before .before .before .before .before .loop .inv .0 .run .size
 
 same-length-5 : tie.Need-same-length-5 Inv-loop μ-loop
-same-length-5 c = c .before .before .before .before .before .before .before .before .loop .inv .0 .run .sets
+same-length-5 c = c .before .before .before .before .before .before .before .before .before .before .before .before .loop .inv .0 .run .sets
 
 same-length-6 : tie.Need-same-length-6 Inv-loop μ-loop
-same-length-6 c = c .before .before .before .before .before .before .before .before .loop .inv .0 .words
+same-length-6 c =
+    let at-loop = c .before .before .before .before .before .before .before .before .before .before .before .before in
+    c .before .before .before .put-clause .ensures .size ∙ at-loop .loop .inv .0 .words
 
 returns-2 : tie.Need-returns-2 Inv-loop μ-loop
 returns-2 c =
-    let v = c .before .before .before .before .next-move in
-    let r = rested-looked (c .before .before .before .before .before .before .before .before .loop .inv .0) (v .ensures .1 .0) (v .ensures .1 .1 .0) (v .kept .1 .1 .1 .0) in
-    rested-done r (looked (r .run .holds) (v .ensures .0) (v .ensures .1 .1 .0) (c .enum-told2 .given .1))
+    let at-if1 = c .before .before .before .before .before .before .before .before in
+    let at-loop = at-if1 .before .before .before .before in
+    let p = at-loop .before .before .before .before .before .before .pre in
+    let (r, L) = at-loop .loop .inv in
+    aimed-closed r (p .0 .few) (p .0 .table) (p .1 .0 .below) (p .1 .0) (L .picks) (at-if1 .before .aim .ensures) (at-if1 .if1 .left) (c .before .before .before .before .before .before .slot .ensures)
+    (c .before .before .before .put-clause .ensures) (c .if2 .taken)
 
-enum-known-m-2 : tie.Need-enum-known-m-2 Inv-loop μ-loop
-enum-known-m-2 c = search needs
+join-requires : tie.Need-join-requires Inv-loop μ-loop
+join-requires c κs =
+    let at-loop = c .before .before .before .before .before .before .before .before .before .before .before .before .before .before in
+    let p = at-loop .before .before .before .before .before .before .pre in
+    let (r, L) = at-loop .loop .inv in
+    (p .0, (p .1 .0, (r .run .holds, L .picks (c .before .before .if2 .left))))
 
-same-length-7 : tie.Need-same-length-7 Inv-loop μ-loop
-same-length-7 c = c .before .before .before .before .before .next-move .kept .1 .1 .1 .0 ∙ c .before .before .before .before .before .before .before .before .before .loop .inv .0 .run .size
+loop-less : tie.Need-loop-less Inv-loop μ-loop
+loop-less c =
+    let at-if2 = c .before .before .before .before .before .before .before in
+    let at-loop = at-if2 .before .before .before .before .before .before .before .before .before .before .before .before in
+    let p = at-loop .before .before .before .before .before .before .pre in
+    let (r, L) = at-loop .loop .inv in
+    let e = unit-on (p .0 .few) (p .1 .0) (r .run .holds) (L .picks (at-if2 .if2 .left)) .next in
+    omega (arith, run-room (r .run) (p .0 .table) (p .1 .0 .below) e, ap length (c .before .before .before .before .join .ensures .1 .0))
 
-same-length-8 : tie.Need-same-length-8 Inv-loop μ-loop
-same-length-8 c = c .before .before .before .before .before .before .before .before .before .loop .inv .0 .run .sets
-
-same-length-9 : tie.Need-same-length-9 Inv-loop μ-loop
-same-length-9 c = c .before .before .before .before .before .before .before .before .before .loop .inv .0 .words
-
-returns-3 : tie.Need-returns-3 Inv-loop μ-loop
-returns-3 c =
-    let v = c .before .before .before .before .before .next-move in
-    let r = rested-looked (c .before .before .before .before .before .before .before .before .before .loop .inv .0) (v .ensures .1 .0) (v .ensures .1 .1 .0) (v .kept .1 .1 .1 .0) in
-    rested-split r (looked (r .run .holds) (v .ensures .0) (v .ensures .1 .1 .0) (c .before .m2 .given .1))
+loop-again : tie.Need-loop-again Inv-loop μ-loop
+loop-again c =
+    let a = c .before .before .before .before .join in
+    let at-if2 = c .before .before .before .before .before .before .before in
+    let at-put-clause = at-if2 .before .before .before in
+    let at-if1 = at-put-clause .before .before .before .before .before in
+    let at-loop = at-if1 .before .before .before .before in
+    let p = at-loop .before .before .before .before .before .before .pre in
+    let (r, L) = at-loop .loop .inv in
+    let S = aimed-stepped r (p .0 .few) (p .0 .table) (p .1 .0 .below) (p .1 .0) (L .picks) (at-if1 .before .aim .ensures) (at-if1 .if1 .left) (at-put-clause .before .before .before .slot .ensures)
+    (at-put-clause .put-clause .ensures) (at-if2 .if2 .left) (a .ensures .0) (a .ensures .1 .0) in
+    (rested-stepped r (p .0 .few) (p .0 .table) (p .1 .0 .below) S (a .kept .1 .1 .1 .0) (a .kept .1 .1 .1 .1 .0), a .ensures .1 .1)
 
 pub propagate-spec : {M : Type 1} → statement M
 propagate-spec =
@@ -160,30 +125,20 @@ propagate-spec =
     (tie.spec
     Inv-loop
     μ-loop
-    pick-requires
     loop-holds
-    step-requires
-    loop-less
-    loop-again
-    next-move-requires
-    enum-told
-    put-clause-requires
+    aim-requires
+    conclude-requires
     same-length
     same-length-2
     same-length-3
     returns
-    enum-known-m
-    join-requires
-    pick-requires-2
-    loop-less-2
-    loop-again-2
-    enum-told-2
+    (λ c. search needs) (λ c. search needs)
+    slot-requires
+    put-clause-requires
     same-length-4
     same-length-5
     same-length-6
     returns-2
-    enum-known-m-2
-    same-length-7
-    same-length-8
-    same-length-9
-    returns-3)
+    join-requires
+    loop-less
+    loop-again)

@@ -1,5 +1,5 @@
 -- `solver::join` meets its contract. Assumes nothing.
-use Rattle.solver.proofs.Assumes.{picked-fresh, picked-taken, holds-joined, list-joined, picks-joined}
+use Rattle.solver.proofs.Assumes.{picked-fresh, picked-taken, holds-joined, list-joined, leads-joined}
 use borrow.Author.Needs.{needs}
 use Rattle.solver.proofs.join.Statement.{statement}
 use Rattle.solver.proofs.join.Tie as tie
@@ -12,7 +12,7 @@ returns c =
     let N = picked-taken (p .0 .few) H k (c .before .before .before .before .before .before .before .before .before .leave .ensures) in
     let f = picked-fresh (p .0 .few) H k in
     let a = c .before .before .before .before .attach .ensures in
-    (holds-joined (p .0) H N f a (k .waiting), (list-joined (p .0) H N f a (k .waiting), picks-joined (p .0) H N f a (k .waiting)))
+    (holds-joined (p .0) H N f a (k .waiting), (list-joined (p .0) H N f a (k .waiting), leads-joined (p .0) H N f a (k .waiting)))
 
 pub join-spec : {M : Type 1} → statement M
 join-spec =

@@ -13,5 +13,5 @@ settle-spec =
     (λ c. search needs)
     (λ c. simp length-set (omega arith))
     (λ c. simp length-set (omega arith))
-    (λ c κs. search needs) (λ c. search needs) (λ c. search needs)
+    (λ c. search needs)
     (λ c. search (needs, settled)))

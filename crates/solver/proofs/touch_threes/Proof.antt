@@ -27,7 +27,8 @@ visit-requires : tie.Need-visit-requires Inv-loop μ-loop
 visit-requires c κs =
     let p = c .before .before .before .before .before .before .before .before .before .before .pre in
     let inv = c .before .before .before .before .loop .inv in
-    (p .0, ((still-ready (p .0 .few) (p .1 .0) (inv .0 .beside), inv .0 .units), c .before .before .parent-of-three .ensures .1))
+    let e = c .before .before .parent-of-three .ensures in
+    (p .0, ((still-ready (p .0 .few) (p .1 .0) (inv .0 .beside), inv .0 .units), (e .1, e .2)))
 
 add-k-2 : tie.Need-add-k-2 Inv-loop μ-loop
 add-k-2 c =

@@ -5,9 +5,6 @@ use borrow.Author.Needs.{needs}
 use Rattle.state.proofs.enter.Statement.{statement}
 use Rattle.state.proofs.enter.Tie as tie
 
-slice-write-work-2 : tie.Need-slice-write-work-2
-slice-write-work-2 c = simp length-set (omega arith)
-
 slice-write-work-3 : tie.Need-slice-write-work-3
 slice-write-work-3 c = simp length-set (omega arith)
 
@@ -18,7 +15,7 @@ enter-spec =
     (λ c. search needs) (λ c. search needs) (λ c. search needs) (λ c. search needs) (λ c. search needs)
     (λ c. search needs) (λ c. search needs) (λ c. search needs) (λ c. search needs) (λ c. search needs)
     (λ c. search needs)
-    slice-write-work-2
+    (λ c. simp length-set (omega arith))
     (λ c. search needs)
     slice-write-work-3
     (λ c. search needs)

@@ -3,13 +3,10 @@ use borrow.Author.Needs.{needs}
 use Rattle.state.proofs.number.Statement.{statement}
 use Rattle.state.proofs.number.Tie as tie
 
-returns : tie.Need-returns
-returns c = rw (c .base .ensures)
-
 pub number-spec : {M : Type 1} → statement M
 number-spec =
     tie.close
     (tie.spec
     (λ c κs. search needs) (λ c. search needs) (λ c. search needs) (λ c. search needs)
     (λ c. search needs) (λ c. search needs) (λ c. search needs) (λ c. search needs)
-    returns)
+    (λ c. rw (c .base .ensures)))

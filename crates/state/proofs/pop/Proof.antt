@@ -9,9 +9,6 @@ use borrow.Author.Needs.{needs}
 use Rattle.state.proofs.pop.Statement.{statement}
 use Rattle.state.proofs.pop.Tie as tie
 
-slice-write-work-2 : tie.Need-slice-write-work-2
-slice-write-work-2 c = simp length-set (omega (arith, simp length-set at (ap length (c .before .before .set-values .ensures))))
-
 returns : tie.Need-returns
 returns c =
     let s = c .before .before .before .before .before .before .before in
@@ -24,6 +21,6 @@ pop-spec =
     (λ c. search needs) (λ c. search needs) (λ c. search needs) (λ c. search needs) (λ c. search needs)
     (λ c. search needs) (λ c. search needs) (λ c κs. search needs) (λ c. search needs)
     (λ c. search needs) (λ c. search needs) (λ c. search needs) (λ c. search needs)
-    slice-write-work-2
+    (λ c. simp length-set (omega (arith, simp length-set at (ap length (c .before .before .set-values .ensures)))))
     (λ c. search needs)
     returns)

@@ -5,9 +5,6 @@ use borrow.Author.Needs.{needs}
 use Rattle.state.proofs.set_values.Statement.{statement}
 use Rattle.state.proofs.set_values.Tie as tie
 
-slice-write-work-2 : tie.Need-slice-write-work-2
-slice-write-work-2 c = simp length-set (omega (arith, c .negated .ensures))
-
 returns : tie.Need-returns
 returns c = rw (c .negated .ensures)
 
@@ -17,6 +14,6 @@ set-values-spec =
     (tie.spec
     (λ c κs. search needs) (λ c. search needs) (λ c. search needs) (λ c. search needs)
     (λ c. search needs) (λ c. search needs) (λ c. search needs) (λ c. search needs) (λ c. search needs)
-    slice-write-work-2
+    (λ c. simp length-set (omega (arith, c .negated .ensures)))
     (λ c. search needs)
     returns)

@@ -14,9 +14,6 @@ Inv-loop work₀ from many i₀ work i = Wiped work₀ from i work × (i ≤ man
 abbrev μ-loop : tie.MeasureT-loop
 μ-loop work₀ from many i₀ work i = many - i
 
-loop-holds : tie.Need-loop-holds Inv-loop μ-loop
-loop-holds c = (wiped-starts (c .args .work .now) _, omega arith)
-
 add-work : tie.Need-add-work Inv-loop μ-loop
 add-work c = omega (arith, c .loop-test .taken, c .before .before .pre)
 
@@ -40,12 +37,11 @@ wipe-spec =
     (tie.spec
     Inv-loop
     μ-loop
-    loop-holds
+    (λ c. (wiped-starts (c .args .work .now) _, omega arith))
     add-work
     (λ c. search needs)
     slice-write-work
-    (λ c. search needs)
-    (λ c. search needs)
+    (λ c. search needs) (λ c. search needs)
     loop-again
     same-length
     returns)
