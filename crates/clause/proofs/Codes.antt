@@ -22,7 +22,7 @@ use Rattle.index.specs.Codes.{numbered, opposite, choiceValue, stateBy, rowStat
 use Rattle.index.specs.Index.{codesAt, mostLiterals, indexNode}
 use Rattle.index.specs.Indexed.{Indexed}
 use Rattle.index.proofs.Nodes.{operand-cell, operand-low}
-use Rattle.clause.specs.Coded.{placeOf, statesOf, Choice, Coded}
+use Rattle.clause.specs.Coded.{rowPlace, statesOf, Choice, Coded}
 use Rattle.clause.proofs.Rows.{Chooses, of-operand, choice-few}
 use Rattle.clause.proofs.States.{renamed, Right, states-renamed, one-kept, empty-kept, open-kept, one-open, first-most, first-has, some-renamed, first-renamed, literal-renamed, state-has}
 
@@ -266,7 +266,7 @@ module _ {x : List ℕ} {n : ℕ} (I : Indexed x n) (G : List ℕ) (good : Good 
   third-few k = omega (arith, operand-low x n m 2 (I .table) (h .0) (omega (arith, arity-three (own .kind) k)), h .0, I .few)
 
   -- the same at the place that the values lead to
-  module _ {i : ℕ} (e : i ≡ placeOf own sign G) where
+  module _ {i : ℕ} (e : i ≡ rowPlace own sign G) where
     low-a : valueCode (valueOf G (own .a)) < 3
     low-a = code-low (valueOf G (own .a))
 

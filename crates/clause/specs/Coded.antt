@@ -36,9 +36,9 @@ Valued r = (l : ℕ) → l < mostLiterals → valueAt r l ≡ valueCode (valueOf
 abbrev pub statesOf : (ℕ → Node) → List ℕ → ℕ → List State
 statesOf t G l = map (stateOf G) (expand t l)
 
--- the place of a literal of node y, by its row and by the values of the first two operands under G
-abbrev pub placeOf : Node → ℕ → List ℕ → ℕ
-placeOf y sign G = 9 * (2 * y .kind + sign) + (3 * valueCode (valueOf G (y .a)) + valueCode (valueOf G (y .b)))
+-- where the codes of a literal of node y stand, nine to a row, by the values of the first two operands under G
+abbrev pub rowPlace : Node → ℕ → List ℕ → ℕ
+rowPlace y sign G = 9 * (2 * y .kind + sign) + (3 * valueCode (valueOf G (y .a)) + valueCode (valueOf G (y .b)))
 
 -- the literal that choice c is of a node's operands
 abbrev pub Choice : Node → ℕ → ℕ → Type 0

@@ -13,7 +13,7 @@ ghost use Rattle.index.specs.Edges.{PairAt, ThreeAt, parentOf, otherOf, edgeAt}
 ghost use Rattle.index.specs.Indexed.{Indexed};
 ghost use Rattle.clause.specs.Templates.{rows, cell};
 ghost use Rattle.clause.specs.Literals.{literals};
-ghost use Rattle.clause.specs.Coded.{tail, gOf, Valued, placeOf, statesOf, Coded};
+ghost use Rattle.clause.specs.Coded.{tail, gOf, Valued, rowPlace, statesOf, Coded};
 ghost use Rattle.clause.specs.Classed.{keptBy, Classed};
 
 // A clause: how many literals it has, 0 to 3, and which.
@@ -172,11 +172,11 @@ fn value(work: &[u16], l: u16) -> usize
 }
 
 // The place of a node's literal of a sign by the values of the first two operands: each row has nine.
-fn place(x: &[u16], n: usize, work: &[u16], node: usize, sign: usize) -> usize
+fn row_place(x: &[u16], n: usize, work: &[u16], node: usize, sign: usize) -> usize
     requires { ⌜ Indexed (now x) n ⌝ }
     requires { ⌜ (node < n) × (sign < 2) ⌝ }
     requires { ⌜ (32768 ≤ length (now work)) × Valued (tail (now work)) ⌝ }
-    ensures { λ r. ⌜ r ≡ placeOf (indexNode (now (x .entry)) node) sign (gOf (now (work .entry))) ⌝ }
+    ensures { λ r. ⌜ r ≡ rowPlace (indexNode (now (x .entry)) node) sign (gOf (now (work .entry))) ⌝ }
 {
     let a = value(work, x[4 * node + 1]);
     let b = value(work, x[4 * node + 2]);
@@ -192,7 +192,7 @@ pub fn code_of_three(x: &[u16], n: usize, work: &[u16], node: usize, sign: usize
     requires { ⌜ (32768 ≤ length (now work)) × Valued (tail (now work)) × Good n (gOf (now work)) ⌝ }
     ensures { λ r. ⌜ Coded (indexNode (now (x .entry)) node) (statesOf (indexNode (now (x .entry))) (gOf (now (work .entry))) (2 * node + sign)) r ⌝ }
 {
-    let i = place(x, n, work, node, sign);
+    let i = row_place(x, n, work, node, sign);
     let c = value(work, x[4 * node + 3]);
     x[CODES_AT + (3 * i + c - 2 * PAIR_CODES)]
 }
@@ -204,7 +204,7 @@ pub fn code(x: &[u16], n: usize, work: &[u16], node: usize, sign: usize) -> u16
     requires { ⌜ (32768 ≤ length (now work)) × Valued (tail (now work)) × Good n (gOf (now work)) ⌝ }
     ensures { λ r. ⌜ Coded (indexNode (now (x .entry)) node) (statesOf (indexNode (now (x .entry))) (gOf (now (work .entry))) (2 * node + sign)) r ⌝ }
 {
-    let i = place(x, n, work, node, sign);
+    let i = row_place(x, n, work, node, sign);
     if i < PAIR_CODES {
         return x[CODES_AT + i];
     }

@@ -175,13 +175,13 @@ pub fn count(
         Stop::Model => Tally::Open,
         Stop::Fork(l) => {
             let held = state::count(work);
-            let a = solver::branch(x, n, goals, work, masks, l);
+            let a = solver::fork(x, n, goals, work, masks, l);
             let left = count(version, x, n, goals, work, masks, cap, told.count, a);
             match left {
                 Tally::Open => Tally::Open,
                 Tally::Closed(c) => {
                     solver::undo_to(x, n, goals, work, masks, held);
-                    let b = solver::branch(x, n, goals, work, masks, clause::negated(l));
+                    let b = solver::fork(x, n, goals, work, masks, clause::negated(l));
                     count(version, x, n, goals, work, masks, cap, c, b)
                 }
             }

@@ -1,6 +1,6 @@
 // The writing pass of derive: the steps of a search that closes, in blocks of a lent buffer. The writer is taken and returned by value; its
 // block is lent to the recursion, which carries two counts, a call for each branch of a split. A phase is the moves up to a conflict or a
-// split.
+// split. `forms` are the clause templates.
 use calculus::Move;
 use clause::Clause;
 use gather::At;
@@ -71,13 +71,13 @@ fn false_bits(n: usize, work: &[u16], c: Clause) -> u8
 // The positions of the removals of the clause that the move looked up is on, as bits: in version one those of its false literals.
 fn removal_bits(
     version: Version,
-    templates: &[[u8; 9]; 18],
+    forms: &[[u8; 9]; 18],
     x: &[u16],
     n: usize,
     goals: &[u16],
     work: &[u16],
 ) -> u8
-    requires { ⌜ now templates ≡ rows ⌝ }
+    requires { ⌜ now forms ≡ rows ⌝ }
     requires { ⌜ Indexed (now x) n ⌝ }
     requires { ⌜ Goals n (now goals) ⌝ }
     requires { ⌜ Ready n (now work) × Numbered (indexNode (now x)) (now goals) (tail (now work)) ⌝ }
@@ -86,7 +86,7 @@ fn removal_bits(
 {
     match version {
         Version::One => {
-            let c = moves::reason(templates, x, n, goals, work);
+            let c = moves::reason(forms, x, n, goals, work);
             false_bits(n, work, c)
         }
         Version::Two => 0,
@@ -96,7 +96,7 @@ fn removal_bits(
 // The steps on clause k, that of the move looked up: its removals, and a U or a C.
 fn on_clause(
     version: Version,
-    templates: &[[u8; 9]; 18],
+    forms: &[[u8; 9]; 18],
     x: &[u16],
     n: usize,
     goals: &[u16],
@@ -107,7 +107,7 @@ fn on_clause(
     rule: u8,
     k: u16,
 ) -> At
-    requires { ⌜ now templates ≡ rows ⌝ }
+    requires { ⌜ now forms ≡ rows ⌝ }
     requires { ⌜ Indexed (now x) n ⌝ }
     requires { ⌜ Goals n (now goals) ⌝ }
     requires { ⌜ Ready n (now work) × Numbered (indexNode (now x)) (now goals) (tail (now work)) ⌝ }
@@ -115,7 +115,7 @@ fn on_clause(
     requires { ⌜ Space (length (removed version (expand (indexNode (now x))) (now goals) (gOf (now work)) k) + 1) (now out) (lent (now block) at) ⌝ }
     ensures { λ r. ⌜ Pushed (removed version (expand (indexNode (now (x .entry)))) (now (goals .entry)) (gOf (now (work .entry))) k ++ step rule 0 k ∷ []) (now (out .entry)) (lent (now (block .entry)) at) (now (out .exit)) (lent (now (block .exit)) r) ⌝ }
 {
-    let bits = removal_bits(version, templates, x, n, goals, work);
+    let bits = removal_bits(version, forms, x, n, goals, work);
     gather::add_move(out, block, at, rule, k, bits)
 }
 
@@ -135,7 +135,7 @@ fn on_split(out: &mut [u8], block: &mut [u8; 512], at: At, l: u16) -> At
 // The moves up to a conflict or a split, with their steps. `first` is the unit that is the next move, or NO_UNIT.
 fn phase(
     version: Version,
-    templates: &[[u8; 9]; 18],
+    forms: &[[u8; 9]; 18],
     x: &[u16],
     n: usize,
     goals: &[u16],
@@ -146,7 +146,7 @@ fn phase(
     start: At,
     first: u32,
 ) -> Told
-    requires { ⌜ now templates ≡ rows ⌝ }
+    requires { ⌜ now forms ≡ rows ⌝ }
     requires { ⌜ Indexed (now x) n ⌝ }
     requires { ⌜ Goals n (now goals) ⌝ }
     requires { ⌜ Holds (indexNode (now x)) n (now goals) (now work) (now masks) ⌝ }
@@ -159,21 +159,21 @@ fn phase(
     loop {
         if u != NO_UNIT {
             let f = moves::unit_move(x, n, goals, work, masks, u);
-            let k = f.number;
-            at = on_clause(version, templates, x, n, goals, work, out, block, at, 85, k);
+            let c = f.number;
+            at = on_clause(version, forms, x, n, goals, work, out, block, at, 85, c);
             u = solver::join(x, n, goals, work, masks, u);
         } else {
             let m = moves::next_move(x, n, goals, work, masks);
             match m {
                 Move::Conflict(k) => {
-                    at = on_clause(version, templates, x, n, goals, work, out, block, at, 67, k);
+                    at = on_clause(version, forms, x, n, goals, work, out, block, at, 67, k);
                     return Told {
                         turn: Turn::Closed,
                         at,
                     };
                 }
                 Move::Unit(k, l) => {
-                    at = on_clause(version, templates, x, n, goals, work, out, block, at, 85, k);
+                    at = on_clause(version, forms, x, n, goals, work, out, block, at, 85, k);
                     solver::assume(x, n, goals, work, masks, l);
                     u = moves::pick(work, masks);
                 }
@@ -195,11 +195,11 @@ fn phase(
     }
 }
 
-// The steps of a search that closes. The literals held stay held; what joined is taken back only before a right branch. `first` is the unit
-// that is the next move, or NO_UNIT.
+// The steps of a search that closes. The literals held stay held; what joined is taken back only before a right branch. u is the unit that
+// is the next move, or NO_UNIT.
 fn emit(
     version: Version,
-    templates: &[[u8; 9]; 18],
+    forms: &[[u8; 9]; 18],
     x: &[u16],
     n: usize,
     goals: &[u16],
@@ -208,64 +208,28 @@ fn emit(
     out: &mut [u8],
     block: &mut [u8; 512],
     at: At,
-    first: u32,
+    u: u32,
 ) -> At
-    requires { ⌜ now templates ≡ rows ⌝ }
+    requires { ⌜ now forms ≡ rows ⌝ }
     requires { ⌜ Indexed (now x) n ⌝ }
     requires { ⌜ Goals n (now goals) ⌝ }
     requires { ⌜ Holds (indexNode (now x)) n (now goals) (now work) (now masks) ⌝ }
     requires { ⌜ Due version (indexNode (now x)) n (now goals) (gOf (now work)) (now out) (lent (now block) at) ⌝ }
-    requires { ⌜ Picks (now work) (now masks) first ⌝ }
+    requires { ⌜ Picks (now work) (now masks) u ⌝ }
     ensures { λ r. ⌜ Emitted version (indexNode (now (x .entry))) n (now (goals .entry)) (now (work .entry)) (now (work .exit)) (now (masks .exit)) (now (out .entry)) (now (out .exit)) (lent (now (block .entry)) at) (lent (now (block .exit)) r) ⌝ }
 {
-    let a = phase(
-        version,
-        templates,
-        x,
-        n,
-        goals,
-        work,
-        masks,
-        out,
-        block,
-        at,
-        first,
-    );
+    let a = phase(version, forms, x, n, goals, work, masks, out, block, at, u);
     let turn = a.turn;
     let p = a.at;
     match turn {
         Turn::Closed => p,
         Turn::Fork(l) => {
             let held = state::count(work);
-            let left = solver::branch(x, n, goals, work, masks, l);
-            let b = emit(
-                version,
-                templates,
-                x,
-                n,
-                goals,
-                work,
-                masks,
-                out,
-                block,
-                p,
-                left,
-            );
+            let v = solver::fork(x, n, goals, work, masks, l);
+            let b = emit(version, forms, x, n, goals, work, masks, out, block, p, v);
             solver::undo_to(x, n, goals, work, masks, held);
-            let right = solver::branch(x, n, goals, work, masks, clause::negated(l));
-            emit(
-                version,
-                templates,
-                x,
-                n,
-                goals,
-                work,
-                masks,
-                out,
-                block,
-                b,
-                right,
-            )
+            let w = solver::fork(x, n, goals, work, masks, clause::negated(l));
+            emit(version, forms, x, n, goals, work, masks, out, block, b, w)
         }
     }
 }
@@ -273,7 +237,7 @@ fn emit(
 // The same by a writer, whose block is lent.
 fn push_steps(
     version: Version,
-    templates: &[[u8; 9]; 18],
+    forms: &[[u8; 9]; 18],
     x: &[u16],
     n: usize,
     goals: &[u16],
@@ -282,7 +246,7 @@ fn push_steps(
     out: &mut [u8],
     mut w: Writer,
 ) -> Writer
-    requires { ⌜ now templates ≡ rows ⌝ }
+    requires { ⌜ now forms ≡ rows ⌝ }
     requires { ⌜ Indexed (now x) n ⌝ }
     requires { ⌜ Goals n (now goals) ⌝ }
     requires { ⌜ Holds (indexNode (now x)) n (now goals) (now work) (now masks) ⌝ }
@@ -295,7 +259,7 @@ fn push_steps(
     };
     let at = emit(
         version,
-        templates,
+        forms,
         x,
         n,
         goals,
@@ -314,7 +278,7 @@ fn push_steps(
 // The goals' names and the steps of a search that closes, in blocks at the start of d.
 pub fn write(
     version: Version,
-    templates: &[[u8; 9]; 18],
+    forms: &[[u8; 9]; 18],
     x: &[u16],
     n: usize,
     goals: &[u16],
@@ -322,7 +286,7 @@ pub fn write(
     masks: &mut [u64],
     d: &mut [u8],
 )
-    requires { ⌜ now templates ≡ rows ⌝ }
+    requires { ⌜ now forms ≡ rows ⌝ }
     requires { ⌜ Indexed (now x) n ⌝ }
     requires { ⌜ Goals n (now goals) ⌝ }
     requires { ⌜ Holds (indexNode (now x)) n (now goals) (now work) (now masks) ⌝ }
@@ -337,6 +301,6 @@ pub fn write(
         blocks: 0,
     };
     let named = gather::push_goals(d, w, goals);
-    let done = push_steps(version, templates, x, n, goals, work, masks, d, named);
+    let done = push_steps(version, forms, x, n, goals, work, masks, d, named);
     gather::close(d, done);
 }

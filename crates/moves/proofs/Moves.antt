@@ -436,10 +436,5 @@ module _ {t : ℕ → Node} {n : ℕ} {goals w m : List ℕ} (few : n ≤ mostNo
         next = unit-next (p .free) (p .waiting) (p .first) ∙ single-same (ap (baseOf r (u / 65536) +_) j) l;
       }
 
-  -- the unit that was picked is the next move
   pub picked-next : {u : ℕ} → Picked w m u → (k : ℕ) × (move (expand t) goals G ≡ Single k (u % 4096))
-  picked-next {u} p =
-      let q : ℕ = u / 65536 in (
-        baseOf r q + codeAt r q / 4096,
-        unit-next (p .free) (p .waiting) (p .first) ∙ ap (Single (baseOf r q + codeAt r q / 4096)) (omega (arith, p .kept)),
-      )
+  picked-next p = (_, unit-on p .next)

@@ -13,8 +13,8 @@ use Rattle.calculus.specs.declared.Move.{Move}
 use Rattle.calculus.specs.declared.Move.the-variants.{Conflict, Unit as Single, Done, Split}
 use Rattle.clause.specs.declared.Clause.{Clause}
 use Rattle.moves.specs.declared.Forced.{Forced}
-use Rattle.moves.specs.declared.Left.{Left}
-use Rattle.moves.specs.declared.Left.the-variants.{Done as None, Split as Forks}
+use Rattle.moves.specs.declared.Choice.{Choice}
+use Rattle.moves.specs.declared.Choice.the-variants.{Done as None, Split as Forks}
 use Rattle.clause.specs.Literals.{literals}
 use Rattle.clause.specs.Coded.{isOpen, Coded}
 use Rattle.state.specs.Work.{tail, litAt, baseOf, gOf, valueCode, cursorOf, placeOf}
@@ -84,10 +84,10 @@ pub record OpenFrom (t : ℕ → Node) (w : List ℕ) (r : ℕ) : Type 0 where
 abbrev pub forcedMove : Forced → Move
 forcedMove f = Single (f .number) (f .literal)
 
--- the move of what is left
-abbrev pub leftMove : Left → Move
-leftMove None = Done
-leftMove (Forks l) = Split l
+-- the move of a choice
+abbrev pub choiceMove : Choice → Move
+choiceMove None = Done
+choiceMove (Forks l) = Split l
 
 -- the next move is m, on clause j of the literal at position q
 pub record On (t : ℕ → Node) (goals w : List ℕ) (q j : ℕ) (m : Move) : Type 0 where

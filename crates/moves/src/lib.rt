@@ -13,20 +13,19 @@ ghost use Rattle.index.specs.Index.{mostNodes, indexNode};
 ghost use Rattle.index.specs.Indexed.{Indexed};
 ghost use Rattle.clause.specs.Coded.{Coded};
 ghost use Rattle.clause.specs.Templates.{rows};
-ghost use Rattle.state.specs.Work.{area, tail, litAt, baseOf, gOf, Ready, Numbered, cursorOf, conflictOf, waitingOf, placeOf};
+ghost use Rattle.state.specs.Work.{area, tail, litAt, baseOf, gOf, Ready, Numbered, cursorOf, conflictOf, waitingOf};
 ghost use Rattle.state.specs.Holds.{Holds, Waiting, statesAt, deniedOf, NoneDenied};
 ghost use Rattle.state.specs.Picked.{noUnit, Picked, Picks};
-ghost use Rattle.moves.specs.Place.{forcedMove, leftMove, On, placeNumber, Placed, Kept, Reasoned, Without, FirstGoal, CellSet, OpenFrom, Moved};
+ghost use Rattle.moves.specs.Place.{forcedMove, choiceMove, On, placeNumber, Placed, Kept, Reasoned, Without, FirstGoal, CellSet, OpenFrom, Moved};
 
-// A unit: the place and the number of its clause, and its literal.
+// A unit: the number of its clause, and its literal.
 pub struct Forced {
-    pub place: usize,
     pub number: u16,
     pub literal: u16,
 }
 
 // What is left where there is no conflict and no unit: nothing, or a split on a literal.
-pub enum Left {
+pub enum Choice {
     Done,
     Split(u16),
 }
@@ -97,7 +96,7 @@ fn code_at(x: &[u16], n: usize, work: &[u16], q: usize) -> u16
     clause::code(x, n, work, (l / 2) as usize, (l % 2) as usize)
 }
 
-// The first position from the cursor on with an open clause, times 65,536, and its code; or how many literals are held.
+// 65,536 times the first position from the cursor on with an open clause, and its code; or 65,536 times how many literals are held.
 fn open_from(x: &[u16], n: usize, work: &[u16]) -> u32
     requires { ⌜ Indexed (now x) n ⌝ }
     requires { ⌜ Ready n (now work) ⌝ }
@@ -228,7 +227,7 @@ pub fn unit_move(
     requires { ⌜ Holds (indexNode (now x)) n (now goals) (now work) (now masks) ⌝ }
     requires { ⌜ Picked (now work) (now masks) u ⌝ }
     ensures { λ r. ⌜ Moved (indexNode (now (x .entry))) n (now (goals .entry)) (now (work .entry)) (now (work .exit)) (now (masks .entry)) (forcedMove r) ⌝ }
-    ensures { λ r. ⌜ (placeOf (now (work .exit)) ≡ r .place) × (r .literal ≡ u % 4096) ⌝ }
+    ensures { λ r. ⌜ r .literal ≡ u % 4096 ⌝ }
     ensures { λ _. ⌜ Picked (now (work .exit)) (now (masks .entry)) u ⌝ }
 {
     let q = (u / 65536) as usize;
@@ -237,28 +236,27 @@ pub fn unit_move(
     let base = state::base(work, q);
     keep(work, place);
     Forced {
-        place: place,
         number: base + j as u16,
         literal: (u % 4096) as u16,
     }
 }
 
 // A split, or none: every goal is true, there is no conflict and no unit. The cursor moves on.
-pub fn choice(x: &[u16], n: usize, goals: &[u16], work: &mut [u16], masks: &[u64]) -> Left
+pub fn split_choice(x: &[u16], n: usize, goals: &[u16], work: &mut [u16], masks: &[u64]) -> Choice
     requires { ⌜ Indexed (now x) n ⌝ }
     requires { ⌜ Goals n (now goals) ⌝ }
     requires { ⌜ Holds (indexNode (now x)) n (now goals) (now work) (now masks) ⌝ }
     requires { ⌜ (waitingOf (now work) ≡ 0) × (mostNodes ≤ conflictOf (now work)) × Empty (now masks) ⌝ }
-    ensures { λ r. ⌜ Moved (indexNode (now (x .entry))) n (now (goals .entry)) (now (work .entry)) (now (work .exit)) (now (masks .entry)) (leftMove r) ⌝ }
+    ensures { λ r. ⌜ Moved (indexNode (now (x .entry))) n (now (goals .entry)) (now (work .entry)) (now (work .exit)) (now (masks .entry)) (choiceMove r) ⌝ }
 {
     let o = open_from(x, n, work);
     let q = (o / 65536) as usize;
     advance(work, q);
     if state::count(work) as usize <= q {
-        return Left::Done;
+        return Choice::Done;
     }
     let l = state::literal(work, q);
-    Left::Split(clause::choose(x, n, (l / 2) as usize, ((o / 1024) % 8) as usize))
+    Choice::Split(clause::choose(x, n, (l / 2) as usize, ((o / 1024) % 8) as usize))
 }
 
 // The same as a move.
@@ -269,10 +267,10 @@ fn split_move(x: &[u16], n: usize, goals: &[u16], work: &mut [u16], masks: &[u64
     requires { ⌜ (waitingOf (now work) ≡ 0) × (mostNodes ≤ conflictOf (now work)) × Empty (now masks) ⌝ }
     ensures { λ r. ⌜ Moved (indexNode (now (x .entry))) n (now (goals .entry)) (now (work .entry)) (now (work .exit)) (now (masks .entry)) r ⌝ }
 {
-    let c = choice(x, n, goals, work, masks);
+    let c = split_choice(x, n, goals, work, masks);
     match c {
-        Left::Done => Move::Done,
-        Left::Split(l) => Move::Split(l),
+        Choice::Done => Move::Done,
+        Choice::Split(l) => Move::Split(l),
     }
 }
 

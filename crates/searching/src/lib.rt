@@ -2,7 +2,7 @@
 // along, and taken back to a split before its right branch. Each literal held, and the last conflict, has the set of the splits that it
 // rests on: a right branch is skipped where the left one's conflict does not rest on the split.
 use calculus::Move;
-use moves::Left;
+use moves::Choice;
 ghost use mathlib.Core.Path.{_≡_};
 ghost use mathlib.Core.List.{[]};
 ghost use Prim.Native.Nat.{suc, _+_, _≤_};
@@ -46,7 +46,7 @@ pub enum Asked {
 }
 
 // The slot of what the last conflict rests on.
-const CONFLICT: usize = 2017;
+const CONFLICT_SLOT: usize = 2017;
 
 // How many words the sets are.
 const SETS: usize = 4036;
@@ -60,8 +60,8 @@ const NO_UNIT: u32 = 4294967295;
 // The count of splits stops here.
 const MOST: u64 = 4294967295;
 
-// What comes next where u is the unit that is the next move, if it is one: u, or the clause of the first conflict in the same form, with no
-// literal, or NO_UNIT.
+// What comes next where u is the unit that is the next move, or NO_UNIT: u; or the clause of the first conflict, its position and which
+// clause it is, as a unit has them; or NO_UNIT.
 fn aim(x: &[u16], n: usize, goals: &[u16], work: &[u16], masks: &[u64], u: u32) -> u32
     requires { ⌜ Indexed (now x) n ⌝ }
     requires { ⌜ Goals n (now goals) ⌝ }
@@ -80,12 +80,12 @@ fn aim(x: &[u16], n: usize, goals: &[u16], work: &[u16], masks: &[u64], u: u32) 
 }
 
 // The slot of what comes next: of the unit that joins, or of a conflict.
-fn slot(work: &[u16], u: u32) -> usize
+fn slot_for(work: &[u16], u: u32) -> usize
     requires { ⌜ area ≤ length (now work) ⌝ }
     ensures { λ r. ⌜ r ≡ slotFor u (gOf (now (work .entry))) ⌝ }
 {
     if u == NO_UNIT {
-        return CONFLICT;
+        return CONFLICT_SLOT;
     }
     state::count(work) as usize + 1
 }
@@ -98,14 +98,15 @@ fn conclude(x: &[u16], n: usize, goals: &[u16], work: &mut [u16], masks: &[u64])
     requires { ⌜ (waitingOf (now work) ≡ 0) × (mostNodes ≤ conflictOf (now work)) × Empty (now masks) ⌝ }
     ensures { λ r. ⌜ Concluded (indexNode (now (x .entry))) n (now (goals .entry)) (now (work .entry)) (now (work .exit)) (now (masks .entry)) r ⌝ }
 {
-    let left = moves::choice(x, n, goals, work, masks);
-    match left {
-        Left::Done => Stop::Model,
-        Left::Split(l) => Stop::Fork(l),
+    let choice = moves::split_choice(x, n, goals, work, masks);
+    match choice {
+        Choice::Done => Stop::Model,
+        Choice::Split(l) => Stop::Fork(l),
     }
 }
 
-// The units join, each with what it rests on, from a first one on, if there is one, up to another move. Every goal is true.
+// The units join, each with what it rests on, up to another move; `first` is the unit that is the next move, or NO_UNIT. Every goal is
+// true.
 fn propagate(
     x: &[u16],
     n: usize,
@@ -129,7 +130,7 @@ fn propagate(
         }
         let q = (on / 65536) as usize;
         let j = ((on / 4096) % 16) as usize;
-        let to = slot(work, u);
+        let to = slot_for(work, u);
         grounds::put_clause(x, n, goals, work, rests, to, q, j);
         if u == NO_UNIT {
             return Stop::Closed;
@@ -211,7 +212,7 @@ fn with_left(left: u32, right: Ended) -> Ended
 
 // The search from the literals held, which stay held, with d splits on the branch: a model, or every branch closes, and the last
 // conflict's slot has what that rests on. What joined is taken back only before a right branch. Every goal is true; u is the unit that is
-// the next move, if it is one.
+// the next move, or NO_UNIT.
 fn search(
     x: &[u16],
     n: usize,
@@ -236,17 +237,17 @@ fn search(
             let held = state::count(work);
             let slot = held as usize + 1;
             rests::put_only(rests, slot, d);
-            let first = solver::branch(x, n, goals, work, masks, l);
+            let first = solver::fork(x, n, goals, work, masks, l);
             let left = search(x, n, goals, work, masks, rests, d + 1, first);
             match left {
                 Ended::Model(s) => Ended::Model(one_more(s, 0)),
                 Ended::Closed(s) => {
-                    if rests::without(rests, CONFLICT, d) {
+                    if rests::without(rests, CONFLICT_SLOT, d) {
                         return Ended::Closed(one_more(s, 0));
                     }
                     solver::undo_to(x, n, goals, work, masks, held);
-                    rests::put_less(rests, slot, CONFLICT, d);
-                    let second = solver::branch(x, n, goals, work, masks, clause::negated(l));
+                    rests::put_less(rests, slot, CONFLICT_SLOT, d);
+                    let second = solver::fork(x, n, goals, work, masks, clause::negated(l));
                     let right = search(x, n, goals, work, masks, rests, d + 1, second);
                     with_left(s, right)
                 }

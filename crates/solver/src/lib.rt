@@ -1,4 +1,4 @@
-// The solver's state changes: start, restart, assume, join_goal, join, undo_to. A literal that joins changes what the clauses of its node's
+// The solver's state changes: start, restart, assume, fork, join_goal, join, undo_to. A literal that joins changes what the clauses of its node's
 // held parents come to, and nothing else. Nothing is noted for the way back: what undo_to goes back to had a split as its move, so no clause was a unit or all
 // false there.
 // The work area's layout is in crate state, specs/Work.antt, the index's in crate index.
@@ -334,16 +334,9 @@ pub fn assume(x: &[u16], n: usize, goals: &[u16], work: &mut [u16], masks: &mut 
     wait(n, goals, work, l);
 }
 
-// A literal, which is undecided, is assumed true where no goal waits, as at a split. The answer is the next unit, or NO_UNIT: then there
-// is a conflict, or none.
-pub fn branch(
-    x: &[u16],
-    n: usize,
-    goals: &[u16],
-    work: &mut [u16],
-    masks: &mut [u64],
-    l: u16,
-) -> u32
+// A literal, which is undecided, is assumed true where no goal waits, as at a split. The answer is the next unit, or NO_UNIT where there is a
+// conflict or no unit.
+pub fn fork(x: &[u16], n: usize, goals: &[u16], work: &mut [u16], masks: &mut [u64], l: u16) -> u32
     requires { ⌜ Indexed (now x) n ⌝ }
     requires { ⌜ Goals n (now goals) ⌝ }
     requires { ⌜ Holds (indexNode (now x)) n (now goals) (now work) (now masks) ⌝ }
@@ -355,7 +348,7 @@ pub fn branch(
     attach(x, n, work, masks, l)
 }
 
-// The unit that is the next move joins. The answer is the one behind it, or NO_UNIT: then there is a conflict, or none.
+// The unit that is the next move joins. The answer is the one behind it, or NO_UNIT where there is a conflict or no unit.
 pub fn join(x: &[u16], n: usize, goals: &[u16], work: &mut [u16], masks: &mut [u64], u: u32) -> u32
     requires { ⌜ Indexed (now x) n ⌝ }
     requires { ⌜ Goals n (now goals) ⌝ }

@@ -8,10 +8,10 @@ use borrow.Author.Needs.{needs}
 use Rattle.clause.proofs.code_of_three.Statement.{statement}
 use Rattle.clause.proofs.code_of_three.Tie as tie
 
-within : (p : tie.After-place) → (pairCodes ≤ p .place .result) × (p .place .result < 162)
+within : (p : tie.After-row-place) → (pairCodes ≤ p .row-place .result) × (p .row-place .result < 162)
 within p =
     let s = p .before .before .before in
-    place-within (s .pre .0) (gOf (s .args .work .now)) (s .pre .1 .1 .1 .2) (s .args .node) (s .args .sign) (s .pre .1 .0) (p .place .ensures) (s .pre .1 .1 .0)
+    place-within (s .pre .0) (gOf (s .args .work .now)) (s .pre .1 .1 .1 .2) (s .args .node) (s .args .sign) (s .pre .1 .0) (p .row-place .ensures) (s .pre .1 .1 .0)
 
 value-requires : tie.Need-value-requires
 value-requires c κs =

@@ -61,7 +61,7 @@ loop-again c =
     let v = c .before .before .before .before .before .before .before .before .before .before .before .before .unit-move in
     let a = c .before .before .before .before .join in
     let r = counting-looked (c .before .before .before .before .before .before .before .before .before .before .before .before .before .before .before .before .loop .inv .0) (v .ensures .0 .holds-on) (v .ensures .0 .list) (v .kept .1 .1 .1 .0) in
-    let e = looked (r .run .holds) (v .ensures .0 .is) (v .ensures .0 .list) (ap (Single (v .result .number)) (v .ensures .1 .0 .1)) in
+    let e = looked (r .run .holds) (v .ensures .0 .is) (v .ensures .0 .list) (ap (Single (v .result .number)) (v .ensures .1 .0)) in
     let z = sized-on (v .ensures .0 .kept) (c .before .before .before .before .before .before .before .before .size-in .ensures) in
     (counting-unit r (p .0 .table) (p .1 .0 .below) e z (c .before .before .before .before .before .before .before .capped .ensures) (a .ensures .0) (a .ensures .1 .0) (a .kept .1 .1 .1 .0) (a .kept .1 .1 .1 .1 .0), a .ensures .1 .1 .picks)
 

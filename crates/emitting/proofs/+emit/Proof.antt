@@ -17,7 +17,7 @@ use Rattle.emitting.proofs.+emit.Lts-emit as emit-lts
 use Rattle.solver.proofs.undo_to.Reads as undo-to-reads
 use Rattle.emitting.proofs.phase.Reads as phase-reads
 use Rattle.clause.proofs.negated.Reads as negated-reads
-use Rattle.solver.proofs.branch.Reads as branch-reads
+use Rattle.solver.proofs.fork.Reads as fork-reads
 use Rattle.emitting.proofs.+emit.{statement}
 use Rattle.emitting.proofs.+emit.Tie.{close}
 
@@ -36,8 +36,8 @@ emit-claims t = (
   phase-reads.Learnt,
   count-reads.Asked,
   count-reads.Learnt,
-  branch-reads.Asked,
-  branch-reads.Learnt,
+  fork-reads.Asked,
+  fork-reads.Learnt,
   emit-below t,
   emit.Post,
   undo-to-reads.Asked,
@@ -58,8 +58,8 @@ emit-enum-known-turn t c = search needs
 emit-count-requires : (t : ℕ) → emit-lts.Need-count-requires (emit-claims t) (emit-at t) emit.Post
 emit-count-requires t c κs = c .before .before .before .before .before .before .before .before .before .before .before .phase .ensures .holds .ready .size
 
-emit-branch-requires : (t : ℕ) → emit-lts.Need-branch-requires (emit-claims t) (emit-at t) emit.Post
-emit-branch-requires t c κs =
+emit-fork-requires : (t : ℕ) → emit-lts.Need-fork-requires (emit-claims t) (emit-at t) emit.Post
+emit-fork-requires t c κs =
     let at-turn = c .before .before .before .before .before in
     let at-phase = at-turn .before .before .before .before .before .before .before .before .before in
     let s = at-phase .before .before .before .before .before .before .before .before .before .before in
@@ -71,23 +71,23 @@ emit-branch-requires t c κs =
 
 emit-emit-requires : (t : ℕ) → emit-lts.Need-emit-requires (emit-claims t) (emit-at t) emit.Post
 emit-emit-requires t c κs =
-    let at-branch = c .before .before .before .before .before .before .before .before in
-    let at-turn = at-branch .before .before .before .before .before .before in
+    let at-fork = c .before .before .before .before .before .before .before .before in
+    let at-turn = at-fork .before .before .before .before .before .before in
     let at-phase = at-turn .before .before .before .before .before .before .before .before .before in
     let s = at-phase .before .before .before .before .before .before .before .before .before .before in
     let p = s .pre .1 .1 in
     let r = at-phase .phase .ensures in
     let e = at-turn .turn .given .1 in
     let f = forked r (p .0 .table) (p .1 .0 .below) e in
-    let q = at-branch .branch .ensures .1 .0 in
+    let q = at-fork .fork .ensures .1 .0 in
     let d = left-due r (p .0 .table) (p .1 .0 .below) e (p .1 .1 .1 .0 .space) q in
-    (omega (arith, s .pre .0, fork-less f q), (s .pre .1 .0, (p .0, (p .1 .0, (at-branch .branch .ensures .0, (d, at-branch .branch .ensures .1 .1 .picks))))))
+    (omega (arith, s .pre .0, fork-less f q), (s .pre .1 .0, (p .0, (p .1 .0, (at-fork .fork .ensures .0, (d, at-fork .fork .ensures .1 .1 .picks))))))
 
 emit-undo-to-requires : (t : ℕ) → emit-lts.Need-undo-to-requires (emit-claims t) (emit-at t) emit.Post
 emit-undo-to-requires t c κs =
     let at-emit = c .before .before .before .before .before .before .before .before in
-    let at-branch = at-emit .before .before .before .before .before .before .before .before .before in
-    let at-count = at-branch .before .before .before in
+    let at-fork = at-emit .before .before .before .before .before .before .before .before .before in
+    let at-count = at-fork .before .before .before in
     let at-turn = at-count .before .before .before in
     let at-phase = at-turn .before .before .before .before .before .before .before .before .before in
     let s = at-phase .before .before .before .before .before .before .before .before .before .before in
@@ -96,7 +96,7 @@ emit-undo-to-requires t c κs =
     let e = at-turn .turn .given .1 in
     let f = forked r (p .0 .table) (p .1 .0 .below) e in
     let h = at-count .count .ensures in
-    let q = at-branch .branch .ensures .1 .0 in
+    let q = at-fork .fork .ensures .1 .0 in
     let x = at-emit .emit .ensures .grows in
     (p .0, (p .1 .0, (at-emit .emit .ensures .holds, (undo-less f h q x, undo-splits f h q x))))
 
@@ -112,12 +112,12 @@ emit-negated-requires t c κs =
     let f = forked r (p .0 .table) (p .1 .0 .below) e in
     omega (arith, fork-fresh f .0, p .0 .few)
 
-emit-branch-requires-2 : (t : ℕ) → emit-lts.Need-branch-requires-2 (emit-claims t) (emit-at t) emit.Post
-emit-branch-requires-2 t c κs =
+emit-fork-requires-2 : (t : ℕ) → emit-lts.Need-fork-requires-2 (emit-claims t) (emit-at t) emit.Post
+emit-fork-requires-2 t c κs =
     let at-undo-to = c .before .before .before .before .before .before .before in
     let at-emit = at-undo-to .before .before .before .before .before .before .before .before .before in
-    let at-branch = at-emit .before .before .before .before .before .before .before .before .before in
-    let at-count = at-branch .before .before .before in
+    let at-fork = at-emit .before .before .before .before .before .before .before .before .before in
+    let at-count = at-fork .before .before .before in
     let at-turn = at-count .before .before .before in
     let at-phase = at-turn .before .before .before .before .before .before .before .before .before in
     let s = at-phase .before .before .before .before .before .before .before .before .before .before in
@@ -127,18 +127,18 @@ emit-branch-requires-2 t c κs =
     let f = forked r (p .0 .table) (p .1 .0 .below) e in
     let u = at-undo-to .undo-to .ensures in
     let h = at-count .count .ensures in
-    let q = at-branch .branch .ensures .1 .0 in
+    let q = at-fork .fork .ensures .1 .0 in
     let x = at-emit .emit .ensures .grows in
     (p .0, (p .1 .0, (u .0, (right-fresh f h q x (u .1) (c .negated .ensures), split-idle (u .0) (rw (u .1) (undo-splits f h q x))))))
 
 emit-emit-requires-2 : (t : ℕ) → emit-lts.Need-emit-requires-2 (emit-claims t) (emit-at t) emit.Post
 emit-emit-requires-2 t c κs =
-    let at-branch = c .before .before .before .before .before .before .before .before in
-    let at-negated = at-branch .before in
+    let at-fork = c .before .before .before .before .before .before .before .before in
+    let at-negated = at-fork .before in
     let at-undo-to = at-negated .before .before .before .before .before .before .before in
     let at-emit = at-undo-to .before .before .before .before .before .before .before .before .before in
-    let at-branch′ = at-emit .before .before .before .before .before .before .before .before .before in
-    let at-count = at-branch′ .before .before .before in
+    let at-fork′ = at-emit .before .before .before .before .before .before .before .before .before in
+    let at-count = at-fork′ .before .before .before in
     let at-turn = at-count .before .before .before in
     let at-phase = at-turn .before .before .before .before .before .before .before .before .before in
     let s = at-phase .before .before .before .before .before .before .before .before .before .before in
@@ -146,11 +146,11 @@ emit-emit-requires-2 t c κs =
     let r = at-phase .phase .ensures in
     let e = at-turn .turn .given .1 in
     let f = forked r (p .0 .table) (p .1 .0 .below) e in
-    let q = at-branch′ .branch .ensures .1 .0 in
+    let q = at-fork′ .fork .ensures .1 .0 in
     let a = at-emit .emit .ensures in
-    let y = right-list f (at-count .count .ensures) q (a .grows) (at-undo-to .undo-to .ensures .1) (at-negated .negated .ensures) (at-branch .branch2 .ensures .1 .0) in
+    let y = right-list f (at-count .count .ensures) q (a .grows) (at-undo-to .undo-to .ensures .1) (at-negated .negated .ensures) (at-fork .fork2 .ensures .1 .0) in
     let d = right-due r (p .0 .table) (p .1 .0 .below) e (p .1 .1 .1 .0 .space) q a y in
-    (omega (arith, s .pre .0, fork-less f y), (s .pre .1 .0, (p .0, (p .1 .0, (at-branch .branch2 .ensures .0, (d, at-branch .branch2 .ensures .1 .1 .picks))))))
+    (omega (arith, s .pre .0, fork-less f y), (s .pre .1 .0, (p .0, (p .1 .0, (at-fork .fork2 .ensures .0, (d, at-fork .fork2 .ensures .1 .1 .picks))))))
 
 emit-same-length : (t : ℕ) → emit-lts.Need-same-length (emit-claims t) (emit-at t) emit.Post
 emit-same-length t c = search needs
@@ -167,36 +167,36 @@ emit-returns t c = emitted-closed (c .before .before .before .before .before .be
 emit-same-length-4 : (t : ℕ) → emit-lts.Need-same-length-4 (emit-claims t) (emit-at t) emit.Post
 emit-same-length-4 t c =
     let at-emit = c .before .before .before .before .before .before in
-    let at-branch = at-emit .before .before .before .before .before .before .before .before .before in
-    let at-undo-to = at-branch .before .before .before .before .before .before .before .before in
+    let at-fork = at-emit .before .before .before .before .before .before .before .before .before in
+    let at-undo-to = at-fork .before .before .before .before .before .before .before .before in
     let at-emit′ = at-undo-to .before .before .before .before .before .before .before .before .before in
-    let at-branch′ = at-emit′ .before .before .before .before .before .before .before .before .before in
-    let at-phase = at-branch′ .before .before .before .before .before .before .before .before .before .before .before .before .before .before .before in
+    let at-fork′ = at-emit′ .before .before .before .before .before .before .before .before .before in
+    let at-phase = at-fork′ .before .before .before .before .before .before .before .before .before .before .before .before .before .before .before in
     omega (
       arith,
       at-emit .emit2 .kept .1 .1 .1 .1 .1 .0,
-      at-branch .branch2 .kept .1 .1 .1 .0,
+      at-fork .fork2 .kept .1 .1 .1 .0,
       at-undo-to .undo-to .kept .1 .1 .1 .0,
       at-emit′ .emit .kept .1 .1 .1 .1 .1 .0,
-      at-branch′ .branch .kept .1 .1 .1 .0,
+      at-fork′ .fork .kept .1 .1 .1 .0,
       at-phase .phase .kept .1 .1 .1 .1 .1 .0,
     )
 
 emit-same-length-5 : (t : ℕ) → emit-lts.Need-same-length-5 (emit-claims t) (emit-at t) emit.Post
 emit-same-length-5 t c =
     let at-emit = c .before .before .before .before .before .before in
-    let at-branch = at-emit .before .before .before .before .before .before .before .before .before in
-    let at-undo-to = at-branch .before .before .before .before .before .before .before .before in
+    let at-fork = at-emit .before .before .before .before .before .before .before .before .before in
+    let at-undo-to = at-fork .before .before .before .before .before .before .before .before in
     let at-emit′ = at-undo-to .before .before .before .before .before .before .before .before .before in
-    let at-branch′ = at-emit′ .before .before .before .before .before .before .before .before .before in
-    let at-phase = at-branch′ .before .before .before .before .before .before .before .before .before .before .before .before .before .before .before in
+    let at-fork′ = at-emit′ .before .before .before .before .before .before .before .before .before in
+    let at-phase = at-fork′ .before .before .before .before .before .before .before .before .before .before .before .before .before .before .before in
     omega (
       arith,
       at-emit .emit2 .kept .1 .1 .1 .1 .1 .1 .0,
-      at-branch .branch2 .kept .1 .1 .1 .1 .0,
+      at-fork .fork2 .kept .1 .1 .1 .1 .0,
       at-undo-to .undo-to .kept .1 .1 .1 .1 .0,
       at-emit′ .emit .kept .1 .1 .1 .1 .1 .1 .0,
-      at-branch′ .branch .kept .1 .1 .1 .1 .0,
+      at-fork′ .fork .kept .1 .1 .1 .1 .0,
       at-phase .phase .kept .1 .1 .1 .1 .1 .1 .0,
     )
 
@@ -212,12 +212,12 @@ emit-same-length-6 t c =
 emit-returns-2 : (t : ℕ) → emit-lts.Need-returns-2 (emit-claims t) (emit-at t) emit.Post
 emit-returns-2 t c =
     let at-emit = c .before .before .before .before .before .before in
-    let at-branch = at-emit .before .before .before .before .before .before .before .before .before in
-    let at-negated = at-branch .before in
+    let at-fork = at-emit .before .before .before .before .before .before .before .before .before in
+    let at-negated = at-fork .before in
     let at-undo-to = at-negated .before .before .before .before .before .before .before in
     let at-emit′ = at-undo-to .before .before .before .before .before .before .before .before .before in
-    let at-branch′ = at-emit′ .before .before .before .before .before .before .before .before .before in
-    let at-count = at-branch′ .before .before .before in
+    let at-fork′ = at-emit′ .before .before .before .before .before .before .before .before .before in
+    let at-count = at-fork′ .before .before .before in
     let at-turn = at-count .before .before .before in
     let at-phase = at-turn .before .before .before .before .before .before .before .before .before in
     let s = at-phase .before .before .before .before .before .before .before .before .before .before in
@@ -225,9 +225,9 @@ emit-returns-2 t c =
     let r = at-phase .phase .ensures in
     let e = at-turn .turn .given .1 in
     let f = forked r (p .0 .table) (p .1 .0 .below) e in
-    let q = at-branch′ .branch .ensures .1 .0 in
+    let q = at-fork′ .fork .ensures .1 .0 in
     let a = at-emit′ .emit .ensures in
-    let y = right-list f (at-count .count .ensures) q (a .grows) (at-undo-to .undo-to .ensures .1) (at-negated .negated .ensures) (at-branch .branch2 .ensures .1 .0) in
+    let y = right-list f (at-count .count .ensures) q (a .grows) (at-undo-to .undo-to .ensures .1) (at-negated .negated .ensures) (at-fork .fork2 .ensures .1 .0) in
     emitted-fork r (p .0 .table) (p .1 .0 .below) e (p .1 .1 .1 .0 .space) q a y (at-emit .emit2 .ensures)
 
 pub +emit-spec : {M : Type 1} → statement M
@@ -238,11 +238,11 @@ pub +emit-spec : {M : Type 1} → statement M
     (emit-enum-told t)
     (emit-enum-known-turn t)
     (emit-count-requires t)
-    (emit-branch-requires t)
+    (emit-fork-requires t)
     (emit-emit-requires t)
     (emit-undo-to-requires t)
     (emit-negated-requires t)
-    (emit-branch-requires-2 t)
+    (emit-fork-requires-2 t)
     (emit-emit-requires-2 t)
     (emit-same-length t)
     (emit-same-length-2 t)

@@ -16,11 +16,11 @@ use Rattle.emitting.proofs.phase.Statement.{statement}
 use Rattle.emitting.proofs.phase.Tie as tie
 
 abbrev Inv-loop : tie.InvT-loop
-Inv-loop version templates x n goals work₀ masks₀ out₀ block₀ first at₀ u₀ work masks out block at u =
+Inv-loop version forms x n goals work₀ masks₀ out₀ block₀ first at₀ u₀ work masks out block at u =
     Run version (indexNode x) n goals work₀ masks₀ work masks out₀ out (lent block₀ at₀) (lent block at) × Picks work masks u
 
 abbrev μ-loop : tie.MeasureT-loop
-μ-loop version templates x n goals work₀ masks₀ out₀ block₀ first at₀ u₀ work masks out block at u = n - length (gOf work)
+μ-loop version forms x n goals work₀ masks₀ out₀ block₀ first at₀ u₀ work masks out block at u = n - length (gOf work)
 
 loop-holds : tie.Need-loop-holds Inv-loop μ-loop
 loop-holds c =
@@ -62,7 +62,7 @@ loop-again c =
     let v = c .before .before .before .before .before .before .before .before .before .before .before .before .before .before .before .unit-move in
     let a = c .before .before .before .before .join in
     let r = run-looked (c .before .before .before .before .before .before .before .before .before .before .before .before .before .before .before .before .before .before .before .loop .inv .0) (v .ensures .0 .holds-on) (v .ensures .0 .list) (v .kept .1 .1 .1 .0) in
-    let e = looked (r .holds) (v .ensures .0 .is) (v .ensures .0 .list) (ap (Single (v .result .number)) (v .ensures .1 .0 .1)) in
+    let e = looked (r .holds) (v .ensures .0 .is) (v .ensures .0 .list) (ap (Single (v .result .number)) (v .ensures .1 .0)) in
     (run-unit r (p .0 .table) (p .1 .0 .below) e (c .before .before .before .before .before .before .before .before .before .on-clause .ensures) (a .ensures .0) (a .ensures .1 .0) (a .kept .1 .1 .1 .0) (a .kept .1 .1 .1 .1 .0), a .ensures .1 .1 .picks)
 
 next-move-requires : tie.Need-next-move-requires Inv-loop μ-loop

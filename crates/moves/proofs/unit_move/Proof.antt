@@ -52,7 +52,7 @@ returns c =
     let p = s .pre .1 .1 .1 in
     let z = c .before .before .keep .ensures in
     let k = p .kept in
-    (unit-position (s .pre .0 .few) (s .pre .1 .0) (s .pre .1 .1 .0) (p .free) (p .waiting) (p .first) (omega (arith, k)) (omega (arith, k)) z (c .before .before .before .before .base .ensures), ((z .cell, refl), picked-on z p))
+    (unit-position (s .pre .0 .few) (s .pre .1 .0) (s .pre .1 .1 .0) (p .free) (p .waiting) (p .first) (omega (arith, k)) (omega (arith, k)) z (c .before .before .before .before .base .ensures), (refl, picked-on z p))
 
 pub unit-move-spec : {M : Type 1} → statement M
 unit-move-spec =

@@ -22,7 +22,7 @@ use Rattle.rests.proofs.without.Reads as without-reads
 use Rattle.searching.proofs.one_more.Reads as one-more-reads
 use Rattle.searching.proofs.propagate.Reads as propagate-reads
 use Rattle.searching.proofs.with_left.Reads as with-left-reads
-use Rattle.solver.proofs.branch.Reads as branch-reads
+use Rattle.solver.proofs.fork.Reads as fork-reads
 use Rattle.solver.proofs.undo_to.Reads as undo-to-reads
 use Rattle.state.proofs.count.Reads as count-reads
 use Rattle.searching.proofs.+search.{statement}
@@ -45,8 +45,8 @@ search-claims t = (
   count-reads.Learnt,
   put-only-reads.Asked,
   put-only-reads.Learnt,
-  branch-reads.Asked,
-  branch-reads.Learnt,
+  fork-reads.Asked,
+  fork-reads.Learnt,
   search-below t,
   search′.Post,
   one-more-reads.Asked,
@@ -100,8 +100,8 @@ search-put-only-requires t c κs =
     let h = add-one (at-count .count .result) ∙ ap suc (at-count .count .ensures) in
     slot-there f (p .0 .few) (at-propagate .propagate .ensures .sets) h
 
-search-branch-requires : (t : ℕ) → search-lts.Need-branch-requires (search-claims t) (search-at t) search′.Post
-search-branch-requires t c κs =
+search-fork-requires : (t : ℕ) → search-lts.Need-fork-requires (search-claims t) (search-at t) search′.Post
+search-fork-requires t c κs =
     let at-stop = c .before .before .before .before .before .before .before .before .before in
     let at-propagate = at-stop .before .before .before .before .before .before .before .before in
     let s = at-propagate .before .before .before .before .before .before .before .before .before in
@@ -121,8 +121,8 @@ search-add-search t c =
 
 search-search-requires : (t : ℕ) → search-lts.Need-search-requires (search-claims t) (search-at t) search′.Post
 search-search-requires t c κs =
-    let at-branch = c .before .before .before .before .before .before .before in
-    let at-put-only = at-branch .before .before .before .before .before in
+    let at-fork = c .before .before .before .before .before .before .before in
+    let at-put-only = at-fork .before .before .before .before .before in
     let at-count = at-put-only .before .before in
     let at-stop = at-count .before .before .before in
     let at-propagate = at-stop .before .before .before .before .before .before .before .before in
@@ -130,9 +130,9 @@ search-search-requires t c κs =
     let p = s .pre .1 in
     let f = jump-forked (at-propagate .propagate .ensures) (s .args .d) (p .0 .table) (p .1 .0 .below) (at-stop .stop .given .1) in
     let h = add-one (at-count .count .result) ∙ ap suc (at-count .count .ensures) in
-    let q = at-branch .branch .ensures .1 .0 in
+    let q = at-fork .fork .ensures .1 .0 in
     let m = left-sets (at-propagate .propagate .ensures) (s .args .d) f h (at-put-only .put-only .ensures) in
-    (omega (arith, s .pre .0, fork-less f q), (p .0, (p .1 .0, (at-branch .branch .ensures .0, (m, omega (arith, p .1 .1 .1 .1, f .grows .more, ap length q), at-branch .branch .ensures .1 .1)))))
+    (omega (arith, s .pre .0, fork-less f q), (p .0, (p .1 .0, (at-fork .fork .ensures .0, (m, omega (arith, p .1 .1 .1 .1, f .grows .more, ap length q), at-fork .fork .ensures .1 .1)))))
 
 search-enum-known-left : (t : ℕ) → search-lts.Need-enum-known-left (search-claims t) (search-at t) search′.Post
 search-enum-known-left t c = search needs
@@ -154,16 +154,16 @@ search-one-more-requires-2 t c κs = search needs
 search-same-length : (t : ℕ) → search-lts.Need-same-length (search-claims t) (search-at t) search′.Post
 search-same-length t c =
     let at-search = c .before .before .before .before .before .before .before .before .before .before .before .before .before in
-    let at-branch = at-search .before .before .before .before .before .before .before .before in
-    let at-propagate = at-branch .before .before .before .before .before .before .before .before .before .before .before .before .before .before .before .before .before .before in
-    omega (arith, at-search .search .kept .1 .1 .1 .0, at-branch .branch .kept .1 .1 .1 .0, at-propagate .propagate .kept .1 .1 .1 .0)
+    let at-fork = at-search .before .before .before .before .before .before .before .before in
+    let at-propagate = at-fork .before .before .before .before .before .before .before .before .before .before .before .before .before .before .before .before .before .before in
+    omega (arith, at-search .search .kept .1 .1 .1 .0, at-fork .fork .kept .1 .1 .1 .0, at-propagate .propagate .kept .1 .1 .1 .0)
 
 search-same-length-2 : (t : ℕ) → search-lts.Need-same-length-2 (search-claims t) (search-at t) search′.Post
 search-same-length-2 t c =
     let at-search = c .before .before .before .before .before .before .before .before .before .before .before .before .before in
-    let at-branch = at-search .before .before .before .before .before .before .before .before in
-    let at-propagate = at-branch .before .before .before .before .before .before .before .before .before .before .before .before .before .before .before .before .before .before in
-    omega (arith, at-search .search .kept .1 .1 .1 .1 .0, at-branch .branch .kept .1 .1 .1 .1 .0, at-propagate .propagate .kept .1 .1 .1 .1 .0)
+    let at-fork = at-search .before .before .before .before .before .before .before .before in
+    let at-propagate = at-fork .before .before .before .before .before .before .before .before .before .before .before .before .before .before .before .before .before .before in
+    omega (arith, at-search .search .kept .1 .1 .1 .1 .0, at-fork .fork .kept .1 .1 .1 .1 .0, at-propagate .propagate .kept .1 .1 .1 .1 .0)
 
 search-same-length-3 : (t : ℕ) → search-lts.Need-same-length-3 (search-claims t) (search-at t) search′.Post
 search-same-length-3 t c =
@@ -179,8 +179,8 @@ search-returns t c =
     let at-without = at-if1 .before in
     let at-left2 = at-without .before .before .before in
     let at-search = at-left2 .before .before .before .before .before .before .before .before in
-    let at-branch = at-search .before .before .before .before .before .before .before .before in
-    let at-put-only = at-branch .before .before .before .before .before in
+    let at-fork = at-search .before .before .before .before .before .before .before .before in
+    let at-put-only = at-fork .before .before .before .before .before in
     let at-count = at-put-only .before .before in
     let at-stop = at-count .before .before .before in
     let at-propagate = at-stop .before .before .before .before .before .before .before .before in
@@ -188,21 +188,21 @@ search-returns t c =
     let p = s .pre .1 in
     let f = jump-forked (at-propagate .propagate .ensures) (s .args .d) (p .0 .table) (p .1 .0 .below) (at-stop .stop .given .1) in
     let h = add-one (at-count .count .result) ∙ ap suc (at-count .count .ensures) in
-    left-skips (at-propagate .propagate .ensures) (s .args .d) f h (at-put-only .put-only .ensures) (add-one (s .args .d)) (at-branch .branch .ensures .1 .0) (at-search .search .ensures)
+    left-skips (at-propagate .propagate .ensures) (s .args .d) f h (at-put-only .put-only .ensures) (add-one (s .args .d)) (at-fork .fork .ensures .1 .0) (at-search .search .ensures)
     (at-left2 .left2 .given .1) (sym (at-without .without .ensures) ∙ at-if1 .if1 .taken) (at-one-more2 .one-more2 .ensures)
 
 search-undo-to-requires : (t : ℕ) → search-lts.Need-undo-to-requires (search-claims t) (search-at t) search′.Post
 search-undo-to-requires t c κs =
     let at-search = c .before .before .before .before .before .before .before .before .before .before .before .before .before .before in
-    let at-branch = at-search .before .before .before .before .before .before .before .before in
-    let at-count = at-branch .before .before .before .before .before .before .before in
+    let at-fork = at-search .before .before .before .before .before .before .before .before in
+    let at-count = at-fork .before .before .before .before .before .before .before in
     let at-stop = at-count .before .before .before in
     let at-propagate = at-stop .before .before .before .before .before .before .before .before in
     let s = at-propagate .before .before .before .before .before .before .before .before .before in
     let p = s .pre .1 in
     let f = jump-forked (at-propagate .propagate .ensures) (s .args .d) (p .0 .table) (p .1 .0 .below) (at-stop .stop .given .1) in
     let a = at-search .search .ensures in
-    let q = at-branch .branch .ensures .1 .0 in
+    let q = at-fork .fork .ensures .1 .0 in
     (p .0, (p .1 .0, (a .holds, (undo-less f (at-count .count .ensures) q (a .grows), undo-splits f (at-count .count .ensures) q (a .grows)))))
 
 search-put-less-requires : (t : ℕ) → search-lts.Need-put-less-requires (search-claims t) (search-at t) search′.Post
@@ -231,20 +231,20 @@ search-negated-requires t c κs =
     let f = jump-forked (at-propagate .propagate .ensures) (s .args .d) (p .0 .table) (p .1 .0 .below) (at-stop .stop .given .1) in
     omega (arith, fork-fresh f .0, p .0 .few)
 
-search-branch-requires-2 : (t : ℕ) → search-lts.Need-branch-requires-2 (search-claims t) (search-at t) search′.Post
-search-branch-requires-2 t c κs =
+search-fork-requires-2 : (t : ℕ) → search-lts.Need-fork-requires-2 (search-claims t) (search-at t) search′.Post
+search-fork-requires-2 t c κs =
     let at-negated = c in
     let at-undo-to = at-negated .before .before .before .before .before .before .before .before .before .before .before in
     let at-search = at-undo-to .before .before .before .before .before .before .before .before .before .before .before .before .before .before .before in
-    let at-branch = at-search .before .before .before .before .before .before .before .before in
-    let at-count = at-branch .before .before .before .before .before .before .before in
+    let at-fork = at-search .before .before .before .before .before .before .before .before in
+    let at-count = at-fork .before .before .before .before .before .before .before in
     let at-stop = at-count .before .before .before in
     let at-propagate = at-stop .before .before .before .before .before .before .before .before in
     let s = at-propagate .before .before .before .before .before .before .before .before .before in
     let p = s .pre .1 in
     let f = jump-forked (at-propagate .propagate .ensures) (s .args .d) (p .0 .table) (p .1 .0 .below) (at-stop .stop .given .1) in
     let u = at-undo-to .undo-to .ensures in
-    let q = at-branch .branch .ensures .1 .0 in
+    let q = at-fork .fork .ensures .1 .0 in
     let x = at-search .search .ensures .grows in
     let (l, e) = undo-splits f (at-count .count .ensures) q x in
     (p .0, (p .1 .0, (u .0, (right-fresh f (at-count .count .ensures) q x (u .1) (at-negated .negated .ensures), split-idle (u .0) (l, rw (u .1) e)))))
@@ -262,16 +262,16 @@ search-add-search-2 t c =
 
 search-search-requires-2 : (t : ℕ) → search-lts.Need-search-requires-2 (search-claims t) (search-at t) search′.Post
 search-search-requires-2 t c κs =
-    let at-branch2 = c .before .before .before .before .before .before .before in
-    let at-negated = at-branch2 .before in
+    let at-fork2 = c .before .before .before .before .before .before .before in
+    let at-negated = at-fork2 .before in
     let at-put-less = at-negated .before .before .before .before .before in
     let at-undo-to = at-put-less .before .before .before .before .before .before in
     let at-if1 = at-undo-to .before .before .before in
     let at-without = at-if1 .before in
     let at-left2 = at-without .before .before .before in
     let at-search = at-left2 .before .before .before .before .before .before .before .before in
-    let at-branch = at-search .before .before .before .before .before .before .before .before in
-    let at-put-only = at-branch .before .before .before .before .before in
+    let at-fork = at-search .before .before .before .before .before .before .before .before in
+    let at-put-only = at-fork .before .before .before .before .before in
     let at-count = at-put-only .before .before in
     let at-stop = at-count .before .before .before in
     let at-propagate = at-stop .before .before .before .before .before .before .before .before in
@@ -280,11 +280,11 @@ search-search-requires-2 t c κs =
     let f = jump-forked (at-propagate .propagate .ensures) (s .args .d) (p .0 .table) (p .1 .0 .below) (at-stop .stop .given .1) in
     let h = add-one (at-count .count .result) ∙ ap suc (at-count .count .ensures) in
     let a = at-search .search .ensures in
-    let q = at-branch .branch .ensures .1 .0 in
-    let b = right-list f (at-count .count .ensures) q (a .grows) (at-undo-to .undo-to .ensures .1) (at-negated .negated .ensures) (at-branch2 .branch2 .ensures .1 .0) in
+    let q = at-fork .fork .ensures .1 .0 in
+    let b = right-list f (at-count .count .ensures) q (a .grows) (at-undo-to .undo-to .ensures .1) (at-negated .negated .ensures) (at-fork2 .fork2 .ensures .1 .0) in
     let z = sym (at-without .without .ensures) ∙ at-if1 .if1 .left in
     let m = right-sets (at-propagate .propagate .ensures) (s .args .d) f h (at-put-only .put-only .ensures) (add-one (s .args .d)) q a (at-left2 .left2 .given .1) z (at-put-less .put-less .ensures) in
-    (omega (arith, s .pre .0, fork-less f b), (p .0, (p .1 .0, (at-branch2 .branch2 .ensures .0, (m, omega (arith, p .1 .1 .1 .1, f .grows .more, ap length b), at-branch2 .branch2 .ensures .1 .1)))))
+    (omega (arith, s .pre .0, fork-less f b), (p .0, (p .1 .0, (at-fork2 .fork2 .ensures .0, (m, omega (arith, p .1 .1 .1 .1, f .grows .more, ap length b), at-fork2 .fork2 .ensures .1 .1)))))
 
 search-with-left-requires : (t : ℕ) → search-lts.Need-with-left-requires (search-claims t) (search-at t) search′.Post
 search-with-left-requires t c κs = search needs
@@ -338,16 +338,16 @@ search-returns-3 t c =
 search-same-length-10 : (t : ℕ) → search-lts.Need-same-length-10 (search-claims t) (search-at t) search′.Post
 search-same-length-10 t c =
     let at-search = c .before .before .before .before .before .before .before .before .before .before in
-    let at-branch = at-search .before .before .before .before .before .before .before .before in
-    let at-propagate = at-branch .before .before .before .before .before .before .before .before .before .before .before .before .before .before .before .before .before .before in
-    omega (arith, at-search .search .kept .1 .1 .1 .0, at-branch .branch .kept .1 .1 .1 .0, at-propagate .propagate .kept .1 .1 .1 .0)
+    let at-fork = at-search .before .before .before .before .before .before .before .before in
+    let at-propagate = at-fork .before .before .before .before .before .before .before .before .before .before .before .before .before .before .before .before .before .before in
+    omega (arith, at-search .search .kept .1 .1 .1 .0, at-fork .fork .kept .1 .1 .1 .0, at-propagate .propagate .kept .1 .1 .1 .0)
 
 search-same-length-11 : (t : ℕ) → search-lts.Need-same-length-11 (search-claims t) (search-at t) search′.Post
 search-same-length-11 t c =
     let at-search = c .before .before .before .before .before .before .before .before .before .before in
-    let at-branch = at-search .before .before .before .before .before .before .before .before in
-    let at-propagate = at-branch .before .before .before .before .before .before .before .before .before .before .before .before .before .before .before .before .before .before in
-    omega (arith, at-search .search .kept .1 .1 .1 .1 .0, at-branch .branch .kept .1 .1 .1 .1 .0, at-propagate .propagate .kept .1 .1 .1 .1 .0)
+    let at-fork = at-search .before .before .before .before .before .before .before .before in
+    let at-propagate = at-fork .before .before .before .before .before .before .before .before .before .before .before .before .before .before .before .before .before .before in
+    omega (arith, at-search .search .kept .1 .1 .1 .1 .0, at-fork .fork .kept .1 .1 .1 .1 .0, at-propagate .propagate .kept .1 .1 .1 .1 .0)
 
 search-same-length-12 : (t : ℕ) → search-lts.Need-same-length-12 (search-claims t) (search-at t) search′.Post
 search-same-length-12 t c =
@@ -361,8 +361,8 @@ search-returns-4 t c =
     let at-one-more = c in
     let at-left = at-one-more .before .before in
     let at-search = at-left .before .before .before .before .before .before .before .before in
-    let at-branch = at-search .before .before .before .before .before .before .before .before in
-    let at-put-only = at-branch .before .before .before .before .before in
+    let at-fork = at-search .before .before .before .before .before .before .before .before in
+    let at-put-only = at-fork .before .before .before .before .before in
     let at-count = at-put-only .before .before in
     let at-stop = at-count .before .before .before in
     let at-propagate = at-stop .before .before .before .before .before .before .before .before in
@@ -370,28 +370,28 @@ search-returns-4 t c =
     let p = s .pre .1 in
     let f = jump-forked (at-propagate .propagate .ensures) (s .args .d) (p .0 .table) (p .1 .0 .below) (at-stop .stop .given .1) in
     let h = add-one (at-count .count .result) ∙ ap suc (at-count .count .ensures) in
-    left-found (at-propagate .propagate .ensures) (s .args .d) f h (at-put-only .put-only .ensures) (add-one (s .args .d)) (at-branch .branch .ensures .1 .0) (at-search .search .ensures)
+    left-found (at-propagate .propagate .ensures) (s .args .d) f h (at-put-only .put-only .ensures) (add-one (s .args .d)) (at-fork .fork .ensures .1 .0) (at-search .search .ensures)
     (at-left .left .given .1) (at-one-more .one-more .ensures)
 
 search-same-length-13 : (t : ℕ) → search-lts.Need-same-length-13 (search-claims t) (search-at t) search′.Post
 search-same-length-13 t c =
     let at-search2 = c .before .before .before .before .before .before .before in
-    let at-branch2 = at-search2 .before .before .before .before .before .before .before .before in
-    let at-undo-to = at-branch2 .before .before .before .before .before .before .before .before .before .before .before .before in
+    let at-fork2 = at-search2 .before .before .before .before .before .before .before .before in
+    let at-undo-to = at-fork2 .before .before .before .before .before .before .before .before .before .before .before .before in
     let at-search = at-undo-to .before .before .before .before .before .before .before .before .before .before .before .before .before .before .before in
-    let at-branch = at-search .before .before .before .before .before .before .before .before in
-    let at-propagate = at-branch .before .before .before .before .before .before .before .before .before .before .before .before .before .before .before .before .before .before in
-    omega (arith, at-search2 .search2 .kept .1 .1 .1 .0, at-branch2 .branch2 .kept .1 .1 .1 .0, at-undo-to .undo-to .kept .1 .1 .1 .0, at-search .search .kept .1 .1 .1 .0, at-branch .branch .kept .1 .1 .1 .0, at-propagate .propagate .kept .1 .1 .1 .0)
+    let at-fork = at-search .before .before .before .before .before .before .before .before in
+    let at-propagate = at-fork .before .before .before .before .before .before .before .before .before .before .before .before .before .before .before .before .before .before in
+    omega (arith, at-search2 .search2 .kept .1 .1 .1 .0, at-fork2 .fork2 .kept .1 .1 .1 .0, at-undo-to .undo-to .kept .1 .1 .1 .0, at-search .search .kept .1 .1 .1 .0, at-fork .fork .kept .1 .1 .1 .0, at-propagate .propagate .kept .1 .1 .1 .0)
 
 search-same-length-14 : (t : ℕ) → search-lts.Need-same-length-14 (search-claims t) (search-at t) search′.Post
 search-same-length-14 t c =
     let at-search2 = c .before .before .before .before .before .before .before in
-    let at-branch2 = at-search2 .before .before .before .before .before .before .before .before in
-    let at-undo-to = at-branch2 .before .before .before .before .before .before .before .before .before .before .before .before in
+    let at-fork2 = at-search2 .before .before .before .before .before .before .before .before in
+    let at-undo-to = at-fork2 .before .before .before .before .before .before .before .before .before .before .before .before in
     let at-search = at-undo-to .before .before .before .before .before .before .before .before .before .before .before .before .before .before .before in
-    let at-branch = at-search .before .before .before .before .before .before .before .before in
-    let at-propagate = at-branch .before .before .before .before .before .before .before .before .before .before .before .before .before .before .before .before .before .before in
-    omega (arith, at-search2 .search2 .kept .1 .1 .1 .1 .0, at-branch2 .branch2 .kept .1 .1 .1 .1 .0, at-undo-to .undo-to .kept .1 .1 .1 .1 .0, at-search .search .kept .1 .1 .1 .1 .0, at-branch .branch .kept .1 .1 .1 .1 .0, at-propagate .propagate .kept .1 .1 .1 .1 .0)
+    let at-fork = at-search .before .before .before .before .before .before .before .before in
+    let at-propagate = at-fork .before .before .before .before .before .before .before .before .before .before .before .before .before .before .before .before .before .before in
+    omega (arith, at-search2 .search2 .kept .1 .1 .1 .1 .0, at-fork2 .fork2 .kept .1 .1 .1 .1 .0, at-undo-to .undo-to .kept .1 .1 .1 .1 .0, at-search .search .kept .1 .1 .1 .1 .0, at-fork .fork .kept .1 .1 .1 .1 .0, at-propagate .propagate .kept .1 .1 .1 .1 .0)
 
 search-same-length-15 : (t : ℕ) → search-lts.Need-same-length-15 (search-claims t) (search-at t) search′.Post
 search-same-length-15 t c =
@@ -406,16 +406,16 @@ search-returns-5 : (t : ℕ) → search-lts.Need-returns-5 (search-claims t) (se
 search-returns-5 t c =
     let at-with-left = c in
     let at-search2 = at-with-left .before .before .before .before .before .before .before in
-    let at-branch2 = at-search2 .before .before .before .before .before .before .before .before in
-    let at-negated = at-branch2 .before in
+    let at-fork2 = at-search2 .before .before .before .before .before .before .before .before in
+    let at-negated = at-fork2 .before in
     let at-put-less = at-negated .before .before .before .before .before in
     let at-undo-to = at-put-less .before .before .before .before .before .before in
     let at-if1 = at-undo-to .before .before .before in
     let at-without = at-if1 .before in
     let at-left2 = at-without .before .before .before in
     let at-search = at-left2 .before .before .before .before .before .before .before .before in
-    let at-branch = at-search .before .before .before .before .before .before .before .before in
-    let at-put-only = at-branch .before .before .before .before .before in
+    let at-fork = at-search .before .before .before .before .before .before .before .before in
+    let at-put-only = at-fork .before .before .before .before .before in
     let at-count = at-put-only .before .before in
     let at-stop = at-count .before .before .before in
     let at-propagate = at-stop .before .before .before .before .before .before .before .before in
@@ -424,8 +424,8 @@ search-returns-5 t c =
     let f = jump-forked (at-propagate .propagate .ensures) (s .args .d) (p .0 .table) (p .1 .0 .below) (at-stop .stop .given .1) in
     let h = add-one (at-count .count .result) ∙ ap suc (at-count .count .ensures) in
     let a = at-search .search .ensures in
-    let q = at-branch .branch .ensures .1 .0 in
-    let b = right-list f (at-count .count .ensures) q (a .grows) (at-undo-to .undo-to .ensures .1) (at-negated .negated .ensures) (at-branch2 .branch2 .ensures .1 .0) in
+    let q = at-fork .fork .ensures .1 .0 in
+    let b = right-list f (at-count .count .ensures) q (a .grows) (at-undo-to .undo-to .ensures .1) (at-negated .negated .ensures) (at-fork2 .fork2 .ensures .1 .0) in
     let z = sym (at-without .without .ensures) ∙ at-if1 .if1 .left in
     rw (at-with-left .with-left .ensures)
     (right-jumps (at-propagate .propagate .ensures) (s .args .d) f h (at-put-only .put-only .ensures) (add-one (s .args .d)) q a (at-left2 .left2 .given .1) z (at-put-less .put-less .ensures) b
@@ -443,7 +443,7 @@ pub +search-spec : {M : Type 1} → statement M
     (search-cast-slot t)
     (search-add-slot t)
     (search-put-only-requires t)
-    (search-branch-requires t)
+    (search-fork-requires t)
     (search-add-search t)
     (search-search-requires t)
     (search-enum-known-left t)
@@ -458,7 +458,7 @@ pub +search-spec : {M : Type 1} → statement M
     (search-undo-to-requires t)
     (search-put-less-requires t)
     (search-negated-requires t)
-    (search-branch-requires-2 t)
+    (search-fork-requires-2 t)
     (search-add-search-2 t)
     (search-search-requires-2 t)
     (search-with-left-requires t)

@@ -7,12 +7,12 @@ use Rattle.searching.proofs.conclude.Tie as tie
 
 returns : tie.Need-returns
 returns c =
-    let m = rw (c .enum-told .given .1) at (c .before .before .before .before .choice .ensures) in
+    let m = rw (c .enum-told .given .1) at (c .before .before .before .before .split-choice .ensures) in
     record { holds = m .holds-on; list = m .list; ending = looked (m .holds-on) (m .is) (m .list) refl }
 
 returns-2 : tie.Need-returns-2
 returns-2 c =
-    let m = rw (c .before .left .given .1) at (c .before .before .before .before .before .choice .ensures) in
+    let m = rw (c .before .choice .given .1) at (c .before .before .before .before .before .split-choice .ensures) in
     record { holds = m .holds-on; list = m .list; ending = looked (m .holds-on) (m .is) (m .list) refl }
 
 pub conclude-spec : {M : Type 1} → statement M

@@ -58,8 +58,8 @@ returns c =
     let a = c .before .before .conclude in
     rested-concluded (at-loop .loop .inv .0) (a .result) (a .ensures) (a .kept .1 .1 .1 .0)
 
-slot-requires : tie.Need-slot-requires Inv-loop μ-loop
-slot-requires c κs = c .before .before .before .before .before .loop .inv .0 .run .holds .ready .size
+slot-for-requires : tie.Need-slot-for-requires Inv-loop μ-loop
+slot-for-requires c κs = c .before .before .before .before .before .loop .inv .0 .run .holds .ready .size
 
 put-clause-requires : tie.Need-put-clause-requires Inv-loop μ-loop
 put-clause-requires c κs =
@@ -68,7 +68,7 @@ put-clause-requires c κs =
     let p = at-loop .before .before .before .before .before .before .pre in
     let (r, L) = at-loop .loop .inv in
     let H = r .run .holds in
-    (p .0, ((H .ready, H .numbered), aimed-grounded r (p .0 .few) (p .0 .table) (p .1 .0 .below) (p .1 .0) (L .picks) (at-if1 .before .aim .ensures) (at-if1 .if1 .left) (c .before .before .slot .ensures)))
+    (p .0, ((H .ready, H .numbered), aimed-grounded r (p .0 .few) (p .0 .table) (p .1 .0 .below) (p .1 .0) (L .picks) (at-if1 .before .aim .ensures) (at-if1 .if1 .left) (c .before .before .slot-for .ensures)))
 
 same-length-4 : tie.Need-same-length-4 Inv-loop μ-loop
 same-length-4 c = c .before .before .before .before .before .before .before .before .before .before .before .before .loop .inv .0 .run .size
@@ -87,7 +87,7 @@ returns-2 c =
     let at-loop = at-if1 .before .before .before .before in
     let p = at-loop .before .before .before .before .before .before .pre in
     let (r, L) = at-loop .loop .inv in
-    aimed-closed r (p .0 .few) (p .0 .table) (p .1 .0 .below) (p .1 .0) (L .picks) (at-if1 .before .aim .ensures) (at-if1 .if1 .left) (c .before .before .before .before .before .before .slot .ensures)
+    aimed-closed r (p .0 .few) (p .0 .table) (p .1 .0 .below) (p .1 .0) (L .picks) (at-if1 .before .aim .ensures) (at-if1 .if1 .left) (c .before .before .before .before .before .before .slot-for .ensures)
     (c .before .before .before .put-clause .ensures) (c .if2 .taken)
 
 join-requires : tie.Need-join-requires Inv-loop μ-loop
@@ -115,7 +115,7 @@ loop-again c =
     let at-loop = at-if1 .before .before .before .before in
     let p = at-loop .before .before .before .before .before .before .pre in
     let (r, L) = at-loop .loop .inv in
-    let S = aimed-stepped r (p .0 .few) (p .0 .table) (p .1 .0 .below) (p .1 .0) (L .picks) (at-if1 .before .aim .ensures) (at-if1 .if1 .left) (at-put-clause .before .before .before .slot .ensures)
+    let S = aimed-stepped r (p .0 .few) (p .0 .table) (p .1 .0 .below) (p .1 .0) (L .picks) (at-if1 .before .aim .ensures) (at-if1 .if1 .left) (at-put-clause .before .before .before .slot-for .ensures)
     (at-put-clause .put-clause .ensures) (at-if2 .if2 .left) (a .ensures .0) (a .ensures .1 .0) in
     (rested-stepped r (p .0 .few) (p .0 .table) (p .1 .0 .below) S (a .kept .1 .1 .1 .0) (a .kept .1 .1 .1 .1 .0), a .ensures .1 .1)
 
@@ -133,7 +133,7 @@ propagate-spec =
     same-length-3
     returns
     (λ c. search needs) (λ c. search needs)
-    slot-requires
+    slot-for-requires
     put-clause-requires
     same-length-4
     same-length-5

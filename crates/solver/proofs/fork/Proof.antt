@@ -1,8 +1,8 @@
--- `solver::branch` meets its contract. Assumes nothing.
+-- `solver::fork` meets its contract. Assumes nothing.
 use Rattle.solver.proofs.Assumes.{taken-none, holds-joined, list-joined, leads-joined}
 use borrow.Author.Needs.{needs}
-use Rattle.solver.proofs.branch.Statement.{statement}
-use Rattle.solver.proofs.branch.Tie as tie
+use Rattle.solver.proofs.fork.Statement.{statement}
+use Rattle.solver.proofs.fork.Tie as tie
 
 returns : tie.Need-returns
 returns c =
@@ -13,5 +13,5 @@ returns c =
     let a = c .before .before .before .before .attach .ensures in
     (holds-joined (p .0) H N f a e, (list-joined (p .0) H N f a e, leads-joined (p .0) H N f a e))
 
-pub branch-spec : {M : Type 1} → statement M
-branch-spec = tie.close (tie.spec (λ c κs. search (needs, taken-none)) (λ c. search needs) (λ c. search needs) returns)
+pub fork-spec : {M : Type 1} → statement M
+fork-spec = tie.close (tie.spec (λ c κs. search (needs, taken-none)) (λ c. search needs) (λ c. search needs) returns)

@@ -1,14 +1,14 @@
--- `searching::slot` meets its contract. Assumes nothing.
+-- `searching::slot_for` meets its contract. Assumes nothing.
 use mathlib.Core.Path.{ap, _∙_}
 use Prim.Native.Nat.{suc}
 use native.Mathlib.Numerals.{add-one}
 use borrow.Author.Tests.{eq-eqb, ne-eqb}
 use borrow.Author.Needs.{needs}
-use Rattle.searching.proofs.slot.Statement.{statement}
-use Rattle.searching.proofs.slot.Tie as tie
+use Rattle.searching.proofs.slot_for.Statement.{statement}
+use Rattle.searching.proofs.slot_for.Tie as tie
 
-pub slot-spec : {M : Type 1} → statement M
-slot-spec =
+pub slot-for-spec : {M : Type 1} → statement M
+slot-for-spec =
     tie.close
     (tie.spec
     (λ c. simp (eq-eqb _ _ (c .if1 .taken)))

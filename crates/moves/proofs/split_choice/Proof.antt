@@ -1,10 +1,10 @@
--- `moves::choice` meets its contract. Assumes nothing.
+-- `moves::split_choice` meets its contract. Assumes nothing.
 use Rattle.state.proofs.Areas.{count-most, held-below}
 use Rattle.moves.proofs.Moves.{on, done, split-low, split}
 use native.Mathlib.Omega.{arith}
 use borrow.Author.Needs.{needs}
-use Rattle.moves.proofs.choice.Statement.{statement}
-use Rattle.moves.proofs.choice.Tie as tie
+use Rattle.moves.proofs.split_choice.Statement.{statement}
+use Rattle.moves.proofs.split_choice.Tie as tie
 
 advance-requires : tie.Need-advance-requires
 advance-requires c κs =
@@ -58,8 +58,8 @@ returns-2 c =
     (c .before .before .before .if1 .left) (at-open-from .open-from .result) (c .before .literal .ensures) (o .code) in
     d .1 (c .choose .ensures)
 
-pub choice-spec : {M : Type 1} → statement M
-choice-spec =
+pub split-choice-spec : {M : Type 1} → statement M
+split-choice-spec =
     tie.close
     (tie.spec
     (λ c κs. search needs) (λ c. search needs)
