@@ -73,7 +73,13 @@ fn copy(goals: &[u16], list: &mut [u16])
 }
 
 // Whether literals are impossible together.
-fn refute(x: &[u16], n: usize, list: &[u16], work: &mut [u16], rests: &mut [u64]) -> bool
+fn refute(
+    x: &[u16; 22626],
+    n: usize,
+    list: &[u16],
+    work: &mut [u16],
+    rests: &mut [u64; 4036],
+) -> bool
     requires { ⌜ Indexed (now x) n ⌝ }
     requires { ⌜ Goals n (now list) ⌝ }
     requires { ⌜ Ready n (now work) × Sets (now rests) ⌝ }
@@ -147,7 +153,13 @@ fn guess(enough: usize, floor: usize, i: usize, from: usize) -> usize
 
 // The walk from last to first, of goals that are impossible together. Those kept and the goals before i are; those kept and fewer goals
 // than `floor` are not. So where fewer goals are enough the walk goes on there, and where none are the last of them is kept.
-fn narrow(x: &[u16], n: usize, goals: &[u16], work: &mut [u16], rests: &mut [u64]) -> Clashed
+fn narrow(
+    x: &[u16; 22626],
+    n: usize,
+    goals: &[u16],
+    work: &mut [u16],
+    rests: &mut [u64; 4036],
+) -> Clashed
     requires { ⌜ Indexed (now x) n ⌝ }
     requires { ⌜ Passed n (now goals) ⌝ }
     requires { ⌜ Grows (length (now goals)) (clashes (asks (indexNode (now x)) n) (now goals)) ⌝ }
@@ -186,7 +198,7 @@ fn narrow(x: &[u16], n: usize, goals: &[u16], work: &mut [u16], rests: &mut [u64
 }
 
 // Which goals to argue about, over an index; 63 where all are possible together.
-fn argue(x: &[u16], n: usize, goals: &[u16], work: &mut [u16]) -> Clashed
+fn argue(x: &[u16; 22626], n: usize, goals: &[u16], work: &mut [u16]) -> Clashed
     requires { ⌜ Indexed (now x) n ⌝ }
     requires { ⌜ Passed n (now goals) ⌝ }
     requires { ⌜ Grows (length (now goals)) (clashes (asks (indexNode (now x)) n) (now goals)) ⌝ }

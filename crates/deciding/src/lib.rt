@@ -64,7 +64,13 @@ pub fn set_points(x: &[u16], n: usize, work: &[u16], settings: &mut [u8])
 }
 
 // The goals put to an index: whether there is a model; if so, the settings become its own.
-fn solve(x: &[u16], n: usize, goals: &[u16], settings: &mut [u8], work: &mut [u16]) -> Decided
+fn solve(
+    x: &[u16; 22626],
+    n: usize,
+    goals: &[u16],
+    settings: &mut [u8],
+    work: &mut [u16],
+) -> Decided
     requires { ⌜ Indexed (now x) n ⌝ }
     requires { ⌜ Goals n (now goals) ⌝ }
     requires { ⌜ Room (now x) n (now settings) (now work) ⌝ }

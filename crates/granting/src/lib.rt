@@ -137,12 +137,12 @@ pub struct Grant {
 
 // At a question: a list of g goals and the wishes chosen.
 fn step(
-    x: &[u16],
+    x: &[u16; 22626],
     n: usize,
     g: usize,
     q: &[u16],
     work: &mut [u16],
-    rests: &mut [u64],
+    rests: &mut [u64; 4036],
     st: Stage,
 ) -> Stage
     requires { ⌜ Indexed (now x) n ⌝ }
@@ -251,13 +251,13 @@ fn refuse(m: usize, s: usize, size: usize, st: Stage) -> Stage
 // s more of the wishes from lo on, behind the first `at` literals of the list: each wish in turn is the first of them, as long as enough
 // are left. Behind a literal and its negation all questions are refused.
 fn visit(
-    x: &[u16],
+    x: &[u16; 22626],
     n: usize,
     g: usize,
     wishes: &[u16],
     list: &mut [u16],
     work: &mut [u16],
-    rests: &mut [u64],
+    rests: &mut [u64; 4036],
     lo: usize,
     s: usize,
     at: usize,
@@ -311,13 +311,13 @@ fn finish(st: Stage) -> Grant
 // What an allowance of questions comes to: the sizes of subsets fall. The first g literals of the list are the goals. Where a wish is met,
 // the work area holds what the question ended on.
 pub fn spend(
-    x: &[u16],
+    x: &[u16; 22626],
     n: usize,
     g: usize,
     wishes: &[u16],
     list: &mut [u16],
     work: &mut [u16],
-    rests: &mut [u64],
+    rests: &mut [u64; 4036],
     allowance: usize,
 ) -> Grant
     requires { ⌜ Indexed (now x) n ⌝ }

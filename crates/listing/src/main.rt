@@ -33,7 +33,7 @@ fn literal(l: usize) -> u16
 }
 
 // What the search of a goal by itself finds.
-fn verdict(x: &[u16], n: usize, goal: usize, work: &mut [u16]) -> Found
+fn verdict(x: &[u16; 22626], n: usize, goal: usize, work: &mut [u16]) -> Found
     requires { ⌜ Indexed (now x) n ⌝ }
     requires { ⌜ (goal < 2 * n) × (area ≤ length (now work)) ⌝ }
     ensures { λ r. ⌜ Judged (now (x .entry)) n goal r ⌝ }
@@ -70,7 +70,7 @@ fn put_line(out: &mut [u8], at: usize, m: usize, yes: Found, no: Found) -> usize
 }
 
 // The line of node m.
-fn line(x: &[u16], n: usize, m: usize, out: &mut [u8], at: usize, work: &mut [u16]) -> usize
+fn line(x: &[u16; 22626], n: usize, m: usize, out: &mut [u8], at: usize, work: &mut [u16]) -> usize
     requires { ⌜ Indexed (now x) n ⌝ }
     requires { ⌜ (m < n) × (at + mostLine ≤ length (now out)) × (area ≤ length (now work)) ⌝ }
     ensures { λ r. ⌜ Lined (now (x .entry)) n (now (out .entry)) at m (now (out .exit)) r ⌝ }
@@ -82,7 +82,7 @@ fn line(x: &[u16], n: usize, m: usize, out: &mut [u8], at: usize, work: &mut [u1
 
 // The lines of all nodes, each written as soon as it is known, where the heading is.
 fn lines(
-    x: &[u16],
+    x: &[u16; 22626],
     nodes: usize,
     out: &mut [u8],
     start: usize,

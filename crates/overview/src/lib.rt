@@ -46,7 +46,7 @@ fn list_row(goals: &[u16], lent: usize) -> Verdict
 }
 
 // The byte of a goal by itself: 1 possible, 0 impossible.
-fn byte(x: &[u16], n: usize, goal: u16, work: &mut [u16], rests: &mut [u64]) -> u8
+fn byte(x: &[u16; 22626], n: usize, goal: u16, work: &mut [u16], rests: &mut [u64; 4036]) -> u8
     requires { ⌜ Indexed (now x) n ⌝ }
     requires { ⌜ goal < 2 * n ⌝ }
     requires { ⌜ Ready n (now work) × Sets (now rests) ⌝ }
@@ -63,12 +63,12 @@ fn byte(x: &[u16], n: usize, goal: u16, work: &mut [u16], rests: &mut [u64]) -> 
 
 // A byte for each goal, over the sets that are lent.
 fn put_each(
-    x: &[u16],
+    x: &[u16; 22626],
     n: usize,
     goals: &[u16],
     answers: &mut [u8],
     work: &mut [u16],
-    rests: &mut [u64],
+    rests: &mut [u64; 4036],
 )
     requires { ⌜ Indexed (now x) n ⌝ }
     requires { ⌜ Below n (now goals) ⌝ }
@@ -84,7 +84,7 @@ fn put_each(
 }
 
 // A byte for each goal.
-fn put(x: &[u16], n: usize, goals: &[u16], answers: &mut [u8], work: &mut [u16])
+fn put(x: &[u16; 22626], n: usize, goals: &[u16], answers: &mut [u8], work: &mut [u16])
     requires { ⌜ Indexed (now x) n ⌝ }
     requires { ⌜ Below n (now goals) ⌝ }
     requires { ⌜ area ≤ length (now work) ⌝ }

@@ -31,11 +31,10 @@ use Rattle.rests.proofs.Held.{held-literals, held-same, put-same, put-sets, hel
 use Rattle.grounds.specs.Ground.{Grounded}
 use Rattle.grounds.proofs.Grounds.{unmet}
 use Rattle.searching.specs.Search.{Extends, foundOf, Solved}
-use Rattle.searching.specs.Jumps.{blank, Aimed, slotFor, Concluded, Stepped, jumpedFrom, Propagated, endOf, madeBy, foundBy, withLeft, Jumps, Counted, askedOf, Answered}
+use Rattle.searching.specs.Jumps.{blank, Aimed, slotFor, Concluded, Stepped, jumpedFrom, Propagated, endOf, madeBy, foundBy, withLeft, Jumps, Counted, Opened}
 use Rattle.searching.specs.declared.Stop.{Stop}
 use Rattle.searching.specs.declared.Stop.the-variants.{Closed as Shut, Model as Open, Fork}
 use Rattle.searching.specs.declared.Found.{Found}
-use Rattle.searching.specs.declared.Asked.{Asked}
 use Rattle.searching.specs.declared.Ended.{Ended}
 use Rattle.searching.specs.declared.Ended.the-variants.{Model, Closed}
 use Rattle.searching.proofs.Searches.{Run, run-starts, run-looked, run-room, run-unit, Forked, fork-room, fork-grows, shut-open, shut-fork, open-fork}
@@ -509,10 +508,12 @@ module _ {t : ℕ → Node} {n : ℕ} {goals : List ℕ} where
       let e = sym z ∙ from-nothing t n goals blank in
       record { ready = h; answered = ap (λ (j : Jumped). endAnswer (j .end)) e; counted = ap (λ (j : Jumped). stopped (j .splits)) e }
 
--- the same as an answer
-pub answered : {t : ℕ → Node} {n : ℕ} {goals w : List ℕ} (m : List ℕ) (e : Ended) {a : Asked} → a ≡ askedOf e → Counted t n goals w e → Answered t n goals m w a
-answered m (Model s) q C = rw q C
-answered m (Closed s) q C = rw q C
+-- the units behind the goals have joined
+pub opened : {t : ℕ → Node} {n : ℕ} {goals w w′ k′ : List ℕ} (v : Stop) → Propagated t n goals w blank w′ k′ blank v
+    → jumpedFrom t n goals 0 blank (gOf w) ≡ jumpedFrom t n goals 0 blank [] → Opened t n goals w′ v
+opened Shut P z = counted-whole z (jumps-closed P 0 refl)
+opened Open P z = counted-whole z (jumps-model P 0 refl)
+opened {k′ = k′} (Fork l) P z = (k′, record { holds = P .holds; splits = (l, P .forks l refl); same = P .same 0 ∙ z })
 
 -- it answers as the plain order does
 pub solved-plain : {t : ℕ → Node} {n : ℕ} {goals w : List ℕ} {r : Ended} → Table n t → Below n goals → Counted t n goals w r → {f : Found} → f ≡ foundBy r

@@ -23,8 +23,6 @@ use Rattle.searching.specs.declared.Stop.{Stop}
 use Rattle.searching.specs.declared.Stop.the-variants.{Closed as Shut, Model as Open, Fork}
 use Rattle.searching.specs.declared.Found.{Found}
 use Rattle.searching.specs.declared.Found.the-variants.{Model as AModel, Closed as AllClosed}
-use Rattle.searching.specs.declared.Asked.{Asked}
-use Rattle.searching.specs.declared.Asked.the-variants.{Model as AskedModel, Closed as AskedClosed, Fork as AskedFork}
 use Rattle.searching.specs.declared.Ended.{Ended}
 use Rattle.searching.specs.declared.Ended.the-variants.{Model, Closed}
 
@@ -130,19 +128,8 @@ pub record Counted (t : ℕ → Node) (n : ℕ) (goals w′ : List ℕ) (r : End
   pub answered : foundOf (foundBy r) (gOf w′) ≡ endAnswer (jump 128 (expand t) goals n 0 [] .end)
   pub counted : madeBy r ≡ stopped (jump 128 (expand t) goals n 0 [] .splits)
 
--- ---- a question put with sets, or without
-
--- sets are lent, or another slice in their place
-abbrev pub Lent : List ℕ → Type 0
-Lent m = length m ≡ setsSize → Sets m
-
--- how the search ended, as the answer
-abbrev pub askedOf : Ended → Asked
-askedOf (Model s) = AskedModel s
-askedOf (Closed s) = AskedClosed s
-
--- the answer, m being lent: as the search ended; at its first split only where m is not sets
-abbrev pub Answered : (ℕ → Node) → ℕ → List ℕ → List ℕ → List ℕ → Asked → Type 0
-Answered t n goals m w (AskedModel s) = Counted t n goals w (Model s)
-Answered t n goals m w (AskedClosed s) = Counted t n goals w (Closed s)
-Answered t n goals m w AskedFork = (length m ≡ setsSize → ⊥) × LeftOff t n goals w
+-- a question was put up to its first split: with none it closes, or has a model; or it was left there
+abbrev pub Opened : (ℕ → Node) → ℕ → List ℕ → List ℕ → Stop → Type 0
+Opened t n goals w Shut = Counted t n goals w (Closed 0)
+Opened t n goals w Open = Counted t n goals w (Model 0)
+Opened t n goals w (Fork l) = LeftOff t n goals w

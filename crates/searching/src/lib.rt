@@ -17,7 +17,7 @@ ghost use Rattle.state.specs.Holds.{Holds};
 ghost use Rattle.state.specs.Picked.{Leads};
 ghost use Rattle.rests.specs.Words.{Sets};
 ghost use Rattle.searching.specs.Search.{Solved};
-ghost use Rattle.searching.specs.Jumps.{blank, Aimed, slotFor, Concluded, Begun, Paused, LeftOff, Propagated, withLeft, Jumps, Counted, Lent, askedOf, Answered};
+ghost use Rattle.searching.specs.Jumps.{blank, Aimed, slotFor, Concluded, Begun, LeftOff, Propagated, withLeft, Jumps, foundBy, Counted, Opened};
 
 // Where the units end: at a conflict, at a model, or at a split on a literal.
 pub enum Stop {
@@ -38,18 +38,8 @@ pub enum Ended {
     Closed(u32),
 }
 
-// How a question ends that may be put without sets: the same, or at the first split.
-pub enum Asked {
-    Model(u32),
-    Closed(u32),
-    Fork,
-}
-
 // The slot of what the last conflict rests on.
 const CONFLICT_SLOT: usize = 2017;
-
-// How many words the sets are.
-const SETS: usize = 4036;
 
 // No position.
 const NONE: usize = 2016;
@@ -108,12 +98,12 @@ fn conclude(x: &[u16], n: usize, goals: &[u16], work: &mut [u16], masks: &[u64])
 // The units join, each with what it rests on, up to another move; `first` is the unit that is the next move, or NO_UNIT. Every goal is
 // true.
 fn propagate(
-    x: &[u16],
+    x: &[u16; 22626],
     n: usize,
     goals: &[u16],
     work: &mut [u16],
-    masks: &mut [u64],
-    rests: &mut [u64],
+    masks: &mut [u64; 33],
+    rests: &mut [u64; 4036],
     first: u32,
 ) -> Stop
     requires { ⌜ Indexed (now x) n ⌝ }
@@ -214,12 +204,12 @@ fn with_left(left: u32, right: Ended) -> Ended
 // conflict's slot has what that rests on. What joined is taken back only before a right branch. Every goal is true; u is the unit that is
 // the next move, or NO_UNIT.
 fn search(
-    x: &[u16],
+    x: &[u16; 22626],
     n: usize,
     goals: &[u16],
     work: &mut [u16],
-    masks: &mut [u64],
-    rests: &mut [u64],
+    masks: &mut [u64; 33],
+    rests: &mut [u64; 4036],
     d: usize,
     u: u32,
 ) -> Ended
@@ -256,122 +246,109 @@ fn search(
     }
 }
 
-// How the search ended, as the answer to a question.
-fn answer(e: Ended) -> Asked
-    ensures { λ r. ⌜ r ≡ askedOf e ⌝ }
-{
-    match e {
-        Ended::Model(s) => Asked::Model(s),
-        Ended::Closed(s) => Asked::Closed(s),
-    }
-}
-
-// The search from the first split on, if sets are lent: those of the literals held then are empty.
-fn from_split(
-    x: &[u16],
-    n: usize,
-    goals: &[u16],
-    work: &mut [u16],
-    masks: &mut [u64],
-    rests: &mut [u64],
-) -> Asked
-    requires { ⌜ Indexed (now x) n ⌝ }
-    requires { ⌜ Goals n (now goals) ⌝ }
-    requires { ⌜ Paused (indexNode (now x)) n (now goals) (now work) (now masks) × Lent (now rests) ⌝ }
-    ensures { λ r. ⌜ Answered (indexNode (now (x .entry))) n (now (goals .entry)) (now (rests .entry)) (now (work .exit)) r ⌝ }
-    ensures { λ _. ⌜ Lent (now (rests .exit)) ⌝ }
-{
-    if rests.len() != SETS {
-        return Asked::Fork;
-    }
-    let held = state::count(work) as usize;
-    rests::clear(rests, held);
-    let u = moves::pick(work, masks);
-    let e = search(x, n, goals, work, masks, rests, 0, u);
-    answer(e)
-}
-
-// The search from its start, with nothing held. The sets are needed from the first split on.
-fn from_start(
-    x: &[u16],
-    n: usize,
-    goals: &[u16],
-    work: &mut [u16],
-    masks: &mut [u64],
-    rests: &mut [u64],
-) -> Asked
+// The goals and the units behind them join, from the start, up to the first split, if there is one.
+fn from_start(x: &[u16], n: usize, goals: &[u16], work: &mut [u16], masks: &mut [u64]) -> Stop
     requires { ⌜ Indexed (now x) n ⌝ }
     requires { ⌜ Goals n (now goals) ⌝ }
     requires { ⌜ Holds (indexNode (now x)) n (now goals) (now work) (now masks) × (gOf (now work) ≡ []) ⌝ }
-    requires { ⌜ Lent (now rests) ⌝ }
-    ensures { λ r. ⌜ Answered (indexNode (now (x .entry))) n (now (goals .entry)) (now (rests .entry)) (now (work .exit)) r ⌝ }
-    ensures { λ _. ⌜ Lent (now (rests .exit)) ⌝ }
+    ensures { λ r. ⌜ Opened (indexNode (now (x .entry))) n (now (goals .entry)) (now (work .exit)) r ⌝ }
 {
     if !join_goals(x, n, goals, work, masks) {
-        return Asked::Closed(0);
+        return Stop::Closed;
     }
-    let stop = first_units(x, n, goals, work, masks);
-    match stop {
-        Stop::Closed => Asked::Closed(0),
-        Stop::Model => Asked::Model(0),
-        Stop::Fork(_) => from_split(x, n, goals, work, masks, rests),
-    }
+    first_units(x, n, goals, work, masks)
 }
 
-// A question put from the start, whatever is held: whether the goals have a model, which the work area then holds, and the splits made.
-// Sets are lent, so that one call's questions share them; without, it is left at its first split, if it has one.
-fn put(x: &[u16], n: usize, goals: &[u16], work: &mut [u16], rests: &mut [u64]) -> Asked
+// A question put from the start, whatever is held, up to its first split: whether it closes or there is a model before that.
+fn put(x: &[u16], n: usize, goals: &[u16], work: &mut [u16]) -> Stop
     requires { ⌜ Indexed (now x) n ⌝ }
     requires { ⌜ Goals n (now goals) ⌝ }
-    requires { ⌜ Ready n (now work) × Lent (now rests) ⌝ }
-    ensures { λ r. ⌜ Answered (indexNode (now (x .entry))) n (now (goals .entry)) (now (rests .entry)) (now (work .exit)) r ⌝ }
-    ensures { λ _. ⌜ Lent (now (rests .exit)) ⌝ }
+    requires { ⌜ Ready n (now work) ⌝ }
+    ensures { λ r. ⌜ Opened (indexNode (now (x .entry))) n (now (goals .entry)) (now (work .exit)) r ⌝ }
 {
     let mut masks = [0u64; 33];
     solver::restart(x, n, goals, work, &mut masks);
-    from_start(x, n, goals, work, &mut masks, rests)
+    from_start(x, n, goals, work, &mut masks)
 }
 
-// A question that was left at its first split is searched on, with sets of its own.
-fn alone(x: &[u16], n: usize, goals: &[u16], work: &mut [u16]) -> Ended
+// A question that was left at its first split is searched on. Sets are lent, so that one call's questions share them.
+fn go_on(
+    x: &[u16; 22626],
+    n: usize,
+    goals: &[u16],
+    work: &mut [u16],
+    rests: &mut [u64; 4036],
+) -> Ended
+    requires { ⌜ Indexed (now x) n ⌝ }
+    requires { ⌜ Goals n (now goals) ⌝ }
+    requires { ⌜ LeftOff (indexNode (now x)) n (now goals) (now work) × Sets (now rests) ⌝ }
+    ensures { λ r. ⌜ Counted (indexNode (now (x .entry))) n (now (goals .entry)) (now (work .exit)) r ⌝ }
+    ensures { λ _. ⌜ Sets (now (rests .exit)) ⌝ }
+{
+    let mut masks = [0u64; 33];
+    let held = state::count(work) as usize;
+    rests::clear(rests, held);
+    search(x, n, goals, work, &mut masks, rests, 0, NO_UNIT)
+}
+
+// So it is, with sets of its own.
+fn alone(x: &[u16; 22626], n: usize, goals: &[u16], work: &mut [u16]) -> Ended
     requires { ⌜ Indexed (now x) n ⌝ }
     requires { ⌜ Goals n (now goals) ⌝ }
     requires { ⌜ LeftOff (indexNode (now x)) n (now goals) (now work) ⌝ }
     ensures { λ r. ⌜ Counted (indexNode (now (x .entry))) n (now (goals .entry)) (now (work .exit)) r ⌝ }
 {
-    let mut masks = [0u64; 33];
     let mut rests = [0u64; 4036];
-    search(x, n, goals, work, &mut masks, &mut rests, 0, NO_UNIT)
+    go_on(x, n, goals, work, &mut rests)
 }
 
-// One question put from the start, whatever is held: as `put`, but that sets are made at the first split.
-pub fn solve_counted(x: &[u16], n: usize, goals: &[u16], work: &mut [u16]) -> Ended
+// One question put from the start, whatever is held: whether the goals have a model, which the work area then holds, and the splits made.
+// Sets are made at the first split.
+pub fn solve_counted(x: &[u16; 22626], n: usize, goals: &[u16], work: &mut [u16]) -> Ended
     requires { ⌜ Indexed (now x) n ⌝ }
     requires { ⌜ Goals n (now goals) ⌝ }
     requires { ⌜ Ready n (now work) ⌝ }
     ensures { λ r. ⌜ Counted (indexNode (now (x .entry))) n (now (goals .entry)) (now (work .exit)) r ⌝ }
 {
-    let mut none = [0u64; 1];
-    let a = put(x, n, goals, work, &mut none);
-    match a {
-        Asked::Model(s) => Ended::Model(s),
-        Asked::Closed(s) => Ended::Closed(s),
-        Asked::Fork => alone(x, n, goals, work),
+    let stop = put(x, n, goals, work);
+    match stop {
+        Stop::Closed => Ended::Closed(0),
+        Stop::Model => Ended::Model(0),
+        Stop::Fork(_) => alone(x, n, goals, work),
     }
 }
 
-// One of several questions, whose sets are lent; without the splits.
-pub fn solve(x: &[u16], n: usize, goals: &[u16], work: &mut [u16], rests: &mut [u64]) -> Found
+// What a search found, without the splits.
+fn verdict(e: Ended) -> Found
+    ensures { λ r. ⌜ r ≡ foundBy e ⌝ }
+{
+    match e {
+        Ended::Model(_) => Found::Model,
+        Ended::Closed(_) => Found::Closed,
+    }
+}
+
+// One of several questions, whose sets are lent.
+pub fn solve(
+    x: &[u16; 22626],
+    n: usize,
+    goals: &[u16],
+    work: &mut [u16],
+    rests: &mut [u64; 4036],
+) -> Found
     requires { ⌜ Indexed (now x) n ⌝ }
     requires { ⌜ Goals n (now goals) ⌝ }
     requires { ⌜ Ready n (now work) × Sets (now rests) ⌝ }
     ensures { λ r. ⌜ Solved (indexNode (now (x .entry))) n (now (goals .entry)) (now (work .exit)) r ⌝ }
     ensures { λ _. ⌜ Sets (now (rests .exit)) ⌝ }
 {
-    let a = put(x, n, goals, work, rests);
-    match a {
-        Asked::Model(_) => Found::Model,
-        Asked::Closed(_) => Found::Closed,
-        Asked::Fork => Found::Closed,
+    let stop = put(x, n, goals, work);
+    match stop {
+        Stop::Closed => Found::Closed,
+        Stop::Model => Found::Model,
+        Stop::Fork(_) => {
+            let e = go_on(x, n, goals, work, rests);
+            verdict(e)
+        }
     }
 }

@@ -104,7 +104,7 @@ fn stand(x: &[u16], n: usize, work: &[u16], settings: &mut [u8], met: usize)
 
 // The goals alone, whose setting is the first answer; then the questions.
 fn questions(
-    x: &[u16],
+    x: &[u16; 22626],
     n: usize,
     goals: &[u16],
     wishes: &[u16],

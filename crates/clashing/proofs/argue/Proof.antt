@@ -9,12 +9,9 @@ use Rattle.clashing.proofs.argue.Tie as tie
 blank-requires : tie.Need-blank-requires
 blank-requires c κs = search needs
 
-slice-aggregate-solve : tie.Need-slice-aggregate-solve
-slice-aggregate-solve c = search needs
-
 solve-requires : tie.Need-solve-requires
 solve-requires c κs =
-    let p = c .before .before .before .before .before .before .before .before .before .pre in
+    let p = c .before .before .before .before .before .before .before .before .pre in
     (p .0, (together (p .1 .0), (c .before .before .before .before .blank .ensures .ready, sets-blank)))
 
 enum-told : tie.Need-enum-told
@@ -26,37 +23,32 @@ refuse-requires c κs = search needs
 enum-told-2 : tie.Need-enum-told-2
 enum-told-2 c = search needs
 
-slice-aggregate-narrow : tie.Need-slice-aggregate-narrow
-slice-aggregate-narrow c = search needs
-
 narrow-requires : tie.Need-narrow-requires
 narrow-requires c κs =
-    let p = c .before .before .before .before .before .before .before .before .before .before .before .before .before .before .before .before .before .pre in
-    (p .0, (p .1 .0, (p .1 .1 .0, (c .before .before .before .before .before .before .before .solve .ensures .0 .ready, c .before .before .before .before .before .before .before .solve .ensures .1))))
+    let p = c .before .before .before .before .before .before .before .before .before .before .before .before .before .before .before .pre in
+    (p .0, (p .1 .0, (p .1 .1 .0, (c .before .before .before .before .before .before .solve .ensures .0 .ready, c .before .before .before .before .before .before .solve .ensures .1))))
 
 same-length : tie.Need-same-length
 same-length c = search needs
 
 returns : tie.Need-returns
-returns c = c .refuse .ensures ∙ argued-model (c .before .before .before .before .before .before .solve .ensures .0) (c .before .enum-told .given .1)
+returns c = c .refuse .ensures ∙ argued-model (c .before .before .before .before .before .solve .ensures .0) (c .before .enum-told .given .1)
 
 same-length-2 : tie.Need-same-length-2
 same-length-2 c = search needs
 
 returns-2 : tie.Need-returns-2
-returns-2 c = c .before .before .before .narrow .ensures ∙ argued-closed (c .before .before .before .before .before .before .before .before .before .before .before .solve .ensures .0) (c .before .before .before .before .before .before .enum-told2 .given .1)
+returns-2 c = c .before .before .narrow .ensures ∙ argued-closed (c .before .before .before .before .before .before .before .before .before .solve .ensures .0) (c .before .before .before .before .before .enum-told2 .given .1)
 
 pub argue-spec : {M : Type 1} → statement M
 argue-spec =
     tie.close
     (tie.spec
     blank-requires
-    slice-aggregate-solve
     solve-requires
     enum-told
     refuse-requires
     enum-told-2
-    slice-aggregate-narrow
     narrow-requires
     same-length
     returns

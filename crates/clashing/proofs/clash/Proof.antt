@@ -26,9 +26,6 @@ refuse-requires c κs = search needs
 enum-known-a-2 : tie.Need-enum-known-a-2
 enum-known-a-2 c = search needs
 
-slice-aggregate-argue : tie.Need-slice-aggregate-argue
-slice-aggregate-argue c = search needs
-
 argue-requires : tie.Need-argue-requires
 argue-requires c κs =
     let p = c .before .before .before .before .before .before .ask-within .ensures .reached _ (c .before .before .before .a2 .given .1) in
@@ -52,7 +49,6 @@ clash-spec =
     enum-known-a
     refuse-requires
     enum-known-a-2
-    slice-aggregate-argue
     argue-requires
     returns
     same-length

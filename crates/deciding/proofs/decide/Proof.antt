@@ -24,9 +24,6 @@ enum-known-a c = search needs
 enum-known-a-2 : tie.Need-enum-known-a-2
 enum-known-a-2 c = search needs
 
-slice-aggregate-solve : tie.Need-slice-aggregate-solve
-slice-aggregate-solve c = search needs
-
 solve-requires : tie.Need-solve-requires
 solve-requires c κs =
     let p = c .before .before .before .before .before .before .before .ask-within .ensures .reached _ (c .before .before .before .before .a2 .given .1) in
@@ -47,7 +44,7 @@ returns-2 c =
     let k2 = k1 .before .before .before .before .before in
     let k3 = k2 .before .before .before in
     let k4 = k3 .before .before .before .before .before in
-    ends _ _ _ _ (bytes (k4)) (k3 .ask-within .ensures .reached _ (k2 .a2 .given .1)) _ (k1 .solve .ensures)
+    ends _ _ _ _ (bytes k4) (k3 .ask-within .ensures .reached _ (k2 .a2 .given .1)) _ (k1 .solve .ensures)
 
 pub decide-spec : {M : Type 1} → statement M
 decide-spec =
@@ -57,7 +54,6 @@ decide-spec =
     ask-within-requires
     enum-known-a
     enum-known-a-2
-    slice-aggregate-solve
     solve-requires
     returns
     same-length

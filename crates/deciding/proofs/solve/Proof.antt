@@ -9,7 +9,7 @@ blank-requires c κs = search needs
 
 solve-counted-requires : tie.Need-solve-counted-requires
 solve-counted-requires c κs =
-    let p = c .before .before .before .before .before .before .before .before .before .pre in
+    let p = c .before .before .before .before .before .before .before .before .pre in
     (p .0, (p .1 .0, c .before .before .before .blank .ensures .ready))
 
 enum-known-found : tie.Need-enum-known-found
@@ -21,7 +21,7 @@ enum-known-found-2 c = search needs
 set-points-requires : tie.Need-set-points-requires
 set-points-requires c κs =
     let p = c .before .before .before .before .before .before .before .before .before .before .before .before .before .before .before .before .before .pre in
-    record { indexed = p .0; points = p .1 .1 .points; ready = c .before .before .before .before .before .before .before .solve-counted .ensures .ready; room = p .1 .1 .settings }
+    record { indexed = p .0; points = p .1 .1 .points; ready = c .before .before .before .before .before .before .before .before .solve-counted .ensures .ready; room = p .1 .1 .settings }
 
 same-length : tie.Need-same-length
 same-length c = search needs
@@ -36,7 +36,7 @@ same-length-3 : tie.Need-same-length-3
 same-length-3 c = search needs
 
 returns-2 : tie.Need-returns-2
-returns-2 c = solved-model (c .before .before .before .before .before .before .before .before .before .before .solve-counted .ensures) _ (c .before .before .before .before .before .before .found2 .given .1) (c .before .before .set-points .ensures)
+returns-2 c = solved-model (c .before .before .before .before .before .before .before .before .before .before .before .solve-counted .ensures) _ (c .before .before .before .before .before .before .before .found2 .given .1) (c .before .before .set-points .ensures)
 
 pub solve-spec : {M : Type 1} → statement M
 solve-spec =

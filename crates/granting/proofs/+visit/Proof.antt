@@ -1,6 +1,5 @@
 -- A visit puts the questions of its definition, and keeps the literals chosen before it. Measure: the wishes left to choose. Assumes nothing.
 use native.Mathlib.Omega.{arith}
-use mathlib.Core.Path.{_≡_, refl, _∙_}
 use Prim.Native.Nat.{ℕ, _-_, _<_}
 use lib.ListN.{length}
 use borrow.Author.Needs.{needs}
@@ -28,7 +27,7 @@ visit-below t = and 5 visit-kinds.ps (falls 5 visit-kinds.ps _<_ μ-visit t) vis
 
 abbrev visit-Inv-loop : visit-lts.InvT-loop
 visit-Inv-loop x n g wishes list₀ work₀ rests₀ lo s at mid₀ i₀ list work rests mid i =
-    (Sets rests × (length rests ≡ length rests₀)) × Visiting x n g wishes list₀ work₀ lo s at mid₀ list work mid i
+    Sets rests × Visiting x n g wishes list₀ work₀ lo s at mid₀ list work mid i
 
 abbrev visit-μ-loop : visit-lts.MeasureT-loop
 visit-μ-loop x n g wishes list₀ work₀ rests₀ lo s at mid₀ i₀ list work rests mid i = length wishes - i
@@ -68,7 +67,7 @@ visit-part-step-end : (t : ℕ) → visit-lts.Need-part-step-end (
   visit.Post,
 ) (visit-at t) visit.Post visit-Inv-loop visit-μ-loop
 visit-part-step-end t c =
-    let p = c .before .before .before .before .before .before .before .pre .1 .1 .0 in
+    let p = c .before .before .before .before .before .pre .1 .1 .0 in
     omega (arith, p .size, p .room)
 
 visit-step-requires : (t : ℕ) → visit-lts.Need-step-requires (
@@ -82,7 +81,7 @@ visit-step-requires : (t : ℕ) → visit-lts.Need-step-requires (
   visit.Post,
 ) (visit-at t) visit.Post visit-Inv-loop visit-μ-loop
 visit-step-requires t c κs =
-    let p = c .before .before .before .before .before .before .before .before .before .before .pre .1 in
+    let p = c .before .before .before .before .before .before .before .before .pre .1 in
     let l = leaf-asked _ _ _ _ _ _ _ _ (p .1 .0) (c .before .before .before .before .if1 .taken) in
     (p .0, (l .0, (l .1, (p .1 .0 .ready, ((p .1 .1 .2 (c .before .before .before .before .if1 .taken), p .1 .1 .0), p .1 .1 .1)))))
 
@@ -110,18 +109,6 @@ visit-same-length-2 : (t : ℕ) → visit-lts.Need-same-length-2 (
 ) (visit-at t) visit.Post visit-Inv-loop visit-μ-loop
 visit-same-length-2 t c = search needs
 
-visit-same-length-3 : (t : ℕ) → visit-lts.Need-same-length-3 (
-  step-reads.Asked,
-  step-reads.Learnt,
-  opposed-reads.Asked,
-  opposed-reads.Learnt,
-  refuse-reads.Asked,
-  refuse-reads.Learnt,
-  visit-below t,
-  visit.Post,
-) (visit-at t) visit.Post visit-Inv-loop visit-μ-loop
-visit-same-length-3 t c = search needs
-
 visit-returns : (t : ℕ) → visit-lts.Need-returns (
   step-reads.Asked,
   step-reads.Learnt,
@@ -133,9 +120,9 @@ visit-returns : (t : ℕ) → visit-lts.Need-returns (
   visit.Post,
 ) (visit-at t) visit.Post visit-Inv-loop visit-μ-loop
 visit-returns t c =
-    let k1 = c .before .before .before .before in
+    let k1 = c .before .before in
     let k2 = k1 .before .before .before .before .before in
-    (visited-leaf _ _ _ _ _ _ _ _ _ _ (k2 .before .before .before .before .before .before .pre .1 .1 .0) _ _ (k2 .if1 .taken) (k1 .step .ensures .0), k1 .step .ensures .1)
+    (visited-leaf _ _ _ _ _ _ _ _ _ _ (c .before .before .before .before .before .before .before .before .before .before .before .pre .1 .1 .0) _ _ (k2 .if1 .taken) (k1 .step .ensures .0), k1 .step .ensures .1)
 
 visit-loop-holds : (t : ℕ) → visit-lts.Need-loop-holds (
   step-reads.Asked,
@@ -148,8 +135,8 @@ visit-loop-holds : (t : ℕ) → visit-lts.Need-loop-holds (
   visit.Post,
 ) (visit-at t) visit.Post visit-Inv-loop visit-μ-loop
 visit-loop-holds t c =
-    let p = c .before .before .before .before .before .before .pre .1 .1 in
-    ((p .1 .1, refl), visiting-starts _ _ _ _ _ _ _ _ _ _ (p .0) (p .1 .0))
+    let p = c .before .before .before .before .pre .1 .1 in
+    (p .1 .1, visiting-starts _ _ _ _ _ _ _ _ _ _ (p .0) (p .1 .0))
 
 visit-sub-loop : (t : ℕ) → visit-lts.Need-sub-loop (
   step-reads.Asked,
@@ -163,6 +150,18 @@ visit-sub-loop : (t : ℕ) → visit-lts.Need-sub-loop (
 ) (visit-at t) visit.Post visit-Inv-loop visit-μ-loop
 visit-sub-loop t c = c .loop .inv .1 .listed .left
 
+visit-same-length-3 : (t : ℕ) → visit-lts.Need-same-length-3 (
+  step-reads.Asked,
+  step-reads.Learnt,
+  opposed-reads.Asked,
+  opposed-reads.Learnt,
+  refuse-reads.Asked,
+  refuse-reads.Learnt,
+  visit-below t,
+  visit.Post,
+) (visit-at t) visit.Post visit-Inv-loop visit-μ-loop
+visit-same-length-3 t c = c .before .before .loop .inv .1 .lists
+
 visit-same-length-4 : (t : ℕ) → visit-lts.Need-same-length-4 (
   step-reads.Asked,
   step-reads.Learnt,
@@ -173,31 +172,7 @@ visit-same-length-4 : (t : ℕ) → visit-lts.Need-same-length-4 (
   visit-below t,
   visit.Post,
 ) (visit-at t) visit.Post visit-Inv-loop visit-μ-loop
-visit-same-length-4 t c = c .before .before .loop .inv .1 .lists
-
-visit-same-length-5 : (t : ℕ) → visit-lts.Need-same-length-5 (
-  step-reads.Asked,
-  step-reads.Learnt,
-  opposed-reads.Asked,
-  opposed-reads.Learnt,
-  refuse-reads.Asked,
-  refuse-reads.Learnt,
-  visit-below t,
-  visit.Post,
-) (visit-at t) visit.Post visit-Inv-loop visit-μ-loop
-visit-same-length-5 t c = c .before .before .loop .inv .1 .works
-
-visit-same-length-6 : (t : ℕ) → visit-lts.Need-same-length-6 (
-  step-reads.Asked,
-  step-reads.Learnt,
-  opposed-reads.Asked,
-  opposed-reads.Learnt,
-  refuse-reads.Asked,
-  refuse-reads.Learnt,
-  visit-below t,
-  visit.Post,
-) (visit-at t) visit.Post visit-Inv-loop visit-μ-loop
-visit-same-length-6 t c = c .before .before .loop .inv .0 .1
+visit-same-length-4 t c = c .before .before .loop .inv .1 .works
 
 visit-returns-2 : (t : ℕ) → visit-lts.Need-returns-2 (
   step-reads.Asked,
@@ -209,7 +184,7 @@ visit-returns-2 : (t : ℕ) → visit-lts.Need-returns-2 (
   visit-below t,
   visit.Post,
 ) (visit-at t) visit.Post visit-Inv-loop visit-μ-loop
-visit-returns-2 t c = (visiting-stopped _ _ _ _ _ _ _ _ _ _ _ _ _ _ (c .before .before .loop .inv .1) (c .if2 .taken), c .before .before .loop .inv .0 .0)
+visit-returns-2 t c = (visiting-stopped _ _ _ _ _ _ _ _ _ _ _ _ _ _ (c .before .before .loop .inv .1) (c .if2 .taken), c .before .before .loop .inv .0)
 
 visit-mul-l : (t : ℕ) → visit-lts.Need-mul-l (
   step-reads.Asked,
@@ -310,7 +285,7 @@ visit-opposed-requires t c κs =
     let p = v .listed in
     let some = c .before .before .before .before .before .before .if1 .left in
     let enough = c .before .before .before .before .loop-test .taken in
-    listed-literal _ _ _ _ _ _ _ _ p (omega arith) (omega arith) (c .before .before .before .before .before .before .before .before .before .before .before .before .pre .1 .0 .few)
+    listed-literal _ _ _ _ _ _ _ _ p (omega arith) (omega arith) (c .before .before .before .before .before .before .before .before .before .before .pre .1 .0 .few)
 
 visit-sub-refuse : (t : ℕ) → visit-lts.Need-sub-refuse (
   step-reads.Asked,
@@ -418,10 +393,10 @@ visit-loop-again t c =
     let k2 = k1 .before .before in
     let v = k2 .loop .inv .1 in
     let p = v .listed in
-    let some = k2 .before .if1 .left in
-    let enough = k1 .before .loop-test .taken in
+    let some = c .before .before .before .before .before .before .before .before .before .if1 .left in
+    let enough = c .before .before .before .before .before .before .before .loop-test .taken in
     let o = c .before .before .opposed .ensures (c .before .if3 .taken) in
-    let T = k2 .before .before .before .before .before .before .before .pre .1 .0 .table in
+    let T = c .before .before .before .before .before .before .before .before .before .before .before .before .before .pre .1 .0 .table in
     (k2 .loop .inv .0, visiting-refused _ _ _ _ _ _ _ _ _ _ _ _ _ _ v (omega arith) (omega arith) T (k1 .if2 .left) o _ (c .refuse .ensures))
 
 visit-mul-list : (t : ℕ) → visit-lts.Need-mul-list (
@@ -494,11 +469,11 @@ visit-visit-requires t c κs =
     let k2 = k1 .before .before in
     let v = k2 .loop .inv .1 in
     let p = v .listed in
-    let some = k2 .before .if1 .left in
-    let enough = k1 .before .loop-test .taken in
-    let q = k2 .before .before .before .before .before .before .before .pre in (
+    let some = c .before .before .before .before .before .before .before .before .before .before .before .if1 .left in
+    let enough = c .before .before .before .before .before .before .before .before .before .loop-test .taken in
+    let q = c .before .before .before .before .before .before .before .before .before .before .before .before .before .before .before .pre in (
       omega (arith, q .0),
-      (q .1 .0, (listed-more _ _ _ _ _ _ _ _ p (omega arith) (omega arith), (v .room, k2 .loop .inv .0 .0, λ e. k1 .if2 .left))),
+      (q .1 .0, (listed-more _ _ _ _ _ _ _ _ p (omega arith) (omega arith), (v .room, k2 .loop .inv .0, λ e. k1 .if2 .left))),
     )
 
 visit-loop-less-2 : (t : ℕ) → visit-lts.Need-loop-less-2 (
@@ -512,10 +487,10 @@ visit-loop-less-2 : (t : ℕ) → visit-lts.Need-loop-less-2 (
   visit.Post,
 ) (visit-at t) visit.Post visit-Inv-loop visit-μ-loop
 visit-loop-less-2 t c =
-    let v = c .before .before .before .before .before .before .before .before .before .before .before .before .before .before .before .before .before .loop .inv .1 in
+    let v = c .before .before .before .before .before .before .before .before .before .before .before .before .before .before .before .loop .inv .1 in
     let p = v .listed in
-    let some = c .before .before .before .before .before .before .before .before .before .before .before .before .before .before .before .before .before .before .if1 .left in
-    let enough = c .before .before .before .before .before .before .before .before .before .before .before .before .before .before .before .before .loop-test .taken in
+    let some = c .before .before .before .before .before .before .before .before .before .before .before .before .before .before .before .before .if1 .left in
+    let enough = c .before .before .before .before .before .before .before .before .before .before .before .before .before .before .loop-test .taken in
     omega (arith, p .left)
 
 visit-loop-again-2 : (t : ℕ) → visit-lts.Need-loop-again-2 (
@@ -529,16 +504,16 @@ visit-loop-again-2 : (t : ℕ) → visit-lts.Need-loop-again-2 (
   visit.Post,
 ) (visit-at t) visit.Post visit-Inv-loop visit-μ-loop
 visit-loop-again-2 t c =
-    let v = c .before .before .before .before .before .before .before .before .before .before .before .before .before .before .before .before .before .loop .inv .1 in
+    let v = c .before .before .before .before .before .before .before .before .before .before .before .before .before .before .before .loop .inv .1 in
     let p = v .listed in
-    let some = c .before .before .before .before .before .before .before .before .before .before .before .before .before .before .before .before .before .before .if1 .left in
-    let enough = c .before .before .before .before .before .before .before .before .before .before .before .before .before .before .before .before .loop-test .taken in
-    let k = c .before .before .before .before .before .before .visit in (
-      (k .ensures .1, k .kept .1 .1 .1 .1 .1 .1 .0 ∙ c .before .before .before .before .before .before .before .before .before .before .before .before .before .before .before .before .before .loop .inv .0 .1),
+    let some = c .before .before .before .before .before .before .before .before .before .before .before .before .before .before .before .before .if1 .left in
+    let enough = c .before .before .before .before .before .before .before .before .before .before .before .before .before .before .loop-test .taken in
+    let k = c .before .before .before .before .visit in (
+      k .ensures .1,
       visiting-goes _ _ _ _ _ _ _ _ _ _ _ _ _ _ v (omega arith) (omega arith) _ _ _ (k .kept .1 .1 .1 .1 .0) (k .kept .1 .1 .1 .1 .1 .0) (k .ensures .0),
     )
 
-visit-same-length-7 : (t : ℕ) → visit-lts.Need-same-length-7 (
+visit-same-length-5 : (t : ℕ) → visit-lts.Need-same-length-5 (
   step-reads.Asked,
   step-reads.Learnt,
   opposed-reads.Asked,
@@ -548,9 +523,9 @@ visit-same-length-7 : (t : ℕ) → visit-lts.Need-same-length-7 (
   visit-below t,
   visit.Post,
 ) (visit-at t) visit.Post visit-Inv-loop visit-μ-loop
-visit-same-length-7 t c = c .before .loop .inv .1 .lists
+visit-same-length-5 t c = c .before .loop .inv .1 .lists
 
-visit-same-length-8 : (t : ℕ) → visit-lts.Need-same-length-8 (
+visit-same-length-6 : (t : ℕ) → visit-lts.Need-same-length-6 (
   step-reads.Asked,
   step-reads.Learnt,
   opposed-reads.Asked,
@@ -560,19 +535,7 @@ visit-same-length-8 : (t : ℕ) → visit-lts.Need-same-length-8 (
   visit-below t,
   visit.Post,
 ) (visit-at t) visit.Post visit-Inv-loop visit-μ-loop
-visit-same-length-8 t c = c .before .loop .inv .1 .works
-
-visit-same-length-9 : (t : ℕ) → visit-lts.Need-same-length-9 (
-  step-reads.Asked,
-  step-reads.Learnt,
-  opposed-reads.Asked,
-  opposed-reads.Learnt,
-  refuse-reads.Asked,
-  refuse-reads.Learnt,
-  visit-below t,
-  visit.Post,
-) (visit-at t) visit.Post visit-Inv-loop visit-μ-loop
-visit-same-length-9 t c = c .before .loop .inv .0 .1
+visit-same-length-6 t c = c .before .loop .inv .1 .works
 
 visit-returns-3 : (t : ℕ) → visit-lts.Need-returns-3 (
   step-reads.Asked,
@@ -586,7 +549,7 @@ visit-returns-3 : (t : ℕ) → visit-lts.Need-returns-3 (
 ) (visit-at t) visit.Post visit-Inv-loop visit-μ-loop
 visit-returns-3 t c =
     let few = c .loop-test .left in
-    (visiting-few _ _ _ _ _ _ _ _ _ _ _ _ _ _ (c .before .loop .inv .1) (omega arith), c .before .loop .inv .0 .0)
+    (visiting-few _ _ _ _ _ _ _ _ _ _ _ _ _ _ (c .before .loop .inv .1) (omega arith), c .before .loop .inv .0)
 
 pub +visit-spec : {M : Type 1} → statement M
 +visit-spec = close μ-visit λ t. visit-lts.spec (
@@ -609,13 +572,11 @@ pub +visit-spec : {M : Type 1} → statement M
     (visit-step-requires t)
     (visit-same-length t)
     (visit-same-length-2 t)
-    (visit-same-length-3 t)
     (visit-returns t)
     (visit-loop-holds t)
     (visit-sub-loop t)
+    (visit-same-length-3 t)
     (visit-same-length-4 t)
-    (visit-same-length-5 t)
-    (visit-same-length-6 t)
     (visit-returns-2 t)
     (visit-mul-l t)
     (visit-shared-slice-read-l t)
@@ -638,7 +599,6 @@ pub +visit-spec : {M : Type 1} → statement M
     (visit-visit-requires t)
     (visit-loop-less-2 t)
     (visit-loop-again-2 t)
-    (visit-same-length-7 t)
-    (visit-same-length-8 t)
-    (visit-same-length-9 t)
+    (visit-same-length-5 t)
+    (visit-same-length-6 t)
     (visit-returns-3 t)

@@ -9,7 +9,7 @@ sub-size c = search needs
 
 returns : tie.Need-returns
 returns c =
-    let p = c .before .before .before .before .before .pre in
+    let p = c .before .before .before .pre in
     (step-spent _ _ _ _ _ _ (p .1 .1 .1 .1 .0 .0) (p .1 .1 .1 .0) (c .if1 .taken), p .1 .1 .1 .1 .1)
 
 add-asked : tie.Need-add-asked
@@ -30,26 +30,20 @@ enum-told-2 c = search needs
 same-length : tie.Need-same-length
 same-length c = search needs
 
+returns-2 : tie.Need-returns-2
+returns-2 c =
+    let p = c .before .before .before .before .before .before .before .before .before .before .pre in
+    let e = c .before .before .before .before .solve .ensures in
+    (step-found _ _ _ _ _ _ (p .1 .1 .1 .1 .0 .0) _ (c .before .before .before .before .before .before .before .if1 .left) (p .1 .1 .0) (rw (c .enum-told .given .1) at (e .0)), e .1)
+
 same-length-2 : tie.Need-same-length-2
 same-length-2 c = search needs
 
-returns-2 : tie.Need-returns-2
-returns-2 c =
-    let p = c .before .before .before .before .before .before .before .before .before .before .before .before .before .before .pre in
-    let e = c .before .before .before .before .before .before .solve .ensures in
-    (step-found _ _ _ _ _ _ (p .1 .1 .1 .1 .0 .0) _ (c .before .before .before .before .before .before .before .before .before .if1 .left) (p .1 .1 .0) (rw (c .enum-told .given .1) at (e .0)), e .1)
-
-same-length-3 : tie.Need-same-length-3
-same-length-3 c = search needs
-
-same-length-4 : tie.Need-same-length-4
-same-length-4 c = search needs
-
 returns-3 : tie.Need-returns-3
 returns-3 c =
-    let p = c .before .before .before .before .before .before .before .before .before .before .before .before .before .before .pre in
-    let e = c .before .before .before .before .before .before .solve .ensures in
-    (step-refused _ _ _ _ _ _ (p .1 .1 .1 .1 .0 .0) _ (c .before .before .before .before .before .before .before .before .before .if1 .left) (rw (c .enum-told2 .given .1) at (e .0)), e .1)
+    let p = c .before .before .before .before .before .before .before .before .before .before .pre in
+    let e = c .before .before .before .before .solve .ensures in
+    (step-refused _ _ _ _ _ _ (p .1 .1 .1 .1 .0 .0) _ (c .before .before .before .before .before .before .before .if1 .left) (rw (c .enum-told2 .given .1) at (e .0)), e .1)
 
 pub step-spec : {M : Type 1} → statement M
 step-spec =
@@ -63,8 +57,6 @@ step-spec =
     enum-told
     enum-told-2
     same-length
-    same-length-2
     returns-2
-    same-length-3
-    same-length-4
+    same-length-2
     returns-3)

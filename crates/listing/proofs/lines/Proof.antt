@@ -25,14 +25,14 @@ abbrev μ-loop : tie.MeasureT-loop
 loop-holds : tie.Need-loop-holds Inv-loop μ-loop
 unfolding nodeLines
 loop-holds c =
-    let a = c .before .before .before .args in
+    let a = c .before .before .args in
     (omega arith, omega arith, omega arith, refl, refl, λ rs same. nothing (a .out .now) (a .start))
 
 line-requires : tie.Need-line-requires Inv-loop μ-loop
 line-requires c κs =
     let at-loop = c .before .before .before in
     let inv = at-loop .loop .inv in
-    let pre = at-loop .before .before .before .before .pre in
+    let pre = c .before .before .before .before .before .before .pre in
     let test = c .before .before .loop-test .taken in
     (pre .0, (test, omega (arith, inv .2, inv .3, pre .1 .0, test), omega (arith, inv .4, pre .1 .1)))
 
@@ -40,8 +40,8 @@ say-requires : tie.Need-say-requires Inv-loop μ-loop
 say-requires c κs =
     let now = c .before .before .before .before .before .line .ensures in
     let at-loop-test = c .before .before .before .before .before .before .before .before in
-    let inv = at-loop-test .before .loop .inv in
-    let pre = at-loop-test .before .before .before .before .before .pre in
+    let inv = c .before .before .before .before .before .before .before .before .before .loop .inv in
+    let pre = c .before .before .before .before .before .before .before .before .before .before .before .before .pre in
     (now .least, omega (arith, now .most, now .size, inv .2, inv .3, pre .1 .0, at-loop-test .loop-test .taken))
 
 add-m : tie.Need-add-m Inv-loop μ-loop
@@ -56,7 +56,7 @@ loop-again c =
     let at-line = c .before .before .before .before .before .before in
     let now = at-line .line .ensures in
     let at-loop-test = at-line .before .before .before in
-    let at = at-loop-test .before .loop in (
+    let at = c .before .before .before .before .before .before .before .before .before .before .loop in (
       omega (arith, at-loop-test .loop-test .taken),
       omega (arith, now .least, at .inv .1),
       omega (arith, now .most, at .inv .2),
@@ -74,7 +74,7 @@ same-length-2 c = search needs
 returns : tie.Need-returns Inv-loop μ-loop
 returns c =
     let inv = c .before .loop .inv in
-    let all : c .before .loop .m ≡ c .before .before .before .before .before .args .nodes = omega (arith, inv .0, c .loop-test .left) in
+    let all : c .before .loop .m ≡ c .before .before .before .before .args .nodes = omega (arith, inv .0, c .loop-test .left) in
     record { text = λ rs same. rw all at (inv .5 rs same); size = inv .3 }
 
 pub lines-spec : {M : Type 1} → statement M

@@ -50,9 +50,6 @@ say-requires-2 c κs = search needs
 slice-aggregate-lines : tie.Need-slice-aggregate-lines
 slice-aggregate-lines c = search needs
 
-slice-aggregate-lines-2 : tie.Need-slice-aggregate-lines-2
-slice-aggregate-lines-2 c = search needs
-
 lines-requires : tie.Need-lines-requires
 lines-requires c κs =
     let at-put = c .before .before .before .before .before .before .before in
@@ -71,7 +68,7 @@ returns c =
     let at-refused = c .before .before .before .before in
     let at-c = at-refused .before .before .before in
     let at-ask = at-c .before .before .before in
-    let a = at-ask .before .before .before .before .before .args in
+    let a = c .before .before .before .before .before .before .before .before .before .before .before .before .before .before .before .args in
     let put = at-refused .refused in
     let no = refused-listing (a .t .now) (sym (asked-count (a .t .now)) ∙ sym (at-ask .ask-by .ensures .answered) ∙ ap countedOf (at-c .c .given .1)) in
     subst (λ (s : List ℕ). Put (a .out .now) 0 s (put .last .0) (put .result)) no (put .ensures)
@@ -86,7 +83,7 @@ returns-2 c =
     let at-put = at-lines .before .before .before .before .before .before .before .before in
     let at-c2 = at-put .before .before .before .before in
     let at-ask = at-c2 .before .before .before in
-    let a = at-ask .before .before .before .before .before .args in
+    let a = c .before .before .before .before .before .before .before .before .before .before .before .before .before .before .before .before .before .before .before .before .before .before .before .args in
     let all = at-lines .lines in
     let p = at-ask .ask-by .ensures .prepared _ (at-c2 .c2 .given .1) in
     subst (λ (s : List ℕ). Put (a .out .now) 0 s (all .last .1 .1 .0) (all .result)) (read-listed _ (p .nodes) _ (p .reads) (p .count))
@@ -108,7 +105,6 @@ list-spec =
     put-requires
     say-requires-2
     slice-aggregate-lines
-    slice-aggregate-lines-2
     lines-requires
     same-length
     returns

@@ -14,18 +14,15 @@ blank-requires c κs = search needs
 slice-aggregate-solve : tie.Need-slice-aggregate-solve
 slice-aggregate-solve c = search needs
 
-slice-aggregate-solve-2 : tie.Need-slice-aggregate-solve-2
-slice-aggregate-solve-2 c = search needs
-
 solve-requires : tie.Need-solve-requires
-solve-requires c κs = (c .before .before .before .before .before .before .before .before .before .before .pre .0, (search needs, (c .before .before .before .before .before .blank .ensures .ready, sets-blank)))
+solve-requires c κs = (c .before .before .before .before .before .before .before .before .before .pre .0, (search needs, (c .before .before .before .before .before .blank .ensures .ready, sets-blank)))
 
 same-length : tie.Need-same-length
 same-length c = search needs
 
 returns : tie.Need-returns
-returns c = judged (c .before .before .before .before .before .before .before .before .before .before .before .literal .ensures) (c .before .before .before .solve .ensures .0)
+returns c = judged (c .before .before .before .before .before .before .before .before .before .before .literal .ensures) (c .before .before .solve .ensures .0)
 
 pub verdict-spec : {M : Type 1} → statement M
 verdict-spec =
-    tie.close (tie.spec literal-requires blank-requires slice-aggregate-solve slice-aggregate-solve-2 solve-requires same-length returns)
+    tie.close (tie.spec literal-requires blank-requires slice-aggregate-solve solve-requires same-length returns)

@@ -19,23 +19,17 @@ enum-told-2 c = search needs
 same-length : tie.Need-same-length
 same-length c = search needs
 
+returns : tie.Need-returns
+returns c =
+    let e = c .before .before .before .before .solve .ensures in
+    (byte-model (e .0) (c .enum-told .given .1), (e .0 .ready, e .1))
+
 same-length-2 : tie.Need-same-length-2
 same-length-2 c = search needs
 
-returns : tie.Need-returns
-returns c =
-    let e = c .before .before .before .before .before .before .solve .ensures in
-    (byte-model (e .0) (c .enum-told .given .1), (e .0 .ready, e .1))
-
-same-length-3 : tie.Need-same-length-3
-same-length-3 c = search needs
-
-same-length-4 : tie.Need-same-length-4
-same-length-4 c = search needs
-
 returns-2 : tie.Need-returns-2
 returns-2 c =
-    let e = c .before .before .before .before .before .before .solve .ensures in
+    let e = c .before .before .before .before .solve .ensures in
     (byte-closed (e .0) (c .enum-told2 .given .1), (e .0 .ready, e .1))
 
 pub byte-spec : {M : Type 1} → statement M
@@ -47,8 +41,6 @@ byte-spec =
     enum-told
     enum-told-2
     same-length
-    same-length-2
     returns
-    same-length-3
-    same-length-4
+    same-length-2
     returns-2)

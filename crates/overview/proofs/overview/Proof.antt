@@ -26,23 +26,20 @@ enum-known-a c = search needs
 enum-known-a-2 : tie.Need-enum-known-a-2
 enum-known-a-2 c = search needs
 
-slice-aggregate-put : tie.Need-slice-aggregate-put
-slice-aggregate-put c = search needs
-
 put-requires : tie.Need-put-requires
 put-requires c κs =
     let k = c .before .before .before .before .before .before .before in
-    let y = bytes (k .before .before .before .before .before .before) in
-    let a = k .before .before .before .before .before .before .before .args in
-    let p = by-row _ _ (a .answers .now) (a .work .now) y (k .before .before .list-row .ensures) (k .ask-within-by .ensures) .reached _ (c .before .before .before .before .a2 .given .1) in
+    let y = bytes (c .before .before .before .before .before .before .before .before .before .before .before .before .before) in
+    let a = c .before .before .before .before .before .before .before .before .before .before .before .before .before .before .args in
+    let p = by-row _ _ (a .answers .now) (a .work .now) y (c .before .before .before .before .before .before .before .before .before .list-row .ensures) (k .ask-within-by .ensures) .reached _ (c .before .before .before .before .a2 .given .1) in
     (p .indexed, (p .below, (p .admitted .work, room _ _ (a .answers .now) (a .work .now) y p)))
 
 returns : tie.Need-returns
 returns c =
     let k = c .before .before .before .before in
-    let y = bytes (k .before .before .before .before .before .before) in
-    let a = k .before .before .before .before .before .before .before .args in
-    refuses _ _ (a .answers .now) (a .work .now) y _ (by-row _ _ (a .answers .now) (a .work .now) y (k .before .before .list-row .ensures) (k .ask-within-by .ensures) .refuses _ (c .before .a .given .1))
+    let y = bytes (c .before .before .before .before .before .before .before .before .before .before) in
+    let a = c .before .before .before .before .before .before .before .before .before .before .before .args in
+    refuses _ _ (a .answers .now) (a .work .now) y _ (by-row _ _ (a .answers .now) (a .work .now) y (c .before .before .before .before .before .before .list-row .ensures) (k .ask-within-by .ensures) .refuses _ (c .before .a .given .1))
 
 same-length : tie.Need-same-length
 same-length c = search needs
@@ -54,9 +51,9 @@ returns-2 : tie.Need-returns-2
 returns-2 c =
     let v = c .before .before .before .before in
     let k = v .before .before .before .before .before .before .before .before in
-    let y = bytes (k .before .before .before .before .before .before) in
-    let a = k .before .before .before .before .before .before .before .args in
-    ends _ _ (a .answers .now) (a .work .now) y (by-row _ _ (a .answers .now) (a .work .now) y (k .before .before .list-row .ensures) (k .ask-within-by .ensures) .reached _ (v .before .before .before .before .before .a2 .given .1)) (v .put .ensures)
+    let y = bytes (c .before .before .before .before .before .before .before .before .before .before .before .before .before .before .before .before .before .before) in
+    let a = c .before .before .before .before .before .before .before .before .before .before .before .before .before .before .before .before .before .before .before .args in
+    ends _ _ (a .answers .now) (a .work .now) y (by-row _ _ (a .answers .now) (a .work .now) y (c .before .before .before .before .before .before .before .before .before .before .before .before .before .before .list-row .ensures) (k .ask-within-by .ensures) .reached _ (c .before .before .before .before .before .before .before .before .before .a2 .given .1)) (v .put .ensures)
 
 pub overview-spec : {M : Type 1} → statement M
 overview-spec =
@@ -67,7 +64,6 @@ overview-spec =
     ask-within-by-requires
     enum-known-a
     enum-known-a-2
-    slice-aggregate-put
     put-requires
     returns
     same-length

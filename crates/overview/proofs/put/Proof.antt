@@ -7,12 +7,9 @@ use Rattle.overview.proofs.put.Tie as tie
 blank-requires : tie.Need-blank-requires
 blank-requires c κs = search needs
 
-slice-aggregate-put-each : tie.Need-slice-aggregate-put-each
-slice-aggregate-put-each c = search needs
-
 put-each-requires : tie.Need-put-each-requires
 put-each-requires c κs =
-    let p = c .before .before .before .before .before .before .before .before .before .before .before .pre in
+    let p = c .before .before .before .before .before .before .before .before .before .before .pre in
     (p .0, (p .1 .0, ((c .before .before .before .before .before .blank .ensures .ready, sets-blank), p .1 .1 .1)))
 
 same-length : tie.Need-same-length
@@ -22,14 +19,13 @@ same-length-2 : tie.Need-same-length-2
 same-length-2 c = search needs
 
 returns : tie.Need-returns
-returns c = c .before .before .before .before .before .put-each .ensures
+returns c = c .before .before .before .before .put-each .ensures
 
 pub put-spec : {M : Type 1} → statement M
 put-spec =
     tie.close
     (tie.spec
     blank-requires
-    slice-aggregate-put-each
     put-each-requires
     same-length
     same-length-2

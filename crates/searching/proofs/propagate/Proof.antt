@@ -22,100 +22,86 @@ abbrev μ-loop : tie.MeasureT-loop
 
 loop-holds : tie.Need-loop-holds Inv-loop μ-loop
 loop-holds c =
-    let p = c .before .before .before .before .before .pre in
+    let p = c .before .before .pre in
     (rested-starts (p .1 .1 .0) (p .1 .1 .1 .0), p .1 .1 .1 .1)
 
 aim-requires : tie.Need-aim-requires Inv-loop μ-loop
 aim-requires c κs =
-    let at-loop = c .before .before in
-    let p = at-loop .before .before .before .before .before .before .pre in
+    let at-loop = c .before .before .before .before in
+    let p = at-loop .before .before .before .pre in
     let (r, L) = at-loop .loop .inv in
     (p .0, (p .1 .0, (r .run .holds, L .idle)))
 
 conclude-requires : tie.Need-conclude-requires Inv-loop μ-loop
 conclude-requires c κs =
-    let at-loop = c .before .before .before .before .before .before in
-    let p = at-loop .before .before .before .before .before .before .pre in
+    let at-loop = c .before .before .before .before .before .before .before .before .before .before in
+    let p = at-loop .before .before .before .pre in
     let (r, L) = at-loop .loop .inv in
-    let A = c .before .before .before .aim .ensures in
-    let f = aimed-none A (c .before .before .if1 .taken) in
+    let A = c .before .before .before .before .before .aim .ensures in
+    let f = aimed-none A (c .before .before .before .before .if1 .taken) in
     (p .0, (p .1 .0, (r .run .holds, (L .idle, f .1, L .none (f .0) (f .1)))))
 
 same-length : tie.Need-same-length Inv-loop μ-loop
 same-length c =
-    let at-loop = c .before .before .before .before .before .before .before .before .before in
+    let at-loop = c .before .before .before .before .before .before .before .before .before .before .before .before .before in
     c .before .before .conclude .kept .1 .1 .1 .0 ∙ at-loop .loop .inv .0 .run .size
-
-same-length-2 : tie.Need-same-length-2 Inv-loop μ-loop
-same-length-2 c = c .before .before .before .before .before .before .before .before .before .loop .inv .0 .run .sets
-
-same-length-3 : tie.Need-same-length-3 Inv-loop μ-loop
-same-length-3 c = c .before .before .before .before .before .before .before .before .before .loop .inv .0 .words
 
 returns : tie.Need-returns Inv-loop μ-loop
 returns c =
-    let at-loop = c .before .before .before .before .before .before .before .before .before in
+    let at-loop = c .before .before .before .before .before .before .before .before .before .before .before .before .before in
     let a = c .before .before .conclude in
     rested-concluded (at-loop .loop .inv .0) (a .result) (a .ensures) (a .kept .1 .1 .1 .0)
 
 slot-for-requires : tie.Need-slot-for-requires Inv-loop μ-loop
-slot-for-requires c κs = c .before .before .before .before .before .loop .inv .0 .run .holds .ready .size
+slot-for-requires c κs = c .before .before .before .before .before .before .before .loop .inv .0 .run .holds .ready .size
 
 put-clause-requires : tie.Need-put-clause-requires Inv-loop μ-loop
 put-clause-requires c κs =
-    let at-if1 = c .before .before .before .before in
-    let at-loop = at-if1 .before .before .before .before in
-    let p = at-loop .before .before .before .before .before .before .pre in
+    let at-loop = c .before .before .before .before .before .before .before .before .before .before .before in
+    let p = at-loop .before .before .before .pre in
     let (r, L) = at-loop .loop .inv in
     let H = r .run .holds in
-    (p .0, ((H .ready, H .numbered), aimed-grounded r (p .0 .few) (p .0 .table) (p .1 .0 .below) (p .1 .0) (L .picks) (at-if1 .before .aim .ensures) (at-if1 .if1 .left) (c .before .before .slot-for .ensures)))
+    (p .0, ((H .ready, H .numbered), aimed-grounded r (p .0 .few) (p .0 .table) (p .1 .0 .below) (p .1 .0) (L .picks) (c .before .before .before .before .before .before .aim .ensures) (c .before .before .before .before .before .if1 .left) (c .before .before .before .slot-for .ensures)))
 
-same-length-4 : tie.Need-same-length-4 Inv-loop μ-loop
-same-length-4 c = c .before .before .before .before .before .before .before .before .before .before .before .before .loop .inv .0 .run .size
-
-same-length-5 : tie.Need-same-length-5 Inv-loop μ-loop
-same-length-5 c = c .before .before .before .before .before .before .before .before .before .before .before .before .loop .inv .0 .run .sets
-
-same-length-6 : tie.Need-same-length-6 Inv-loop μ-loop
-same-length-6 c =
-    let at-loop = c .before .before .before .before .before .before .before .before .before .before .before .before in
-    c .before .before .before .put-clause .ensures .size ∙ at-loop .loop .inv .0 .words
+same-length-2 : tie.Need-same-length-2 Inv-loop μ-loop
+same-length-2 c = c .before .before .before .before .before .before .before .before .before .before .before .before .before .loop .inv .0 .run .size
 
 returns-2 : tie.Need-returns-2 Inv-loop μ-loop
 returns-2 c =
-    let at-if1 = c .before .before .before .before .before .before .before .before in
-    let at-loop = at-if1 .before .before .before .before in
-    let p = at-loop .before .before .before .before .before .before .pre in
+    let at-slot-for = c .before .before .before .before .before in
+    let at-if1 = at-slot-for .before .before in
+    let at-loop = at-if1 .before .before .before .before .before .before in
+    let p = at-loop .before .before .before .pre in
     let (r, L) = at-loop .loop .inv in
-    aimed-closed r (p .0 .few) (p .0 .table) (p .1 .0 .below) (p .1 .0) (L .picks) (at-if1 .before .aim .ensures) (at-if1 .if1 .left) (c .before .before .before .before .before .before .slot-for .ensures)
-    (c .before .before .before .put-clause .ensures) (c .if2 .taken)
+    aimed-closed r (p .0 .few) (p .0 .table) (p .1 .0 .below) (p .1 .0) (L .picks) (at-if1 .before .aim .ensures) (at-if1 .if1 .left) (at-slot-for .slot-for .ensures)
+    (c .before .put-clause .ensures) (c .if2 .taken)
 
 join-requires : tie.Need-join-requires Inv-loop μ-loop
 join-requires c κs =
-    let at-loop = c .before .before .before .before .before .before .before .before .before .before .before .before .before .before in
-    let p = at-loop .before .before .before .before .before .before .pre in
+    let at-loop = c .before .before .before .before .before .before .before .before .before .before .before .before .before .before .before .before in
+    let p = at-loop .before .before .before .pre in
     let (r, L) = at-loop .loop .inv in
-    (p .0, (p .1 .0, (r .run .holds, L .picks (c .before .before .if2 .left))))
+    (p .0, (p .1 .0, (r .run .holds, L .picks (c .before .before .before .if2 .left))))
 
 loop-less : tie.Need-loop-less Inv-loop μ-loop
 loop-less c =
-    let at-if2 = c .before .before .before .before .before .before .before in
-    let at-loop = at-if2 .before .before .before .before .before .before .before .before .before .before .before .before in
-    let p = at-loop .before .before .before .before .before .before .pre in
+    let at-loop = c .before .before .before .before .before .before .before .before .before .before .before .before .before .before .before .before .before .before .before in
+    let p = at-loop .before .before .before .pre in
     let (r, L) = at-loop .loop .inv in
-    let e = unit-on (p .0 .few) (p .1 .0) (r .run .holds) (L .picks (at-if2 .if2 .left)) .next in
-    omega (arith, run-room (r .run) (p .0 .table) (p .1 .0 .below) e, ap length (c .before .before .before .before .join .ensures .1 .0))
+    let e = unit-on (p .0 .few) (p .1 .0) (r .run .holds) (L .picks (c .before .before .before .before .before .before .if2 .left)) .next in
+    omega (arith, run-room (r .run) (p .0 .table) (p .1 .0 .below) e, ap length (c .before .before .join .ensures .1 .0))
 
 loop-again : tie.Need-loop-again Inv-loop μ-loop
 loop-again c =
-    let a = c .before .before .before .before .join in
-    let at-if2 = c .before .before .before .before .before .before .before in
-    let at-put-clause = at-if2 .before .before .before in
-    let at-if1 = at-put-clause .before .before .before .before .before in
-    let at-loop = at-if1 .before .before .before .before in
-    let p = at-loop .before .before .before .before .before .before .pre in
+    let a = c .before .before .join in
+    let at-if2 = c .before .before .before .before .before .before in
+    let at-put-clause = at-if2 .before in
+    let at-slot-for = at-put-clause .before .before .before .before in
+    let at-if1 = at-slot-for .before .before in
+    let at-loop = at-if1 .before .before .before .before .before .before in
+    let p = at-loop .before .before .before .pre in
     let (r, L) = at-loop .loop .inv in
-    let S = aimed-stepped r (p .0 .few) (p .0 .table) (p .1 .0 .below) (p .1 .0) (L .picks) (at-if1 .before .aim .ensures) (at-if1 .if1 .left) (at-put-clause .before .before .before .slot-for .ensures)
+    let S = aimed-stepped r (p .0 .few) (p .0 .table) (p .1 .0 .below) (p .1 .0) (L .picks) (at-if1 .before .aim .ensures) (at-if1 .if1 .left) (at-slot-for .slot-for .ensures)
     (at-put-clause .put-clause .ensures) (at-if2 .if2 .left) (a .ensures .0) (a .ensures .1 .0) in
     (rested-stepped r (p .0 .few) (p .0 .table) (p .1 .0 .below) S (a .kept .1 .1 .1 .0) (a .kept .1 .1 .1 .1 .0), a .ensures .1 .1)
 
@@ -129,15 +115,11 @@ propagate-spec =
     aim-requires
     conclude-requires
     same-length
-    same-length-2
-    same-length-3
     returns
     (λ c. search needs) (λ c. search needs)
     slot-for-requires
     put-clause-requires
-    same-length-4
-    same-length-5
-    same-length-6
+    same-length-2
     returns-2
     join-requires
     loop-less

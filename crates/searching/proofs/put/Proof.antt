@@ -14,14 +14,11 @@ slice-aggregate-from-start c = search needs
 
 from-start-requires : tie.Need-from-start-requires
 from-start-requires c κs =
-    let p = c .before .before .before .before .before .before .before .before .before .before .before .before .before .pre in
-    (p .0, (p .1 .0, (c .before .before .before .before .before .before .restart .ensures, p .1 .1 .1)))
+    let p = c .before .before .before .before .before .before .before .before .before .before .before .pre in
+    (p .0, (p .1 .0, c .before .before .before .before .before .restart .ensures))
 
 same-length : tie.Need-same-length
 same-length c = search needs
-
-same-length-2 : tie.Need-same-length-2
-same-length-2 c = search needs
 
 returns : tie.Need-returns
 returns c = search needs
@@ -35,5 +32,4 @@ put-spec =
     slice-aggregate-from-start
     from-start-requires
     same-length
-    same-length-2
     returns)

@@ -1,14 +1,14 @@
 -- `searching::solve` meets its contract: the search that jumps answers as the plain order does. Assumes nothing.
 use Rattle.searching.proofs.Jumps.{solved-plain}
-use mathlib.Core.Path.{refl, _∙_}
+use mathlib.Core.Path.{refl}
 use borrow.Author.Needs.{needs}
 use Rattle.searching.proofs.solve.Statement.{statement}
 use Rattle.searching.proofs.solve.Tie as tie
 
 put-requires : tie.Need-put-requires
 put-requires c κs =
-    let p = c .before .before .before .before .before .before .pre in
-    (p .0, (p .1 .0, (p .1 .1 .0, λ _. p .1 .1 .1)))
+    let p = c .before .before .before .before .pre in
+    (p .0, (p .1 .0, p .1 .1 .0))
 
 enum-told : tie.Need-enum-told
 enum-told c = search needs
@@ -19,41 +19,37 @@ enum-told-2 c = search needs
 enum-told-3 : tie.Need-enum-told-3
 enum-told-3 c = search needs
 
+go-on-requires : tie.Need-go-on-requires
+go-on-requires c κs =
+    let p = c .before .before .before .before .before .before .before .before .before .before .before .pre in
+    (p .0, (p .1 .0, (rw (c .before .before .enum-told3 .given .1) at (c .before .before .before .before .before .before .put .ensures), p .1 .1 .1)))
+
+verdict-requires : tie.Need-verdict-requires
+verdict-requires c κs = search needs
+
 same-length : tie.Need-same-length
 same-length c = search needs
+
+returns : tie.Need-returns
+returns c =
+    let p = c .before .before .before .before .before .before .before .before .before .pre in
+    (solved-plain (p .0 .table) (p .1 .0 .below) (rw (c .enum-told .given .1) at (c .before .before .before .before .put .ensures)) refl, p .1 .1 .1)
 
 same-length-2 : tie.Need-same-length-2
 same-length-2 c = search needs
 
-returns : tie.Need-returns
-returns c =
-    let p = c .before .before .before .before .before .before .before .before .before .before .before .before .before .pre in
-    let a = c .before .before .before .before .before .before .put in
-    (solved-plain (p .0 .table) (p .1 .0 .below) (rw (c .enum-told .given .1) at (a .ensures .0)) refl, a .ensures .1 (a .kept .1 .1 .1 .1 .0 ∙ p .1 .1 .1 .size))
+returns-2 : tie.Need-returns-2
+returns-2 c =
+    let p = c .before .before .before .before .before .before .before .before .before .pre in
+    (solved-plain (p .0 .table) (p .1 .0 .below) (rw (c .enum-told2 .given .1) at (c .before .before .before .before .put .ensures)) refl, p .1 .1 .1)
 
 same-length-3 : tie.Need-same-length-3
 same-length-3 c = search needs
 
-same-length-4 : tie.Need-same-length-4
-same-length-4 c = search needs
-
-returns-2 : tie.Need-returns-2
-returns-2 c =
-    let p = c .before .before .before .before .before .before .before .before .before .before .before .before .before .pre in
-    let a = c .before .before .before .before .before .before .put in
-    (solved-plain (p .0 .table) (p .1 .0 .below) (rw (c .enum-told2 .given .1) at (a .ensures .0)) refl, a .ensures .1 (a .kept .1 .1 .1 .1 .0 ∙ p .1 .1 .1 .size))
-
-same-length-5 : tie.Need-same-length-5
-same-length-5 c = search needs
-
-same-length-6 : tie.Need-same-length-6
-same-length-6 c = search needs
-
 returns-3 : tie.Need-returns-3
 returns-3 c =
-    let p = c .before .before .before .before .before .before .before .before .before .before .before .before .before .pre in
-    let z = rw (c .enum-told3 .given .1) at (c .before .before .before .before .before .before .put .ensures .0) in
-    absurd (z .0 (p .1 .1 .1 .size))
+    let p = c .before .before .before .before .before .before .before .before .before .before .before .before .before .before .before .pre in
+    (solved-plain (p .0 .table) (p .1 .0 .below) (c .before .before .before .go-on .ensures .0) (c .verdict .ensures), c .before .before .before .go-on .ensures .1)
 
 pub solve-spec : {M : Type 1} → statement M
 solve-spec =
@@ -63,12 +59,11 @@ solve-spec =
     enum-told
     enum-told-2
     enum-told-3
+    go-on-requires
+    verdict-requires
     same-length
-    same-length-2
     returns
-    same-length-3
-    same-length-4
+    same-length-2
     returns-2
-    same-length-5
-    same-length-6
+    same-length-3
     returns-3)

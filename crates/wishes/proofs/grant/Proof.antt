@@ -29,9 +29,6 @@ enum-known-a-2 c = search needs
 slice-aggregate-questions : tie.Need-slice-aggregate-questions
 slice-aggregate-questions c = search needs
 
-slice-aggregate-questions-2 : tie.Need-slice-aggregate-questions-2
-slice-aggregate-questions-2 c = search needs
-
 questions-requires : tie.Need-questions-requires
 questions-requires c κs =
     let k = c .before .before .before .before .before .before .before .before .before .ask in
@@ -68,7 +65,6 @@ grant-spec =
     enum-known-a
     enum-known-a-2
     slice-aggregate-questions
-    slice-aggregate-questions-2
     questions-requires
     returns
     same-length

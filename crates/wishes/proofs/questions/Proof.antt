@@ -10,12 +10,9 @@ use Rattle.wishes.proofs.questions.Tie as tie
 blank-requires : tie.Need-blank-requires
 blank-requires c κs = search needs
 
-slice-aggregate-solve : tie.Need-slice-aggregate-solve
-slice-aggregate-solve c = search needs
-
 solve-requires : tie.Need-solve-requires
 solve-requires c κs =
-    let p = c .before .before .before .before .before .before .before .before .before .before .before .before .pre in
+    let p = c .before .before .before .before .before .before .before .before .before .before .before .pre in
     (p .0, (p .1 .0 .goalsFit, (c .before .before .before .before .blank .ensures .ready, sets-blank)))
 
 enum-told : tie.Need-enum-told
@@ -26,27 +23,24 @@ enum-told-2 c = search needs
 
 set-points-requires : tie.Need-set-points-requires
 set-points-requires c κs =
-    let p = c .before .before .before .before .before .before .before .before .before .before .before .before .before .before .before .before .before .before .before .before .pre in
+    let p = c .before .before .before .before .before .before .before .before .before .before .before .before .before .before .before .before .before .before .before .pre in
     record { indexed = p .0; points = p .1 .1 .points; ready = c .before .before .before .before .before .before .before .solve .ensures .0 .ready; room = p .1 .1 .settings }
-
-slice-aggregate-spend : tie.Need-slice-aggregate-spend
-slice-aggregate-spend c = search needs
 
 spend-requires : tie.Need-spend-requires
 spend-requires c κs =
-    let p = c .before .before .before .before .before .before .before .before .before .before .before .before .before .before .before .before .before .before .before .before .before .before .before .before .before .before .pre in
+    let p = c .before .before .before .before .before .before .before .before .before .before .before .before .before .before .before .before .before .before .before .before .before .before .before .before .before .pre in
     (p .0, (walkable _ _ _ _ _ (p .1 .0) (c .before .before .before .before .before .before .before .before .before .before .before .before .before .solve .ensures .0 .ready), c .before .before .before .before .before .before .before .before .before .before .before .before .before .solve .ensures .1))
 
 stand-requires : tie.Need-stand-requires
 stand-requires c κs =
-    let p = c .before .before .before .before .before .before .before .before .before .before .before .before .before .before .before .before .before .before .before .before .before .before .before .before .before .before .before .before .before .before .before .before .before .before .pre in
+    let p = c .before .before .before .before .before .before .before .before .before .before .before .before .before .before .before .before .before .before .before .before .before .before .before .before .before .before .before .before .before .before .before .before .before .pre in
     record { indexed = p .0; points = p .1 .1 .points; ready = c .before .before .before .before .before .before .before .spend .ensures .ready; room = omega (arith, p .1 .1 .settings, c .before .before .before .before .before .before .before .before .before .before .before .before .before .set-points .kept .1 .1 .1 .0) }
 
 same-length : tie.Need-same-length
 same-length c = search needs
 
 returns : tie.Need-returns
-returns c = alone-impossible _ _ _ _ _ _ _ (rw (c .enum-told .given .1) at (c .before .before .before .before .before .solve .ensures .0))
+returns c = alone-impossible _ _ _ _ _ _ _ (rw (c .enum-told .given .1) at (c .before .before .before .before .solve .ensures .0))
 
 same-length-2 : tie.Need-same-length-2
 same-length-2 c = search needs
@@ -65,9 +59,9 @@ returns-2 : tie.Need-returns-2
 returns-2 c =
     let k1 = c .before .before .before .before .before .before .before .before .before .before in
     let k2 = k1 .before .before .before .before .before .before in
-    let k3 = k2 .before .before .before in
-    let k4 = k3 .before .before .before .before .before in
-    let k5 = k4 .before .before .before .before .before .before .before .before .before .before .before .before .before in
+    let k3 = k2 .before .before .before .before in
+    let k4 = k3 .before .before .before .before in
+    let k5 = k4 .before .before .before .before .before .before .before .before .before .before .before .before in
     granted-by _ _ _ _ _ _ _ (rw (k3 .enum-told2 .given .1) at (k4 .solve .ensures .0)) _ (k2 .set-points .ensures) _ (k5 .pre .1 .0) _ _ _ (k1 .spend .ensures) (c .before .before .stand .ensures)
 
 pub questions-spec : {M : Type 1} → statement M
@@ -75,12 +69,10 @@ questions-spec =
     tie.close
     (tie.spec
     blank-requires
-    slice-aggregate-solve
     solve-requires
     enum-told
     enum-told-2
     set-points-requires
-    slice-aggregate-spend
     spend-requires
     stand-requires
     same-length
