@@ -22,14 +22,14 @@ use Rattle.calculus.specs.Order.{tree, possible, answerOf, settingOf}
 use Rattle.calculus.specs.Model.{All, Table, Below, Goals, Good}
 use Rattle.calculus.specs.Agree.{Alike}
 use Rattle.calculus.specs.Decide.{nodesOf, searchOf, listRow, Admitted}
-use Rattle.calculus.proofs.Lists.{all-imply, all-zip}
+use Rattle.calculus.proofs.Lists.{all-zip}
 use Rattle.calculus.proofs.Literals.{all-member, good-below}
 use Rattle.calculus.proofs.Same.{search-alike, search-same}
 use Rattle.calculus.proofs.Search.{grown-whole}
 use Rattle.calculus.proofs.Asked.{list-met, by-fine}
 use Rattle.index.specs.Index.{indexSize, mostNodes, mostLiterals, indexNode, Codes, Classes}
 use Rattle.index.specs.Edges.{Edges}
-use Rattle.index.specs.Built.{Known, Built}
+use Rattle.index.specs.Built.{Built}
 use Rattle.index.specs.Marks.{bare, Earlier, Pruned}
 use Rattle.index.specs.Indexed.{Indexed}
 use Rattle.asking.specs.Asks.{Prepared}
@@ -65,20 +65,17 @@ module _ (t : List ℕ) {nodes : ℕ} (e : tableCount t ≡ answer nodes) where
     whole : Table nodes (nodesOf (nodesIn t nodes))
     whole = rw (size-in t nodes) at (table-of t (nodesIn t nodes) all nodes-read)
 
-    pub earlier-few : (m : ℕ) → m ≤ nodes → Earlier t m
-    earlier-few m l i h = rw (node-of i (omega arith)) at (whole .earlier i (omega arith))
-
     -- an index of the first m nodes may be built
-    pub buildable-few : (m : ℕ) → m ≤ nodes → (m ≤ mostNodes) × ((i : ℕ) → i < m → placeOf i + 8 ≤ length t) × Known (nodeAt t) m
+    pub buildable-few : (m : ℕ) → m ≤ nodes → (m ≤ mostNodes) × ((i : ℕ) → i < m → placeOf i + 8 ≤ length t) × Earlier t m
     buildable-few m l =
         let c = counted t e in (
           omega (arith, few),
           λ i h. record-within t all (c .0) i (omega (arith, c .1)),
-          λ i h. all-imply (λ k. k / 2 < i) (λ k. k / 2 < m) (λ k q. omega arith) (operands (nodeAt t i)) (earlier-few m l i h),
+          λ i h. rw (node-of i (omega arith)) at (whole .earlier i (omega arith)),
         )
 
     -- .. and of all
-    pub buildable : (nodes ≤ mostNodes) × ((m : ℕ) → m < nodes → placeOf m + 8 ≤ length t) × Known (nodeAt t) nodes
+    pub buildable : (nodes ≤ mostNodes) × ((m : ℕ) → m < nodes → placeOf m + 8 ≤ length t) × Earlier t nodes
     buildable = buildable-few nodes (omega arith)
 
     -- an index that has a node or a TRUE in its place

@@ -15,9 +15,9 @@ use Rattle.scope.proofs.Operands.{operands-two, operands-three}
 use Rattle.calculus.specs.Model.{All}
 use Rattle.index.specs.Index.{indexSize, mostNodes, firstAt, midAt, endAt, indexNode}
 use Rattle.index.specs.Edges.{midOf, endOf}
-use Rattle.index.specs.Built.{Same, Known, Agree, sum, is, pairsIn, threesIn, pairsTo, threesTo, Counted, raised, countTwo, countThree, countNode, Room, Blank}
+use Rattle.index.specs.Built.{Same, Early, Agree, sum, is, pairsIn, threesIn, pairsTo, threesTo, Counted, raised, countTwo, countThree, countNode, Room, Blank}
 use Rattle.index.proofs.Nodes.{node-same}
-use Rattle.index.proofs.Sums.{sum-next, is-own, is-other, total-low, pairs-part, threes-part, brings-none, brings-two, brings-three}
+use Rattle.index.proofs.Sums.{sum-next, is-own, is-other, total-low, pairs-part, threes-part, brings-none, brings-two, brings-three, early-known}
 
 -- the nodes stay where what is before the places does
 pub agree-same : {t : ℕ → Node} {n : ℕ} (x x′ : List ℕ) → n ≤ mostNodes → Same firstAt x x′ → Agree t n x → Agree t n x′
@@ -85,13 +85,13 @@ counted-by {t} {n} {u} {v} {x} few c y known = go (decLt (y .kind) 3) (decLt (y 
         (counted-as (λ m. omega (arith, brings-three y m k .0)) (λ m. omega (arith, brings-three y m k .1))
         (counted-three few (counted-three few (counted-three few c (y .a) (o .0)) (y .b) (o .1 .0)) (y .c) (o .1 .1 .0)))
 
-module _ {t : ℕ → Node} {n p : ℕ} {x : List ℕ} (few : n ≤ mostNodes) (known : Known t n) (h : p < n)
+module _ {t : ℕ → Node} {n p : ℕ} {x : List ℕ} (few : n ≤ mostNodes) (early : Early t n) (h : p < n)
     (c : Counted t n (pairsTo t p) (threesTo t p) x) where
   pub count-room : Room n (indexNode x p) x
   count-room = rw (c .nodes p h) record {
     size = c .size;
     few = few;
-    known = known p h;
+    known = early-known t n early p h;
     pairs = λ m b. omega (arith, c .mid m b, pairs-part t n p m h, total-low t n few m b);
     threes = λ m b. omega (arith, c .end m b, threes-part t n p m h, total-low t n few m b);
   }
@@ -99,7 +99,7 @@ module _ {t : ℕ → Node} {n p : ℕ} {x : List ℕ} (few : n ≤ mostNodes) (
   pub counted-more : Counted t n (pairsTo t (p + 1)) (threesTo t (p + 1)) (countNode x (indexNode x p))
   counted-more =
       rw (c .nodes p h)
-      (counted-as (λ m. sym (sum-next (λ q. pairsIn (t q) m) p)) (λ m. sym (sum-next (λ q. threesIn (t q) m) p)) (counted-by few c (t p) (known p h)))
+      (counted-as (λ m. sym (sum-next (λ q. pairsIn (t q) m) p)) (λ m. sym (sum-next (λ q. threesIn (t q) m) p)) (counted-by few c (t p) (early-known t n early p h)))
 
 -- what is before the counts is not changed
 pub count-same : (x : List ℕ) (y : Node) → Same midAt x (countNode x y)

@@ -13,17 +13,23 @@ use Rattle.scope.specs.Table.{operands, nodeAt}
 use Rattle.scope.proofs.Operands.{operands-none}
 use Rattle.calculus.specs.Model.{All, Below}
 use Rattle.calculus.proofs.Lists.{all-imply}
+use Rattle.index.specs.declared.Descent.{Descent}
 use Rattle.index.specs.Index.{indexSize, mostNodes, firstAt, midAt, endAt, indexNode}
 use Rattle.index.specs.Edges.{firstOf, midOf, endOf}
-use Rattle.index.specs.Built.{sum, pairsIn, threesIn, pairsTo, threesTo, Counted, countNode, Placing}
-use Rattle.index.specs.Marks.{bare, markAll, stored, placedAt, passed, startAfter, sunk, Fits, Earlier, Zeros}
+use Rattle.index.specs.Built.{Early, sum, pairsIn, threesIn, pairsTo, threesTo, Counted, countNode, Chain, Placing}
+use Rattle.index.specs.Marks.{bare, markAll, stored, placedAt, metAt, Wanted, passed, after, sunk, top, Fits, Over, Earlier, Zeros}
 use Rattle.index.proofs.Sums.{sum-zero, sum-same, sum-plus, node-four, brings-none, brings-nothing, early-none}
 use Rattle.index.proofs.Counts.{counted-by, count-same}
-use Rattle.index.proofs.Marks.{marks-kept, marks-stand, marks-other, stored-other, placed-other, placed-first, placed-mid, placed-end, marking, marking-size, marking-node, marking-places, Sinking, sinks-none, sinks-passed}
+use Rattle.index.proofs.Chains.{chain-none, chain-more, chain-over, chain-same}
+use Rattle.index.proofs.Marks.{sunk-bare, marks-kept, marks-stand, marks-other, stored-other, placed-other, placed-first, placed-mid, placed-end, marking, marking-size, marking-node, marking-places, Sinking, sinks-none, sinks-passed}
 
--- ---- what passing node p, which is then y, does to the places and the counts: s is where its edges may start, s′ where the next ones may
+-- ---- what passing node p, which is then y, does to the places and the counts
 
-pub record Moved (p s : ℕ) (y : Node) (x : List ℕ) (s′ : ℕ) (x′ : List ℕ) : Type 0 where
+-- it is in the chain, or left out
+abbrev Link : ℕ → Descent → Node → Descent → List ℕ → Type 0
+Link p d y d′ x′ = ((firstOf x′ p ≡ d .last) × (d′ .last ≡ p)) ⊎ ((y .kind < 3) × (firstOf x′ p ≡ midOf x′ p) × (d′ .last ≡ d .last))
+
+pub record Moved (p : ℕ) (d : Descent) (y : Node) (x : List ℕ) (d′ : Descent) (x′ : List ℕ) : Type 0 where
   pub node : indexNode x′ p ≡ y
   pub nodes : (m : ℕ) → p < m → m < mostNodes → indexNode x′ m ≡ indexNode x m
   -- nodes that are not met yet: what y brings is counted, where it is marked
@@ -31,12 +37,12 @@ pub record Moved (p s : ℕ) (y : Node) (x : List ℕ) (s′ : ℕ) (x′ : List
   pub mid-before : (m : ℕ) → m < p → midOf x′ m ≡ midOf x m + pairsIn y m
   pub end-before : (m : ℕ) → m < p → endOf x′ m ≡ endOf x m + threesIn y m
   pub marks : (m : ℕ) → m < p → getD x′ (4 * m) 0 ≡ 0 → (getD x (4 * m) 0 ≡ 0) × (pairsIn y m ≡ 0) × (threesIn y m ≡ 0)
-  -- the node itself: its places, from s on where it has edges
-  pub mid : midOf x′ p ≡ firstOf x′ p
-  pub end : endOf x′ p ≡ firstOf x′ p + midOf x p
-  pub start : 0 < midOf x p + endOf x p → firstOf x′ p ≡ s
-  pub low : firstOf x′ p ≤ s
-  pub next : s′ ≡ s + (midOf x p + endOf x p)
+  -- the node itself: its places, from the start on where it has edges
+  pub end : endOf x′ p ≡ midOf x′ p + midOf x p
+  pub start : 0 < midOf x p + endOf x p → midOf x′ p ≡ d .start
+  pub low : midOf x′ p ≤ d .start
+  pub next : d′ .start ≡ d .start + (midOf x p + endOf x p)
+  pub link : Link p d y d′ x′
   -- nodes that were met
   pub behind : (m : ℕ) → p < m → m < mostNodes → (firstOf x′ m ≡ firstOf x m) × (midOf x′ m ≡ midOf x m) × (endOf x′ m ≡ endOf x m)
 
@@ -46,20 +52,26 @@ pub record Moved (p s : ℕ) (y : Node) (x : List ℕ) (s′ : ℕ) (x′ : List
 abbrev counted : List ℕ → ℕ → ℕ
 counted x i = midOf x i + endOf x i
 
-pub fits-moved : {p s : ℕ} {y : Node} {x : List ℕ} {s′ : ℕ} {x′ : List ℕ} → Moved p s y x s′ x′ → Fits (suc p) s x → Fits p s′ x′
+fits-moved : {p : ℕ} {d : Descent} {y : Node} {x : List ℕ} {d′ : Descent} {x′ : List ℕ} → p < mostNodes → Moved p d y x d′ x′ → Fits (suc p) d x → Fits p d′ x′
 unfolding sum
-fits-moved {p} {s} {y} {x} {s′} {x′} M f =
+fits-moved {p} {d} {y} {x} {d′} {x′} few M f =
     let g : ℕ → ℕ = λ i. pairsIn y i + threesIn y i in
     let e : sum (counted x′) p ≡ sum (λ i. counted x i + g i) p = sum-same (counted x′) (λ i. counted x i + g i) p (λ i h. omega (arith, M .mid-before i h, M .end-before i h)) in
-    omega (arith, f, e, sum-plus (λ i. counted x i + g i) (counted x) g (λ i. refl) p, node-four y p, M .next)
+    (omega (arith, f .0, e, sum-plus (λ i. counted x i + g i) (counted x) g (λ i. refl) p, node-four y p, M .next), go (M .link))
+  where
+    go : Link p d y d′ x′ → d′ .last ≤ mostNodes
+    go (inl (e, l)) = omega (arith, l, few)
+    go (inr (b, e, l)) = omega (arith, l, f .1)
 
-fits-bare : (p s : ℕ) (x x′ : List ℕ) → ((m : ℕ) → m < p → (midOf x′ m ≡ midOf x m) × (endOf x′ m ≡ endOf x m)) → Fits (suc p) s x → Fits p s x′
+fits-bare : (p : ℕ) (d : Descent) (x : List ℕ) → p < mostNodes → Fits (suc p) d x → Fits p d (set x (4 * p) 1)
 unfolding sum
-fits-bare p s x x′ e f = omega (arith, f, sum-same (counted x′) (counted x) p (λ i h. omega (arith, e i h .0, e i h .1)))
+fits-bare p d x few f =
+    let other : (i : ℕ) → firstAt ≤ i → getD (set x (4 * p) 1) i 0 ≡ getD x i 0 = λ i h. getD-set-other x (4 * p) i 1 0 (λ q. omega (arith, q, h, few)) in
+    (omega (arith, f .0, sum-same (counted (set x (4 * p) 1)) (counted x) p (λ i h. omega (arith, other (midAt + i) (omega arith), other (endAt + i) (omega arith)))), f .1)
 
 -- ---- a node that is not marked
 
-module _ (x : List ℕ) (p s : ℕ) (few : p < mostNodes) (z : length x ≡ indexSize) where
+module _ (x : List ℕ) (p : ℕ) (d : Descent) (few : p < mostNodes) (z : length x ≡ indexSize) where
   abbrev x₀ : List ℕ
   x₀ = set x (4 * p) 1
 
@@ -70,7 +82,7 @@ module _ (x : List ℕ) (p s : ℕ) (few : p < mostNodes) (z : length x ≡ inde
   unfolding indexNode
   bare-kind = omega (arith, getD-set-same x (4 * p) 1 0 (omega arith))
 
-  moved-bare : firstOf x p ≡ 0 → midOf x p ≡ 0 → endOf x p ≡ 0 → Moved p s (indexNode x₀ p) x s x₀
+  moved-bare : firstOf x p ≡ 0 → midOf x p ≡ 0 → endOf x p ≡ 0 → Moved p d (indexNode x₀ p) x d x₀
   unfolding indexNode
   moved-bare a b c = record {
     node = refl;
@@ -79,11 +91,11 @@ module _ (x : List ℕ) (p s : ℕ) (few : p < mostNodes) (z : length x ≡ inde
     mid-before = λ m h. omega (arith, bare-places (midAt + m) (omega arith), brings-none (indexNode x₀ p) m bare-kind .0);
     end-before = λ m h. omega (arith, bare-places (endAt + m) (omega arith), brings-none (indexNode x₀ p) m bare-kind .1);
     marks = λ m h e. (sym (other (4 * m) (λ q. omega (arith, q))) ∙ e, brings-none (indexNode x₀ p) m bare-kind .0, brings-none (indexNode x₀ p) m bare-kind .1);
-    mid = omega (arith, bare-places (midAt + p) (omega arith), bare-places (firstAt + p) (omega arith), a, b);
-    end = omega (arith, bare-places (endAt + p) (omega arith), bare-places (firstAt + p) (omega arith), a, b, c);
+    end = omega (arith, bare-places (endAt + p) (omega arith), bare-places (midAt + p) (omega arith), b, c);
     start = λ h. absurd (omega (arith, h, b, c));
-    low = omega (arith, bare-places (firstAt + p) (omega arith), a);
+    low = omega (arith, bare-places (midAt + p) (omega arith), b);
     next = omega (arith, b, c);
+    link = inr (bare-kind, omega (arith, bare-places (midAt + p) (omega arith), bare-places (firstAt + p) (omega arith), a, b), refl);
     behind = λ m h l. (bare-places (firstAt + m) (omega arith), bare-places (midAt + m) (omega arith), bare-places (endAt + m) (omega arith));
   }
     where
@@ -92,12 +104,12 @@ module _ (x : List ℕ) (p s : ℕ) (few : p < mostNodes) (z : length x ≡ inde
 
 -- ---- a marked node
 
-module _ (t x : List ℕ) (s p : ℕ) (few : p < mostNodes) (z : length x ≡ indexSize) (a : All (λ l. l / 2 < p) (operands (nodeAt t p))) where
+module _ (t x : List ℕ) (d : Descent) (p : ℕ) (few : p < mostNodes) (z : length x ≡ indexSize) (a : All (λ l. l / 2 < p) (operands (nodeAt t p))) where
   abbrev y : Node
   y = nodeAt t p
 
   abbrev x₂ : List ℕ
-  x₂ = marking t x s p
+  x₂ = marking t x d p
 
   abbrev x₃ : List ℕ
   x₃ = countNode x₂ y
@@ -107,36 +119,36 @@ module _ (t x : List ℕ) (s p : ℕ) (few : p < mostNodes) (z : length x ≡ in
 
   -- what its edges raise
   raises : Counted (indexNode x₂) mostNodes (λ m. midOf x₂ m + pairsIn y m) (λ m. endOf x₂ m + threesIn y m) x₃
-  raises = counted-by (omega arith) record { size = marking-size t x s p few z a; nodes = λ m h. refl; mid = λ m h. refl; end = λ m h. refl } y low
+  raises = counted-by (omega arith) record { size = marking-size t x d p few z a; nodes = λ m h. refl; mid = λ m h. refl; end = λ m h. refl } y low
 
   -- .. is none of its own, nor of a later node
   brings : (m : ℕ) → p ≤ m → (pairsIn y m ≡ 0) × (threesIn y m ≡ 0)
   brings m h = brings-nothing y m (all-imply (λ l. l / 2 < p) (λ l. l / 2 ≡ m → ⊥) (λ l b e. omega (arith, b, e)) (operands y) a)
 
-  first-is : (m : ℕ) → m < mostNodes → firstOf x₃ m ≡ firstOf (placedAt x p s) m
-  first-is m h = count-same x₂ y (firstAt + m) (omega arith) ∙ marking-places t x s p few z a (firstAt + m) (omega arith)
+  first-is : (m : ℕ) → m < mostNodes → firstOf x₃ m ≡ firstOf (placedAt x p d) m
+  first-is m h = count-same x₂ y (firstAt + m) (omega arith) ∙ marking-places t x d p few z a (firstAt + m) (omega arith)
 
-  mid-is : (m : ℕ) → m < mostNodes → midOf x₃ m ≡ midOf (placedAt x p s) m + pairsIn y m
-  mid-is m h = omega (arith, raises .mid m h, marking-places t x s p few z a (midAt + m) (omega arith))
+  mid-is : (m : ℕ) → m < mostNodes → midOf x₃ m ≡ midOf (placedAt x p d) m + pairsIn y m
+  mid-is m h = omega (arith, raises .mid m h, marking-places t x d p few z a (midAt + m) (omega arith))
 
-  end-is : (m : ℕ) → m < mostNodes → endOf x₃ m ≡ endOf (placedAt x p s) m + threesIn y m
-  end-is m h = omega (arith, raises .end m h, marking-places t x s p few z a (endAt + m) (omega arith))
+  end-is : (m : ℕ) → m < mostNodes → endOf x₃ m ≡ endOf (placedAt x p d) m + threesIn y m
+  end-is m h = omega (arith, raises .end m h, marking-places t x d p few z a (endAt + m) (omega arith))
 
   -- another node's places
-  kept : (m : ℕ) → (m ≡ p → ⊥) → m < mostNodes → (firstOf (placedAt x p s) m ≡ firstOf x m) × (midOf (placedAt x p s) m ≡ midOf x m) × (endOf (placedAt x p s) m ≡ endOf x m)
-  kept m d h = (
-    placed-other x p s (firstAt + m) (λ q. d (omega (arith, q))) (λ q. omega (arith, q)) (λ q. omega (arith, q)),
-    placed-other x p s (midAt + m) (λ q. omega (arith, q)) (λ q. d (omega (arith, q))) (λ q. omega (arith, q)),
-    placed-other x p s (endAt + m) (λ q. omega (arith, q)) (λ q. omega (arith, q)) (λ q. d (omega (arith, q))),
+  kept : (m : ℕ) → (m ≡ p → ⊥) → m < mostNodes → (firstOf (placedAt x p d) m ≡ firstOf x m) × (midOf (placedAt x p d) m ≡ midOf x m) × (endOf (placedAt x p d) m ≡ endOf x m)
+  kept m e h = (
+    placed-other x p d (firstAt + m) (λ q. e (omega (arith, q))) (λ q. omega (arith, q)) (λ q. omega (arith, q)),
+    placed-other x p d (midAt + m) (λ q. omega (arith, q)) (λ q. e (omega (arith, q))) (λ q. omega (arith, q)),
+    placed-other x p d (endAt + m) (λ q. omega (arith, q)) (λ q. omega (arith, q)) (λ q. e (omega (arith, q))),
   )
 
   -- behind its own cells no number of a node has changed
   stays : (i : ℕ) → 4 * p + 4 ≤ i → i < firstAt → getD x₃ i 0 ≡ getD x i 0
   stays i h l =
       count-same x₂ y i (omega arith)
-      ∙ marks-other (stored (placedAt x p s) p y) (operands y) i (all-imply (λ l. l / 2 < p) _ (λ l b q. omega (arith, q, b)) (operands y) a)
-      ∙ stored-other (placedAt x p s) p y i (λ b c. omega arith)
-      ∙ placed-other x p s i (λ q. omega (arith, q)) (λ q. omega (arith, q)) (λ q. omega (arith, q))
+      ∙ marks-other (stored (placedAt x p d) p y) (operands y) i (all-imply (λ l. l / 2 < p) _ (λ l b q. omega (arith, q, b)) (operands y) a)
+      ∙ stored-other (placedAt x p d) p y i (λ b c. omega arith)
+      ∙ placed-other x p d i (λ q. omega (arith, q)) (λ q. omega (arith, q)) (λ q. omega (arith, q))
 
   node-stays : (m : ℕ) → p < m → m < mostNodes → indexNode x₃ m ≡ indexNode x m
   unfolding indexNode
@@ -145,38 +157,38 @@ module _ (t x : List ℕ) (s p : ℕ) (few : p < mostNodes) (z : length x ≡ in
   -- a node that is not marked was not, and is not one of its operands'
   unmarked : (m : ℕ) → m < p → getD x₃ (4 * m) 0 ≡ 0 → (getD x (4 * m) 0 ≡ 0) × (pairsIn y m ≡ 0) × (threesIn y m ≡ 0)
   unmarked m h e =
-      let w = stored (placedAt x p s) p y in
+      let w = stored (placedAt x p d) p y in
       let e₂ : getD x₂ (4 * m) 0 ≡ 0 = sym (count-same x₂ y (4 * m) (omega arith)) ∙ e in
       let z₁ : length w ≡ indexSize = marked-size in
       let n = brings-nothing y m (apart (operands y) (marks-stand w (operands y) z₁ low) e₂) in
       (go (ℕ-discrete (getD x (4 * m) 0) 0) z₁ e₂, n .0, n .1)
     where
-      marked-size : length (stored (placedAt x p s) p y) ≡ indexSize
+      marked-size : length (stored (placedAt x p d) p y) ≡ indexSize
       marked-size = simp length-set z
 
-      before : getD (stored (placedAt x p s) p y) (4 * m) 0 ≡ getD x (4 * m) 0
-      before = stored-other (placedAt x p s) p y (4 * m) (λ b c. omega arith) ∙ placed-other x p s (4 * m) (λ q. omega (arith, q)) (λ q. omega (arith, q)) (λ q. omega (arith, q))
+      before : getD (stored (placedAt x p d) p y) (4 * m) 0 ≡ getD x (4 * m) 0
+      before = stored-other (placedAt x p d) p y (4 * m) (λ b c. omega arith) ∙ placed-other x p d (4 * m) (λ q. omega (arith, q)) (λ q. omega (arith, q)) (λ q. omega (arith, q))
 
-      go : Dec (getD x (4 * m) 0 ≡ 0) → length (stored (placedAt x p s) p y) ≡ indexSize → getD x₂ (4 * m) 0 ≡ 0 → getD x (4 * m) 0 ≡ 0
-      go (yes d) q r = d
-      go (no d) q r = absurd (omega (arith, r, marks-kept (stored (placedAt x p s) p y) (operands y) (4 * m) q low (omega (arith, before, d))))
+      go : Dec (getD x (4 * m) 0 ≡ 0) → length (stored (placedAt x p d) p y) ≡ indexSize → getD x₂ (4 * m) 0 ≡ 0 → getD x (4 * m) 0 ≡ 0
+      go (yes e) q r = e
+      go (no e) q r = absurd (omega (arith, r, marks-kept (stored (placedAt x p d) p y) (operands y) (4 * m) q low (omega (arith, before, e))))
 
       apart : (ls : List ℕ) → All (λ l. 0 < getD x₂ (4 * (l / 2)) 0) ls → getD x₂ (4 * m) 0 ≡ 0 → All (λ l. l / 2 ≡ m → ⊥) ls
       apart ls b r = all-imply (λ l. 0 < getD x₂ (4 * (l / 2)) 0) (λ l. l / 2 ≡ m → ⊥) (λ l c q. omega (arith, ap (λ (i : ℕ). getD x₂ (4 * i) 0) q, r, c)) ls b
 
-  moved-node : Moved p s y x (s + (midOf x p + endOf x p)) x₃
+  moved-node : Moved p d y x (metAt x d p) x₃
   moved-node = record {
-    node = nodes-at ∙ marking-node t x s p few z a;
+    node = nodes-at ∙ marking-node t x d p few z a;
     nodes = node-stays;
     first-before = λ m h. first-is m (omega arith) ∙ kept m (λ q. omega (arith, q)) (omega arith) .0;
     mid-before = λ m h. omega (arith, mid-is m (omega arith), kept m (λ q. omega (arith, q)) (omega arith) .1);
     end-before = λ m h. omega (arith, end-is m (omega arith), kept m (λ q. omega (arith, q)) (omega arith) .2);
     marks = unmarked;
-    mid = omega (arith, mid-is p few, first-is p few, placed-mid x p s few z, placed-first x p s few z, brings p (omega arith) .0);
-    end = omega (arith, end-is p few, first-is p few, placed-end x p s few z, placed-first x p s few z, brings p (omega arith) .1);
-    start = λ h. first-is p few ∙ placed-first x p s few z;
-    low = omega (arith, first-is p few, placed-first x p s few z);
+    end = omega (arith, end-is p few, placed-end x p d few z, brings p (omega arith) .1, own);
+    start = λ h. own;
+    low = omega (arith, own);
     next = refl;
+    link = inl (first-is p few ∙ placed-first x p d few z, refl);
     behind = λ m h l.
         let k = kept m (λ q. omega (arith, q, h)) l in
         let b = brings m (omega (arith, h)) in
@@ -186,29 +198,32 @@ module _ (t x : List ℕ) (s p : ℕ) (few : p < mostNodes) (z : length x ≡ in
       nodes-at : indexNode x₃ p ≡ indexNode x₂ p
       nodes-at = raises .nodes p few
 
+      own : midOf x₃ p ≡ d .start
+      own = omega (arith, mid-is p few, placed-mid x p d few z, brings p (omega arith) .0)
+
 -- ---- on the way down, before node p - 1: the nodes from p on have their places, the edges from them are counted
 
 -- nodes that are those of x from p on, with operands of earlier nodes
 abbrev From : (ℕ → Node) → ℕ → ℕ → List ℕ → Type 0
-From u n p x = ((m : ℕ) → p ≤ m → m < n → u m ≡ indexNode x m) × ((m : ℕ) → m < n → All (λ l. l / 2 < m) (operands (u m)))
+From u n p x = ((m : ℕ) → p ≤ m → m < n → u m ≡ indexNode x m) × Early u n
 
 pub record Down (u : ℕ → Node) (n p s : ℕ) (x : List ℕ) : Type 0 where
   pub mid-left : (m : ℕ) → m < p → midOf x m + pairsTo u p m ≡ pairsTo u n m
   pub end-left : (m : ℕ) → m < p → endOf x m + threesTo u p m ≡ threesTo u n m
-  pub mid : (m : ℕ) → p ≤ m → m < n → midOf x m ≡ firstOf x m
-  pub end : (m : ℕ) → p ≤ m → m < n → endOf x m ≡ firstOf x m + pairsTo u n m
-  pub low : (m : ℕ) → p ≤ m → m < n → firstOf x m + (pairsTo u n m + threesTo u n m) ≤ s
+  pub end : (m : ℕ) → p ≤ m → m < n → endOf x m ≡ midOf x m + pairsTo u n m
+  pub low : (m : ℕ) → p ≤ m → m < n → midOf x m + (pairsTo u n m + threesTo u n m) ≤ s
   pub apart : (m d k e : ℕ) → p ≤ m → m < n → p ≤ k → k < n → (m ≡ k → ⊥) → d < pairsTo u n m + threesTo u n m → e < pairsTo u n k + threesTo u n k
-      → firstOf x m + d ≡ firstOf x k + e → ⊥
+      → midOf x m + d ≡ midOf x k + e → ⊥
 
-pub record Falling (n p s : ℕ) (x : List ℕ) : Type 0 where
-  pub fits : Fits p s x
+pub record Falling (n p : ℕ) (d : Descent) (x : List ℕ) : Type 0 where
+  pub fits : Fits p d x
   pub first : (m : ℕ) → m < p → firstOf x m ≡ 0
   pub blank : (m : ℕ) → m < p → getD x (4 * m) 0 ≡ 0 → (midOf x m ≡ 0) × (endOf x m ≡ 0)
-  pub edges : (u : ℕ → Node) → From u n p x → Down u n p s x
+  pub edges : (u : ℕ → Node) → From u n p x → Down u n p (d .start) x
+  pub chained : Chain (indexNode x) (midOf x) (firstOf x) n p (d .last)
 
-module _ {u : ℕ → Node} {n p s : ℕ} {y : Node} {x : List ℕ} {s′ : ℕ} {x′ : List ℕ} (few : n ≤ mostNodes) (h : p < n) (M : Moved p s y x s′ x′)
-    (f : From u n p x′) (D : Down u n (suc p) s x) where
+module _ {u : ℕ → Node} {n p : ℕ} {w : Descent} {y : Node} {x : List ℕ} {w′ : Descent} {x′ : List ℕ} (few : n ≤ mostNodes) (h : p < n) (M : Moved p w y x w′ x′)
+    (f : From u n p x′) (D : Down u n (suc p) (w .start) x) where
   is : u p ≡ y
   is = f .0 p (omega arith) h ∙ M .node
 
@@ -234,69 +249,91 @@ module _ {u : ℕ → Node} {n p s : ℕ} {y : Node} {x : List ℕ} {s′ : ℕ}
       go (yes e) = subst P (sym e) own
       go (no d) = later m (omega (arith, a, d)) b
 
-  new-apart : (d k e : ℕ) → p < k → k < n → d < pairsTo u n p + threesTo u n p → e < pairsTo u n k + threesTo u n k → firstOf x′ p + d ≡ firstOf x′ k + e → ⊥
+  new-apart : (d k e : ℕ) → p < k → k < n → d < pairsTo u n p + threesTo u n p → e < pairsTo u n k + threesTo u n k → midOf x′ p + d ≡ midOf x′ k + e → ⊥
   new-apart d k e a b l r q =
-      omega (arith, q, r, M .start (omega (arith, l, pairs-own, threes-own)), M .behind k a (omega arith) .0, D .low k (omega (arith, a)) b)
+      omega (arith, q, r, M .start (omega (arith, l, pairs-own, threes-own)), M .behind k a (omega arith) .1, D .low k (omega (arith, a)) b)
 
-  down : Down u n p s′ x′
+  down : Down u n p (w′ .start) x′
   down = record {
     mid-left = λ m l. omega (arith, M .mid-before m l, D .mid-left m (omega arith), pairs-next m);
     end-left = λ m l. omega (arith, M .end-before m l, D .end-left m (omega arith), threes-next m);
-    mid = from (λ m. midOf x′ m ≡ firstOf x′ m) (M .mid) (λ m a b. omega (arith, M .behind m a (omega arith), D .mid m (omega (arith, a)) b));
-    end = from (λ m. endOf x′ m ≡ firstOf x′ m + pairsTo u n m) (omega (arith, M .end, pairs-own)) (λ m a b. omega (arith, M .behind m a (omega arith), D .end m (omega (arith, a)) b));
-    low = from (λ m. firstOf x′ m + (pairsTo u n m + threesTo u n m) ≤ s′) (omega (arith, M .low, M .next, pairs-own, threes-own)) (λ m a b. omega (arith, M .behind m a (omega arith), D .low m (omega (arith, a)) b, M .next));
+    end = from (λ m. endOf x′ m ≡ midOf x′ m + pairsTo u n m) (omega (arith, M .end, pairs-own)) (λ m a b. omega (arith, M .behind m a (omega arith), D .end m (omega (arith, a)) b));
+    low = from (λ m. midOf x′ m + (pairsTo u n m + threesTo u n m) ≤ w′ .start) (omega (arith, M .low, M .next, pairs-own, threes-own)) (λ m a b. omega (arith, M .behind m a (omega arith), D .low m (omega (arith, a)) b, M .next));
     apart = λ m d k e a b a′ b′ c l r q. go m d k e a b a′ b′ c l r q (ℕ-discrete m p) (ℕ-discrete k p);
   }
     where
       go : (m d k e : ℕ) → p ≤ m → m < n → p ≤ k → k < n → (m ≡ k → ⊥) → d < pairsTo u n m + threesTo u n m → e < pairsTo u n k + threesTo u n k
-          → firstOf x′ m + d ≡ firstOf x′ k + e → Dec (m ≡ p) → Dec (k ≡ p) → ⊥
+          → midOf x′ m + d ≡ midOf x′ k + e → Dec (m ≡ p) → Dec (k ≡ p) → ⊥
       go m d k e a b a′ b′ c l r q (yes i) (yes j) = c (i ∙ sym j)
       go m d k e a b a′ b′ c l r q (yes i) (no j) =
-          new-apart d k e (omega (arith, a′, j)) b′ (subst (λ (i : ℕ). d < pairsTo u n i + threesTo u n i) i l) r (subst (λ (i : ℕ). firstOf x′ i + d ≡ firstOf x′ k + e) i q)
+          new-apart d k e (omega (arith, a′, j)) b′ (subst (λ (i : ℕ). d < pairsTo u n i + threesTo u n i) i l) r (subst (λ (i : ℕ). midOf x′ i + d ≡ midOf x′ k + e) i q)
       go m d k e a b a′ b′ c l r q (no i) (yes j) =
-          new-apart e m d (omega (arith, a, i)) b (subst (λ (i : ℕ). e < pairsTo u n i + threesTo u n i) j r) l (subst (λ (i : ℕ). firstOf x′ i + e ≡ firstOf x′ m + d) j (sym q))
+          new-apart e m d (omega (arith, a, i)) b (subst (λ (i : ℕ). e < pairsTo u n i + threesTo u n i) j r) l (subst (λ (i : ℕ). midOf x′ i + e ≡ midOf x′ m + d) j (sym q))
       go m d k e a b a′ b′ c l r q (no i) (no j) =
           D .apart m d k e (omega (arith, a, i)) b (omega (arith, a′, j)) b′ c l r
-          (omega (arith, q, M .behind m (omega (arith, a, i)) (omega arith) .0, M .behind k (omega (arith, a′, j)) (omega arith) .0))
+          (omega (arith, q, M .behind m (omega (arith, a, i)) (omega arith) .1, M .behind k (omega (arith, a′, j)) (omega arith) .1))
 
-falls-moved : {n p s : ℕ} {y : Node} {x : List ℕ} {s′ : ℕ} {x′ : List ℕ} → n ≤ mostNodes → p < n → Moved p s y x s′ x′ → Falling n (suc p) s x → Falling n p s′ x′
-falls-moved {n} {p} {s} {y} {x} {s′} {x′} few h M F = record {
-  fits = fits-moved M (F .fits);
+-- the chain goes on with node p, or leaves it out
+chain-moved : {n p : ℕ} {d : Descent} {y : Node} {x : List ℕ} {d′ : Descent} {x′ : List ℕ} → n ≤ mostNodes → p < n → Moved p d y x d′ x′
+    → Chain (indexNode x) (midOf x) (firstOf x) n (suc p) (d .last) → Chain (indexNode x′) (midOf x′) (firstOf x′) n p (d′ .last)
+chain-moved {n} {p} {d} {y} {x} {d′} {x′} few h M c = go (M .link)
+  where
+    kept : Chain (indexNode x′) (midOf x′) (firstOf x′) n (suc p) (d .last)
+    kept = chain-same (λ m a b.
+        let l = M .behind m a (omega (arith, b, few)) in
+        (M .nodes m a (omega (arith, b, few)), l .1, l .0)) c
+
+    go : Link p d y d′ x′ → Chain (indexNode x′) (midOf x′) (firstOf x′) n p (d′ .last)
+    go (inl (e, l)) = rw l (chain-more p h (rw e kept))
+    go (inr (b, e, l)) = rw l (chain-over (rw (M .node) b) e kept)
+
+falls-moved : {n p : ℕ} {d : Descent} {y : Node} {x : List ℕ} {d′ : Descent} {x′ : List ℕ} → n ≤ mostNodes → p < n → Moved p d y x d′ x′ → Falling n (suc p) d x → Falling n p d′ x′
+falls-moved {n} {p} {d} {y} {x} {d′} {x′} few h M F = record {
+  fits = fits-moved (omega (arith, h, few)) M (F .fits);
   first = λ m l. M .first-before m l ∙ F .first m (omega arith);
   blank = λ m l e.
       let k = M .marks m l e in
       let b = F .blank m (omega arith) (k .0) in
       (omega (arith, M .mid-before m l, b .0, k .1), omega (arith, M .end-before m l, b .1, k .2));
   edges = λ u f. down few h M f (F .edges u (λ m a b. f .0 m (omega (arith, a)) b ∙ M .nodes m a (omega (arith, b)), f .1));
+  chained = chain-moved few h M (F .chained);
 }
 
-module _ (t x : List ℕ) (s p : ℕ) (few : p < mostNodes) (z : length x ≡ indexSize) (a : All (λ l. l / 2 < p) (operands (nodeAt t p))) where
-  pub fits-passed : Fits (suc p) s x → Fits p (startAfter x s p) (passed t x s p)
-  unfolding passed startAfter
-  fits-passed f = go (ℕ-discrete (getD x (4 * p) 0) 0)
-    where
-      go : Dec (getD x (4 * p) 0 ≡ 0) → Fits p (startAfter x s p) (passed t x s p)
-      go (yes e) = rw (eq-eqb (getD x (4 * p) 0) 0 e)
-          (fits-bare p s x (set x (4 * p) 1) (λ m h. (bare-places x p s few z (midAt + m) (omega arith), bare-places x p s few z (endAt + m) (omega arith))) f)
-      go (no d) = rw (ne-eqb (getD x (4 * p) 0) 0 d) (fits-moved (moved-node t x s p few z a) f)
+module _ (t x : List ℕ) (d : Descent) (p : ℕ) (few : p < mostNodes) (z : length x ≡ indexSize) (a : All (λ l. l / 2 < p) (operands (nodeAt t p))) where
+  pub fits-passed : Wanted x p → Fits (suc p) d x → Fits p (after x d p) (passed t x d p)
+  unfolding passed after
+  fits-passed w f = rw (ne-eqb (getD x (4 * p) 0) 0 (λ q. omega (arith, q, w))) (fits-moved few (moved-node t x d p few z a) f)
 
-  falls-passed : {n : ℕ} → n ≤ mostNodes → p < n → Falling n (suc p) s x → Falling n p (startAfter x s p) (passed t x s p)
-  unfolding passed startAfter
+  falls-passed : {n : ℕ} → n ≤ mostNodes → p < n → Falling n (suc p) d x → Falling n p (after x d p) (passed t x d p)
+  unfolding passed after
   falls-passed {n} l h F = go (ℕ-discrete (getD x (4 * p) 0) 0)
     where
-      go : Dec (getD x (4 * p) 0 ≡ 0) → Falling n p (startAfter x s p) (passed t x s p)
+      go : Dec (getD x (4 * p) 0 ≡ 0) → Falling n p (after x d p) (passed t x d p)
       go (yes e) =
           let b = F .blank p (omega arith) e in
-          rw (eq-eqb (getD x (4 * p) 0) 0 e) (falls-moved l h (moved-bare x p s few z (F .first p (omega arith)) (b .0) (b .1)) F)
-      go (no d) = rw (ne-eqb (getD x (4 * p) 0) 0 d) (falls-moved l h (moved-node t x s p few z a) F)
+          rw (eq-eqb (getD x (4 * p) 0) 0 e) (falls-moved l h (moved-bare x p d few z (F .first p (omega arith)) (b .0) (b .1)) F)
+      go (no e) = rw (ne-eqb (getD x (4 * p) 0) 0 e) (falls-moved l h (moved-node t x d p few z a) F)
+
+-- nodes that are not marked are passed over
+pub over-none : (base end : ℕ) (x : List ℕ) → base ≤ end → length x ≡ indexSize → Over base end x end x
+over-none base end x h z = record { low = h; high = omega arith; size = z; same = λ t d. refl; fits = λ d f. f }
+
+pub over-more : (base end e : ℕ) (x₀ x : List ℕ) → e < mostNodes → base ≤ e → Over base end x₀ (suc e) x → getD x (4 * e) 0 ≡ 0 → Over base end x₀ e (set x (4 * e) 1)
+over-more base end e x₀ x few h O b = record {
+  low = h;
+  high = omega (arith, O .high);
+  size = length-set x (4 * e) 1 ∙ O .size;
+  same = λ t d. sunk-bare t x d e b ∙ O .same t d;
+  fits = λ d f. fits-bare e d x few (O .fits d f);
+}
 
 -- nothing is met
-pub fits-none : (n : ℕ) (x : List ℕ) → n ≤ mostNodes → ((i : ℕ) → firstAt ≤ i → i < indexSize → getD x i 0 ≡ 0) → Fits n 0 x
+pub fits-none : (n : ℕ) (x : List ℕ) → n ≤ mostNodes → ((i : ℕ) → firstAt ≤ i → i < indexSize → getD x i 0 ≡ 0) → Fits n (top n) x
 fits-none n x few none =
     let e : sum (counted x) n ≡ sum (λ i. 0) n = sum-same (counted x) (λ i. 0) n (λ i h. omega (arith, none (midAt + i) (omega arith) (omega (arith, h, few)), none (endAt + i) (omega arith) (omega (arith, h, few)))) in
-    omega (arith, e, sum-zero (λ i. 0) (λ i. refl) n)
+    (omega (arith, e, sum-zero (λ i. 0) (λ i. refl) n), few)
 
-falls-none : (n : ℕ) (x : List ℕ) → n ≤ mostNodes → ((i : ℕ) → firstAt ≤ i → i < indexSize → getD x i 0 ≡ 0) → Falling n n 0 x
+falls-none : (n : ℕ) (x : List ℕ) → n ≤ mostNodes → ((i : ℕ) → firstAt ≤ i → i < indexSize → getD x i 0 ≡ 0) → Falling n n (top n) x
 falls-none n x few none = record {
   fits = fits-none n x few none;
   first = λ m h. none (firstAt + m) (omega arith) (omega (arith, h, few));
@@ -304,60 +341,62 @@ falls-none n x few none = record {
   edges = λ u f. record {
     mid-left = λ m h. omega (arith, none (midAt + m) (omega arith) (omega (arith, h, few)));
     end-left = λ m h. omega (arith, none (endAt + m) (omega arith) (omega (arith, h, few)));
-    mid = λ m a h. absurd (omega (arith, a, h));
     end = λ m a h. absurd (omega (arith, a, h));
     low = λ m a h. absurd (omega (arith, a, h));
     apart = λ m d k e a h. absurd (omega (arith, a, h));
   };
+  chained = chain-none;
 }
 
 -- ---- all are met
 
 -- the nodes are there, and their edges have places
-pub record Sunk (t ls : List ℕ) (n : ℕ) (x : List ℕ) : Type 0 where
-  pub sinking : Sinking t ls n 0 x
-  pub start : ℕ
-  pub falling : Falling n 0 start x
+record Sunk (t ls : List ℕ) (n : ℕ) (r : List ℕ × Descent) : Type 0 where
+  sinking : Sinking t ls n 0 (r .0)
+  falling : Falling n 0 (r .1) (r .0)
 
-sinks : (t ls : List ℕ) (n p s : ℕ) (x : List ℕ) → n ≤ mostNodes → p ≤ n → Earlier t n → Sinking t ls n p x → Falling n p s x → Sunk t ls n (sunk t x s p)
+sinks : (t ls : List ℕ) (n p : ℕ) (d : Descent) (x : List ℕ) → n ≤ mostNodes → p ≤ n → Earlier t n → Sinking t ls n p x → Falling n p d x → Sunk t ls n (sunk t x d p)
 unfolding sunk
-sinks t ls n zero s x few h a S F = record { sinking = S; start = s; falling = F }
-sinks t ls n (suc p) s x few h a S F =
-    sinks t ls n p (startAfter x s p) (passed t x s p) few (omega arith) a (sinks-passed t ls n p s x S few (omega arith) (a p (omega arith)))
-    (falls-passed t x s p (omega arith) (S .size) (a p (omega arith)) few (omega arith) F)
+sinks t ls n zero d x few h a S F = record { sinking = S; falling = F }
+sinks t ls n (suc p) d x few h a S F =
+    sinks t ls n p (after x d p) (passed t x d p) few (omega arith) a (sinks-passed t ls n p d x S few (omega arith) (a p (omega arith)))
+    (falls-passed t x d p (omega arith) (S .size) (a p (omega arith)) few (omega arith) F)
 
 -- marks are before the places
 pub marks-zeros : (n : ℕ) (x ls : List ℕ) → n ≤ mostNodes → Below n ls → Zeros x → (i : ℕ) → firstAt ≤ i → i < indexSize → getD (markAll x ls) i 0 ≡ 0
 marks-zeros n x ls few b none i h l = marks-other x ls i (all-imply (λ l. l < 2 * n) _ (λ l c q. omega (arith, q, c, few, h)) ls b) ∙ none i l
 
-pub sinks-whole : (t ls : List ℕ) (n : ℕ) (x x₁ x₂ : List ℕ) → n ≤ mostNodes → Earlier t n → Below n ls → length x ≡ indexSize → Zeros x
-    → x₁ ≡ markAll x ls → x₂ ≡ sunk t x₁ 0 n → Sunk t ls n x₂
-sinks-whole t ls n x x₁ x₂ few a b z none e f =
-    rw (f, e) (sinks t ls n n 0 (markAll x ls) few (omega arith) a (sinks-none t ls n x few b z none) (falls-none n (markAll x ls) few (marks-zeros n x ls few b none)))
-
 -- operands are of earlier nodes
-sunk-early : (t ls : List ℕ) (n : ℕ) (x : List ℕ) → Earlier t n → Sinking t ls n 0 x → (m : ℕ) → m < n → All (λ l. l / 2 < m) (operands (indexNode x m))
+sunk-early : (t ls : List ℕ) (n : ℕ) (x : List ℕ) → Earlier t n → Sinking t ls n 0 x → Early (indexNode x) n
 sunk-early t ls n x a S m h = go (S .nodes m (omega arith) h)
   where
     go : (indexNode x m ≡ nodeAt t m) ⊎ (indexNode x m ≡ bare) → All (λ l. l / 2 < m) (operands (indexNode x m))
     go (inl e) = rw e (a m h)
     go (inr e) = rw (e, operands-none bare (omega arith)) tt
 
-pub sunk-placing : (t ls : List ℕ) (n : ℕ) (x : List ℕ) → Earlier t n → Sunk t ls n x → Placing n x
+sunk-placing : (t ls : List ℕ) (n : ℕ) (r : List ℕ × Descent) → Earlier t n → Sunk t ls n r → Placing (r .1 .last) n (r .0)
 unfolding sum
-sunk-placing t ls n x a S =
+sunk-placing t ls n (x, d) a S =
     let F = S .falling in
-    let D = F .edges (indexNode x) (λ m b h. refl, sunk-early t ls n x a (S .sinking)) in (
+    let early = sunk-early t ls n x a (S .sinking) in
+    let D = F .edges (indexNode x) (λ m b h. refl, early) in (
       indexNode x,
-      (λ m h. all-imply (λ l. l / 2 < m) (λ l. l / 2 < n) (λ l b. omega (arith, b, h)) (operands (indexNode x m)) (sunk-early t ls n x a (S .sinking) m h)),
+      early,
       record {
         size = S .sinking .size;
         nodes = λ m h. refl;
         starts = record {
-          low = λ m h. omega (arith, D .low m (omega arith) h, F .fits);
+          low = λ m h. omega (arith, D .low m (omega arith) h, F .fits .0);
           apart = λ m d k e h b. D .apart m d k e (omega arith) h (omega arith) b;
         };
-        mid = λ m h. D .mid m (omega arith) h;
         end = λ m h. D .end m (omega arith) h;
+        chained = F .chained;
       },
     )
+
+pub sinks-whole : (t ls : List ℕ) (n : ℕ) (x x₁ x₂ : List ℕ) (head : ℕ) → n ≤ mostNodes → Earlier t n → Below n ls → length x ≡ indexSize → Zeros x
+    → x₁ ≡ markAll x ls → x₂ ≡ sunk t x₁ (top n) n .0 → head ≡ sunk t x₁ (top n) n .1 .last → Sinking t ls n 0 x₂ × Placing head n x₂
+sinks-whole t ls n x x₁ x₂ head few a b z none e f g =
+    let y = markAll x ls in
+    let S = sinks t ls n n (top n) y few (omega arith) a (sinks-none t ls n x few b z none) (falls-none n y few (marks-zeros n x ls few b none)) in
+    rw (f, g, e) (S .sinking, sunk-placing t ls n (sunk t y (top n) n) a S)

@@ -2,14 +2,14 @@
 use mathlib.Core.Path.{_≡_, refl, sym, ap, _∙_, fun-ext, subst}
 use mathlib.Core.Logic.{_⊎_, inl, inr, ⊎-elim}
 use mathlib.Core.List.{List}
-use Prim.Native.Nat.{ℕ, _+_, _-_, _*_, _/_, _%_, _<_, _≤_}
+use Prim.Native.Nat.{ℕ, _+_, _*_, _/_, _%_, _<_, _≤_}
 use native.Mathlib.Omega.{arith}
 use native.Mathlib.Decide.{ℕ-discrete, decLt}
 use lib.ListN.{length, getD, set, length-set}
 use lib.Seq.{getD-set-same, getD-set-other}
 use Rattle.scope.specs.declared.Node.{Node}
 use Rattle.index.specs.Index.{indexSize, mostNodes, mostEdges, firstAt, midAt, endAt, edgesAt}
-use Rattle.index.specs.Edges.{firstOf, midOf, endOf, edgeAt, parentOf, typeOf, otherOf, Pair, Triple}
+use Rattle.index.specs.Edges.{midOf, endOf, edgeAt, parentOf, typeOf, otherOf, Pair, Triple}
 use Rattle.index.specs.Built.{Agree, is, pairsTo, threesTo, Starts}
 use Rattle.index.proofs.Sums.{is-own}
 use Rattle.index.proofs.Counts.{agree-same, each}
@@ -28,7 +28,6 @@ pub record Filled (t : ℕ → Node) (n : ℕ) (S u v : ℕ → ℕ) (D : ℕ �
   pub even : (m : ℕ) → u m % 2 ≡ 0
   pub pairs-few : (m : ℕ) → m < n → u m ≤ pairsTo t n m
   pub threes-few : (m : ℕ) → m < n → v m ≤ threesTo t n m
-  pub first : (m : ℕ) → m < n → firstOf x m ≡ S m
   pub mid : (m : ℕ) → m < n → midOf x m ≡ S m + u m
   pub end : (m : ℕ) → m < n → endOf x m ≡ S m + (pairsTo t n m + v m)
   pub pairs : (m j : ℕ) → m < n → 2 * j < u m
@@ -47,13 +46,39 @@ filled-as {t} {n} {S} {u} {v} {u′} {v′} {D} {E} {x} e f g F =
       even = F .even;
       pairs-few = F .pairs-few;
       threes-few = F .threes-few;
-      first = F .first;
       mid = F .mid;
       end = F .end;
       pairs = F .pairs;
       threes = F .threes;
       has = λ m q h d. F .has m q h (g m q h d);
     })
+
+-- no first place counts
+pub filled-first : {t : ℕ → Node} {n : ℕ} {S u v : ℕ → ℕ} {D : ℕ → ℕ → Type 0} {x : List ℕ} → n ≤ mostNodes → (p w : ℕ) → p < n
+    → Filled t n S u v D x → Filled t n S u v D (set x (firstAt + p) w)
+filled-first {t} {n} {S} {u} {v} {D} {x} few p w h F = record {
+  size = length-set x (firstAt + p) w ∙ F .size;
+  nodes = agree-same x _ few (λ i b. other i (λ q. omega (arith, q))) (F .nodes);
+  starts = F .starts;
+  even = F .even;
+  pairs-few = F .pairs-few;
+  threes-few = F .threes-few;
+  mid = λ m b. other (midAt + m) (λ q. omega (arith, q)) ∙ F .mid m b;
+  end = λ m b. other (endAt + m) (λ q. omega (arith, q)) ∙ F .end m b;
+  pairs = λ m j b c. rw (edge (S m + 2 * j), edge (S m + 2 * j + 1)) (F .pairs m j b c);
+  threes = λ m j b c. rw (edge (S m + (pairsTo t n m + j))) (F .threes m j b c);
+  has = λ m q b d. old m q (F .has m q b d);
+}
+  where
+    other : (i : ℕ) → (i ≡ firstAt + p → ⊥) → getD (set x (firstAt + p) w) i 0 ≡ getD x i 0
+    other i d = getD-set-other x (firstAt + p) i w 0 d
+
+    edge : (k : ℕ) → edgeAt (set x (firstAt + p) w) k ≡ edgeAt x k
+    edge k = other (edgesAt + k) (λ q. omega (arith, q))
+
+    old : (m q : ℕ) → Has t n S u v x m q → Has t n S u v (set x (firstAt + p) w) m q
+    old m q (inl (j, c, z)) = inl (j, c, ap (_% 2048) (edge (S m + 2 * j)) ∙ z)
+    old m q (inr (j, c, z)) = inr (j, c, edge (S m + (pairsTo t n m + j)) ∙ z)
 
 module _ {t : ℕ → Node} {n : ℕ} {S u v : ℕ → ℕ} {D : ℕ → ℕ → Type 0} {x : List ℕ} (few : n ≤ mostNodes) (F : Filled t n S u v D x)
     (p l : ℕ) (h : l / 2 < n) where
@@ -150,7 +175,6 @@ module _ {t : ℕ → Node} {n : ℕ} {S u v : ℕ → ℕ} {D : ℕ → ℕ →
       even = λ m. omega (arith, F .even m);
       pairs-few = each l (λ m w. m < n → u m + 2 * w ≤ L m) (λ b. room) (λ m d b. omega (arith, F .pairs-few m b));
       threes-few = F .threes-few;
-      first = λ m b. elsewhere (firstAt + m) (λ q. omega (arith, q)) (λ q. omega (arith, q)) (λ q. omega (arith, q)) ∙ F .first m b;
       mid =
           each l (λ m w. m < n → midOf x₃ m ≡ S m + (u m + 2 * w)) (λ b. new-mid ∙ omega (arith, k-is))
           (λ m d b. elsewhere (midAt + m) (λ q. d (omega (arith, q))) (λ q. omega (arith, q)) (λ q. omega (arith, q)) ∙ omega (arith, F .mid m b));
@@ -233,7 +257,6 @@ module _ {t : ℕ → Node} {n : ℕ} {S u v : ℕ → ℕ} {D : ℕ → ℕ →
       even = F .even;
       pairs-few = F .pairs-few;
       threes-few = each l (λ m w. m < n → v m + w ≤ W m) (λ b. room) (λ m d b. omega (arith, F .threes-few m b));
-      first = λ m b. besides (firstAt + m) (λ q. omega (arith, q)) (λ q. omega (arith, q)) ∙ F .first m b;
       mid = λ m b. besides (midAt + m) (λ q. omega (arith, q)) (λ q. omega (arith, q)) ∙ F .mid m b;
       end =
           each l (λ m w. m < n → endOf z₂ m ≡ S m + (L m + (v m + w))) (λ b. new-end ∙ omega (arith, c-is))

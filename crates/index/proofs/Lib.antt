@@ -6,5 +6,6 @@ pub mod Counts
 pub mod Rooms
 pub mod Fills
 pub mod Wholes
+pub mod Chains
 pub mod Marks
 pub mod Falls

@@ -2,11 +2,9 @@
 use mathlib.Core.Path.{_≡_, refl, ap, _∙_}
 use mathlib.Core.Logic.{_⊎_, inl, inr}
 use mathlib.Core.List.{List, [], _∷_}
-use mathlib.Core.Bool.{Bool, true, false, cond}
 use Prim.Native.Nat.{ℕ, suc, _+_, _*_, _/_, _%_, _<_, _≤_}
 use native.Mathlib.Omega.{arith}
 use native.Mathlib.Decide.{ℕ-discrete}
-use lib.Dec.{eqb}
 use lib.ListN.{length, getD, set, drop, length-set, drop-of-length-le}
 use lib.Seq.{getD-set-same, getD-set-other, drop-cons}
 use borrow.Author.Tests.{eq-eqb, ne-eqb}
@@ -16,11 +14,12 @@ use Rattle.scope.proofs.Operands.{operands-none, operands-two, operands-three, 
 use Rattle.calculus.specs.Model.{All, Below}
 use Rattle.calculus.specs.Agree.{Alike}
 use Rattle.calculus.proofs.Lists.{all-imply}
+use Rattle.index.specs.declared.Descent.{Descent}
 use Rattle.index.specs.Codes.{codesSize, classesSize}
 use Rattle.index.specs.Index.{indexSize, mostNodes, mostEdges, firstAt, midAt, endAt, indexNode}
 use Rattle.index.specs.Edges.{firstOf, midOf, endOf}
 use Rattle.index.specs.Built.{Same, countNode, Room, Linked, Copied, Classified}
-use Rattle.index.specs.Marks.{bare, marked, markAll, stored, placedAt, passed, startAfter, sunk, Fits, Zeros, Pruned}
+use Rattle.index.specs.Marks.{bare, marked, markAll, stored, placedAt, metAt, Wanted, passed, after, sunk, Fits, Zeros, Pruned}
 use Rattle.index.proofs.Nodes.{node-same}
 use Rattle.index.proofs.Sums.{sum-part, brings-four}
 use Rattle.index.proofs.Counts.{count-size, count-same}
@@ -161,64 +160,66 @@ module _ (x : List ℕ) (m : ℕ) (y : Node) where
 
 -- ---- a node gets its places
 
-module _ (x : List ℕ) (p s : ℕ) where
+module _ (x : List ℕ) (p : ℕ) (d : Descent) where
   abbrev z₁ : List ℕ
-  z₁ = set x (firstAt + p) s
+  z₁ = set x (firstAt + p) (d .last)
 
   abbrev z₂ : List ℕ
-  z₂ = set z₁ (midAt + p) s
+  z₂ = set z₁ (midAt + p) (d .start)
 
-  pub placed-size : length (placedAt x p s) ≡ length x
+  pub placed-size : length (placedAt x p d) ≡ length x
   placed-size = simp length-set refl
 
-  pub placed-other : (i : ℕ) → (i ≡ firstAt + p → ⊥) → (i ≡ midAt + p → ⊥) → (i ≡ endAt + p → ⊥) → getD (placedAt x p s) i 0 ≡ getD x i 0
-  placed-other i a b c = getD-set-other z₂ (endAt + p) i _ 0 c ∙ getD-set-other z₁ (midAt + p) i s 0 b ∙ getD-set-other x (firstAt + p) i s 0 a
+  pub placed-other : (i : ℕ) → (i ≡ firstAt + p → ⊥) → (i ≡ midAt + p → ⊥) → (i ≡ endAt + p → ⊥) → getD (placedAt x p d) i 0 ≡ getD x i 0
+  placed-other i a b c = getD-set-other z₂ (endAt + p) i _ 0 c ∙ getD-set-other z₁ (midAt + p) i (d .start) 0 b ∙ getD-set-other x (firstAt + p) i (d .last) 0 a
 
-  pub placed-same : Same firstAt x (placedAt x p s)
+  pub placed-same : Same firstAt x (placedAt x p d)
   placed-same i h = placed-other i (λ q. omega (arith, q)) (λ q. omega (arith, q)) (λ q. omega (arith, q))
 
   module _ (h : p < mostNodes) (z : length x ≡ indexSize) where
-    pub placed-first : firstOf (placedAt x p s) p ≡ s
+    pub placed-first : firstOf (placedAt x p d) p ≡ d .last
     placed-first =
-        getD-set-other z₂ (endAt + p) (firstAt + p) _ 0 (λ q. omega (arith, q)) ∙ getD-set-other z₁ (midAt + p) (firstAt + p) s 0 (λ q. omega (arith, q))
-        ∙ getD-set-same x (firstAt + p) s 0 (omega arith)
+        getD-set-other z₂ (endAt + p) (firstAt + p) _ 0 (λ q. omega (arith, q)) ∙ getD-set-other z₁ (midAt + p) (firstAt + p) (d .start) 0 (λ q. omega (arith, q))
+        ∙ getD-set-same x (firstAt + p) (d .last) 0 (omega arith)
 
-    pub placed-mid : midOf (placedAt x p s) p ≡ s
-    placed-mid = getD-set-other z₂ (endAt + p) (midAt + p) _ 0 (λ q. omega (arith, q)) ∙ getD-set-same z₁ (midAt + p) s 0 (simp length-set (omega arith))
+    pub placed-mid : midOf (placedAt x p d) p ≡ d .start
+    placed-mid = getD-set-other z₂ (endAt + p) (midAt + p) _ 0 (λ q. omega (arith, q)) ∙ getD-set-same z₁ (midAt + p) (d .start) 0 (simp length-set (omega arith))
 
-    pub placed-end : endOf (placedAt x p s) p ≡ s + midOf x p
+    pub placed-end : endOf (placedAt x p d) p ≡ d .start + midOf x p
     placed-end = getD-set-same z₂ (endAt + p) _ 0 (simp length-set (omega arith))
 
 -- ---- a node is passed
 
-module _ (t x : List ℕ) (s p : ℕ) where
-  pub passed-bare : getD x (4 * p) 0 ≡ 0 → (set x (4 * p) 1 ≡ passed t x s p) × (s ≡ startAfter x s p)
-  unfolding passed startAfter
-  passed-bare e = (rw (eq-eqb (getD x (4 * p) 0) 0 e), rw (eq-eqb (getD x (4 * p) 0) 0 e))
+module _ (t x : List ℕ) (d : Descent) (p : ℕ) where
+  pub sunk-bare : getD x (4 * p) 0 ≡ 0 → sunk t (set x (4 * p) 1) d p ≡ sunk t x d (suc p)
+  unfolding sunk passed after
+  sunk-bare e = rw (eq-eqb (getD x (4 * p) 0) 0 e)
 
   -- a marked node has its places, is loaded, and has marked its operands'
   abbrev pub loaded : List ℕ
-  loaded = stored (placedAt x p s) p (nodeAt t p)
+  loaded = stored (placedAt x p d) p (nodeAt t p)
 
   abbrev pub marking : List ℕ
   marking = markAll loaded (operands (nodeAt t p))
 
-  pub passed-node : (getD x (4 * p) 0 ≡ 0 → ⊥) → (countNode marking (nodeAt t p) ≡ passed t x s p) × (s + (midOf x p + endOf x p) ≡ startAfter x s p)
-  unfolding passed startAfter
-  passed-node d = (rw (ne-eqb (getD x (4 * p) 0) 0 d), rw (ne-eqb (getD x (4 * p) 0) 0 d))
+  pub passed-node : Wanted x p → (countNode marking (nodeAt t p) ≡ passed t x d p) × (metAt x d p ≡ after x d p)
+  unfolding passed after
+  passed-node w =
+      let e = ne-eqb (getD x (4 * p) 0) 0 (λ q. omega (arith, q, w)) in
+      (rw e, rw e)
 
   module _ (few : p < mostNodes) (z : length x ≡ indexSize) (a : All (λ l. l / 2 < p) (operands (nodeAt t p))) where
     low : All (λ l. l / 2 < mostNodes) (operands (nodeAt t p))
     low = all-imply (λ l. l / 2 < p) (λ l. l / 2 < mostNodes) (λ l h. omega (arith, h)) (operands (nodeAt t p)) a
 
     loaded-size : length loaded ≡ indexSize
-    loaded-size = stored-size (placedAt x p s) p (nodeAt t p) ∙ placed-size x p s ∙ z
+    loaded-size = stored-size (placedAt x p d) p (nodeAt t p) ∙ placed-size x p d ∙ z
 
     pub marking-size : length marking ≡ indexSize
     marking-size = marks-size loaded (operands (nodeAt t p)) ∙ loaded-size
 
     pub loaded-node : indexNode loaded p ≡ nodeAt t p
-    loaded-node = stored-node (placedAt x p s) p (nodeAt t p) few (placed-size x p s ∙ z)
+    loaded-node = stored-node (placedAt x p d) p (nodeAt t p) few (placed-size x p d ∙ z)
 
     -- what its operands are, once it is loaded
     pub loaded-low : All (λ l. l / 2 < mostNodes) (operands (indexNode loaded p))
@@ -235,37 +236,29 @@ module _ (t x : List ℕ) (s p : ℕ) where
         e ∙ loaded-node
 
     -- the places and the counts stay
-    pub marking-places : (i : ℕ) → firstAt ≤ i → getD marking i 0 ≡ getD (placedAt x p s) i 0
-    marking-places i h = marking-behind i (omega arith) ∙ stored-other (placedAt x p s) p (nodeAt t p) i (λ b c. omega arith)
+    pub marking-places : (i : ℕ) → firstAt ≤ i → getD marking i 0 ≡ getD (placedAt x p d) i 0
+    marking-places i h = marking-behind i (omega arith) ∙ stored-other (placedAt x p d) p (nodeAt t p) i (λ b c. omega arith)
 
     -- there is room to count its edges
-    pub marking-room : Fits (p + 1) s x → Room p (nodeAt t p) marking
+    pub marking-room : Fits (p + 1) d x → Room p (nodeAt t p) marking
     marking-room f = record {
       size = marking-size;
       few = omega arith;
       known = a;
-      pairs = λ m h. omega (arith, marking-places (midAt + m) (omega arith), placed-other x p s (midAt + m) (λ q. omega (arith, q)) (λ q. omega (arith, q)) (λ q. omega (arith, q)), one m h, brings-four (nodeAt t p) m);
-      threes = λ m h. omega (arith, marking-places (endAt + m) (omega arith), placed-other x p s (endAt + m) (λ q. omega (arith, q)) (λ q. omega (arith, q)) (λ q. omega (arith, q)), one m h, brings-four (nodeAt t p) m);
+      pairs = λ m h. omega (arith, marking-places (midAt + m) (omega arith), placed-other x p d (midAt + m) (λ q. omega (arith, q)) (λ q. omega (arith, q)) (λ q. omega (arith, q)), one m h, brings-four (nodeAt t p) m);
+      threes = λ m h. omega (arith, marking-places (endAt + m) (omega arith), placed-other x p d (endAt + m) (λ q. omega (arith, q)) (λ q. omega (arith, q)) (λ q. omega (arith, q)), one m h, brings-four (nodeAt t p) m);
     }
       where
         one : (m : ℕ) → m < p → midOf x m + endOf x m + 4 ≤ mostEdges
-        one m h = omega (arith, f, sum-part (λ i. midOf x i + endOf x i) m (p + 1) (omega arith))
+        one m h = omega (arith, f .0, sum-part (λ i. midOf x i + endOf x i) m (p + 1) (omega arith))
 
-    pub passed-size : length (passed t x s p) ≡ indexSize
-    unfolding passed
-    passed-size = go (eqb (getD x (4 * p) 0) 0)
-      where
-        go : (b : Bool) → length (cond b (set x (4 * p) 1) (countNode marking (nodeAt t p))) ≡ indexSize
-        go true = length-set x (4 * p) 1 ∙ z
-        go false = count-size marking (nodeAt t p) ∙ marking-size
-
-pub sunk-more : (t x : List ℕ) (s p : ℕ) → sunk t (passed t x s p) (startAfter x s p) p ≡ sunk t x s (suc p)
+pub sunk-more : (t x : List ℕ) (d : Descent) (p : ℕ) → sunk t (passed t x d p) (after x d p) p ≡ sunk t x d (suc p)
 unfolding sunk
-sunk-more t x s p = refl
+sunk-more t x d p = refl
 
-pub sunk-none : (t x : List ℕ) (s : ℕ) → sunk t x s 0 ≡ x
+pub sunk-none : (t x : List ℕ) (d : Descent) → sunk t x d 0 ≡ (x, d)
 unfolding sunk
-sunk-none t x s = refl
+sunk-none t x d = refl
 
 -- ---- on the way down, before node p - 1: the nodes from p on are loaded, or are not wanted; the others may be marked
 
@@ -423,22 +416,22 @@ module _ (t ls : List ℕ) (n p : ℕ) (x : List ℕ) (S : Sinking t ls n (suc p
       go (k ∷ ks) b m =
           (record { low = omega (arith, b .0); before = λ h. m .0; behind = λ h. absurd (omega (arith, b .0)) }, go ks (b .1) (m .1))
 
-module _ (t ls : List ℕ) (n p s : ℕ) (x : List ℕ) (S : Sinking t ls n (suc p) x) (few : n ≤ mostNodes) (h : p < n)
+module _ (t ls : List ℕ) (n p : ℕ) (d : Descent) (x : List ℕ) (S : Sinking t ls n (suc p) x) (few : n ≤ mostNodes) (h : p < n)
     (a : All (λ l. l / 2 < p) (operands (nodeAt t p))) where
   low-p : p < mostNodes
   low-p = omega arith
 
-  pub sinks-passed : Sinking t ls n p (passed t x s p)
+  pub sinks-passed : Sinking t ls n p (passed t x d p)
   unfolding passed
   sinks-passed = go (ℕ-discrete (getD x (4 * p) 0) 0)
     where
-      go : Dec (getD x (4 * p) 0 ≡ 0) → Sinking t ls n p (passed t x s p)
+      go : Dec (getD x (4 * p) 0 ≡ 0) → Sinking t ls n p (passed t x d p)
       go (yes e) = rw (eq-eqb (getD x (4 * p) 0) 0 e) (sinks-bare t ls n p x S low-p e)
-      go (no d) = rw (ne-eqb (getD x (4 * p) 0) 0 d)
-          (sinking-same (marking t x s p) (countNode (marking t x s p) (nodeAt t p)) few (omega arith) (count-size (marking t x s p) (nodeAt t p) ∙ marking-size t x s p low-p (S .size) a)
-          (λ i b. count-same (marking t x s p) (nodeAt t p) i (omega arith))
-          (sinks-node t ls n p (placedAt x p s)
-          (sinking-same x (placedAt x p s) few (omega arith) (placed-size x p s ∙ S .size) (placed-same x p s) S) low-p a))
+      go (no e) = rw (ne-eqb (getD x (4 * p) 0) 0 e)
+          (sinking-same (marking t x d p) (countNode (marking t x d p) (nodeAt t p)) few (omega arith) (count-size (marking t x d p) (nodeAt t p) ∙ marking-size t x d p low-p (S .size) a)
+          (λ i b. count-same (marking t x d p) (nodeAt t p) i (omega arith))
+          (sinks-node t ls n p (placedAt x p d)
+          (sinking-same x (placedAt x p d) few (omega arith) (placed-size x p d ∙ S .size) (placed-same x p d) S) low-p a))
 
 -- ---- the index
 

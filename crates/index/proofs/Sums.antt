@@ -15,7 +15,7 @@ use Rattle.scope.proofs.Operands.{arity-pair, arity-most, operands-length, oper
 use Rattle.calculus.specs.Model.{All}
 use Rattle.calculus.proofs.Lists.{all-imply}
 use Rattle.index.specs.Index.{mostNodes, mostEdges}
-use Rattle.index.specs.Built.{sum, is, times, pairsIn, threesIn, pairsTo, threesTo, startOf}
+use Rattle.index.specs.Built.{Early, sum, is, times, pairsIn, threesIn, pairsTo, threesTo, startOf}
 
 -- ---- sums
 
@@ -157,11 +157,14 @@ pub brings-four : (y : Node) (m : ℕ) → pairsIn y m + threesIn y m ≤ 4
 brings-four y m = omega (arith, sum-next (λ i. pairsIn y i + threesIn y i) m, node-four y (m + 1))
 
 -- where operands are of earlier nodes, node p has no edges from the nodes up to itself
-pub early-none : (u : ℕ → Node) (n : ℕ) → ((i : ℕ) → i < n → All (λ l. l / 2 < i) (operands (u i))) → (p k : ℕ) → k ≤ n → k ≤ p + 1
-    → (pairsTo u k p ≡ 0) × (threesTo u k p ≡ 0)
+pub early-none : (u : ℕ → Node) (n : ℕ) → Early u n → (p k : ℕ) → k ≤ n → k ≤ p + 1 → (pairsTo u k p ≡ 0) × (threesTo u k p ≡ 0)
 unfolding sum
 early-none u n a p zero h b = (refl, refl)
 early-none u n a p (suc k) h b =
     let r = early-none u n a p k (omega arith) (omega arith) in
     let z = brings-nothing (u k) p (all-imply (λ l. l / 2 < k) (λ l. l / 2 ≡ p → ⊥) (λ l c e. omega (arith, c, e)) (operands (u k)) (a k (omega arith))) in
     (omega (arith, r .0, z .0), omega (arith, r .1, z .1))
+
+-- .. and so they are of nodes that are there
+pub early-known : (u : ℕ → Node) (n : ℕ) → Early u n → (p : ℕ) → p < n → All (λ l. l / 2 < n) (operands (u p))
+early-known u n a p h = all-imply (λ l. l / 2 < p) (λ l. l / 2 < n) (λ l b. omega (arith, b, h)) (operands (u p)) (a p h)

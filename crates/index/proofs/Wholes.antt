@@ -12,12 +12,13 @@ use borrow.Author.Tests.{lt-ltb, le-ltb}
 use Rattle.scope.specs.declared.Node.{Node}
 use Rattle.scope.specs.Table.{operands, nodeAt}
 use Rattle.scope.proofs.Operands.{operands-none, operands-two, operands-three}
+use Rattle.calculus.specs.Model.{All}
 use Rattle.index.specs.Codes.{codesSize, classesSize}
 use Rattle.index.specs.Index.{indexSize, mostNodes, mostEdges, firstAt, midAt, endAt, edgesAt, codesAt, none, opNode, indexNode, Codes}
 use Rattle.index.specs.Edges.{firstOf, midOf, endOf, edgeAt, parentOf, typeOf, otherOf, operandOf, Pair, Triple, Parent, PairAt, ThreeAt, Edges}
-use Rattle.index.specs.Built.{Same, Known, Agree, sum, pairsIn, threesIn, pairsTo, threesTo, startOf, Counted, Placed, putPair, putThree, putTwo, putAll, putNode, Room, Linked, Loaded, Copied, Classified, Built}
+use Rattle.index.specs.Built.{Same, Early, Agree, sum, pairsIn, threesIn, pairsTo, threesTo, startOf, Counted, Placed, putPair, putThree, putTwo, putAll, putNode, Room, Linked, Loaded, Copied, Classified, Built}
 use Rattle.index.proofs.Nodes.{node-same}
-use Rattle.index.proofs.Sums.{is-own, sum-next, total-low, apart, pairs-part, threes-part, brings-none, brings-two, brings-three}
+use Rattle.index.proofs.Sums.{is-own, sum-next, pairs-part, threes-part, brings-none, brings-two, brings-three, early-known}
 use Rattle.index.proofs.Counts.{agree-same}
 use Rattle.index.proofs.Fills.{Has, Filled, filled-as, filled-pair, filled-three}
 
@@ -26,7 +27,7 @@ use Rattle.index.proofs.Fills.{Has, Filled, filled-as, filled-pair, fil
 pub record Place (t : ℕ → Node) (n b : ℕ) (x : List ℕ) : Type 0 where
   pub size : length x ≡ indexSize
   pub nodes : Agree t n x
-  pub first : (m : ℕ) → m < b → firstOf x m ≡ startOf t n m
+  pub first : (m : ℕ) → m < b → firstOf x m ≡ m + 1
   pub mid : (m : ℕ) → m < b → midOf x m ≡ startOf t n m
   pub end : (m : ℕ) → m < b → endOf x m ≡ startOf t n m + pairsTo t n m
   pub rest-mid : (m : ℕ) → b ≤ m → m < n → midOf x m ≡ pairsTo t n m
@@ -50,7 +51,7 @@ place-none c = record {
 module _ {t : ℕ → Node} {n b : ℕ} {x : List ℕ} (few : n ≤ mostNodes) (h : b < n) (P : Place t n b x) (s e : ℕ) (s-is : s ≡ startOf t n b)
     (e-is : e ≡ startOf t n b + pairsTo t n b) where
   abbrev y₁ : List ℕ
-  y₁ = set x (firstAt + b) s
+  y₁ = set x (firstAt + b) (b + 1)
 
   abbrev y₂ : List ℕ
   y₂ = set y₁ (midAt + b) s
@@ -59,7 +60,7 @@ module _ {t : ℕ → Node} {n b : ℕ} {x : List ℕ} (few : n ≤ mostNodes) (
   y₃ = set y₂ (endAt + b) e
 
   unplaced : (i : ℕ) → (i ≡ firstAt + b → ⊥) → (i ≡ midAt + b → ⊥) → (i ≡ endAt + b → ⊥) → getD y₃ i 0 ≡ getD x i 0
-  unplaced i a c d = getD-set-other y₂ (endAt + b) i e 0 d ∙ getD-set-other y₁ (midAt + b) i s 0 c ∙ getD-set-other x (firstAt + b) i s 0 a
+  unplaced i a c d = getD-set-other y₂ (endAt + b) i e 0 d ∙ getD-set-other y₁ (midAt + b) i s 0 c ∙ getD-set-other x (firstAt + b) i (b + 1) 0 a
 
   -- another node's places
   first-kept : (m : ℕ) → m < n → (m ≡ b → ⊥) → firstOf y₃ m ≡ firstOf x m
@@ -72,7 +73,7 @@ module _ {t : ℕ → Node} {n b : ℕ} {x : List ℕ} (few : n ≤ mostNodes) (
   end-kept m l d = unplaced (endAt + m) (λ q. omega (arith, q)) (λ q. omega (arith, q)) (λ q. d (omega (arith, q)))
 
   size₁ : length y₁ ≡ indexSize
-  size₁ = length-set x (firstAt + b) s ∙ P .size
+  size₁ = length-set x (firstAt + b) (b + 1) ∙ P .size
 
   size₂ : length y₂ ≡ indexSize
   size₂ = length-set y₁ (midAt + b) s ∙ size₁
@@ -87,7 +88,7 @@ module _ {t : ℕ → Node} {n b : ℕ} {x : List ℕ} (few : n ≤ mostNodes) (
     first =
         below-more _ b (λ m l. first-kept m (omega arith) (λ q. omega (arith, q)) ∙ P .first m l)
         (getD-set-other y₂ (endAt + b) (firstAt + b) e 0 (λ q. omega (arith, q)) ∙ getD-set-other y₁ (midAt + b) (firstAt + b) s 0 (λ q. omega (arith, q))
-        ∙ getD-set-same x (firstAt + b) s 0 (omega (arith, P .size)) ∙ s-is);
+        ∙ getD-set-same x (firstAt + b) (b + 1) 0 (omega (arith, P .size)));
     mid =
         below-more _ b (λ m l. mid-kept m (omega arith) (λ q. omega (arith, q)) ∙ P .mid m l)
         (getD-set-other y₂ (endAt + b) (midAt + b) e 0 (λ q. omega (arith, q)) ∙ getD-set-same y₁ (midAt + b) s 0 (omega (arith, size₁)) ∙ s-is);
@@ -98,26 +99,17 @@ module _ {t : ℕ → Node} {n b : ℕ} {x : List ℕ} (few : n ≤ mostNodes) (
     rest-end = λ m l a. end-kept m a (λ q. omega (arith, q, l)) ∙ P .rest-end m (omega (arith, l)) a;
   }
 
--- all nodes have their places
-pub places : {t : ℕ → Node} {n : ℕ} {x : List ℕ} → n ≤ mostNodes → Place t n n x → Placed t n x
-places {t} {n} {x} few P = record {
-  size = P .size;
-  nodes = P .nodes;
-  starts = record {
-    low = λ m h. omega (arith, P .first m h, total-low t n few m h);
-    apart = λ m d k e h b c l r q. apart t n few m d k e c l r (omega (arith, P .first m h, P .first k b, q));
-  };
-  mid = λ m h. P .mid m h ∙ sym (P .first m h);
-  end = λ m h. omega (arith, P .first m h, P .end m h);
-}
-
 -- ---- filling, node by node
 
 -- an operand of one of the first b nodes, q, is a literal of node m
 abbrev pub Named : (ℕ → Node) → ℕ → ℕ → ℕ → Type 0
 Named t b m q = (s : ℕ) × (s < 4 * b) × (opNode t s ≡ m) × (s / 4 ≡ q)
 
-pub filled-none : {t : ℕ → Node} {n : ℕ} {x : List ℕ} → Placed t n x → Filled t n (firstOf x) (pairsTo t 0) (threesTo t 0) (Named t 0) x
+-- the edges from the first b nodes stand
+abbrev pub FilledTo : (ℕ → Node) → ℕ → (ℕ → ℕ) → ℕ → List ℕ → Type 0
+FilledTo t n S b x = Filled t n S (pairsTo t b) (threesTo t b) (Named t b) x
+
+pub filled-none : {t : ℕ → Node} {n head : ℕ} {x : List ℕ} → Placed t n head x → FilledTo t n (midOf x) 0 x
 unfolding sum
 filled-none P = record {
   size = P .size;
@@ -126,8 +118,7 @@ filled-none P = record {
   even = λ m. refl;
   pairs-few = λ m h. omega arith;
   threes-few = λ m h. omega arith;
-  first = λ m h. refl;
-  mid = λ m h. omega (arith, P .mid m h);
+  mid = λ m h. omega arith;
   end = λ m h. omega (arith, P .end m h);
   pairs = λ m j h c. absurd (omega (arith, c));
   threes = λ m j h c. absurd (omega (arith, c));
@@ -150,26 +141,29 @@ module _ (t : ℕ → Node) (n p : ℕ) (few : n ≤ mostNodes) (m q : ℕ) (h :
           let d : s / 4 ≡ p = omega (arith, l, c) in
           new (s % 4) (omega arith) (sym b ∙ d) (sym (cell-at t s p ls d o) ∙ a)
 
-module _ {t : ℕ → Node} {n p : ℕ} {S : ℕ → ℕ} {x : List ℕ} (few : n ≤ mostNodes) (known : Known t n) (h : p < n)
-    (F : Filled t n S (pairsTo t p) (threesTo t p) (Named t p) x) where
+module _ {t : ℕ → Node} {n p : ℕ} {S : ℕ → ℕ} {x : List ℕ} (few : n ≤ mostNodes) (early : Early t n) (h : p < n)
+    (F : FilledTo t n S p x) where
+  known : All (λ l. l / 2 < n) (operands (t p))
+  known = early-known t n early p h
+
   pub fill-room : Room n (indexNode x p) x
   fill-room = rw (F .nodes p h) record {
     size = F .size;
     few = few;
-    known = known p h;
+    known = known;
     pairs = λ m b. omega (arith, F .mid m b, pairs-part t n p m h, F .starts .low m b);
     threes = λ m b. omega (arith, F .end m b, threes-part t n p m h, F .starts .low m b);
   }
 
   abbrev After : List ℕ → Type 0
-  After x′ = Filled t n S (pairsTo t (p + 1)) (threesTo t (p + 1)) (Named t (p + 1)) x′
+  After x′ = FilledTo t n S (p + 1) x′
 
   -- what is put is what the node brings
   after-as : {u v : ℕ → ℕ} {D : ℕ → ℕ → Type 0} {x′ : List ℕ} → ((m : ℕ) → u m ≡ pairsTo t p m + pairsIn (t p) m)
       → ((m : ℕ) → v m ≡ threesTo t p m + threesIn (t p) m) → ((m q : ℕ) → m < n → Named t (p + 1) m q → D m q) → Filled t n S u v D x′ → After x′
   after-as e f g = filled-as (λ m. e m ∙ sym (sum-next (λ q. pairsIn (t q) m) p)) (λ m. f m ∙ sym (sum-next (λ q. threesIn (t q) m) p)) g
 
-  after-none : t p .kind < 3 → After x
+  pub after-none : t p .kind < 3 → After x
   after-none k =
       after-as (λ m. omega (arith, brings-none (t p) m k .0)) (λ m. omega (arith, brings-none (t p) m k .1))
       (λ m q b. named-more t n p few m q b (Named t p m q) (λ d. d) [] (operands-none (t p) k) (λ i l c e. absurd (omega (arith, sym (bare i) ∙ e, b, few)))) F
@@ -183,10 +177,10 @@ module _ {t : ℕ → Node} {n p : ℕ} {S : ℕ → ℕ} {x : List ℕ} (few : 
     two = operands-two (t p) k k′
 
     a-low : t p .a / 2 < n
-    a-low = (rw two at (known p h)) .0
+    a-low = (rw two at known) .0
 
     b-low : t p .b / 2 < n
-    b-low = (rw two at (known p h)) .1 .0
+    b-low = (rw two at known) .1 .0
 
     side-a : operandOf t p 0 ≡ t p .a
     side-a = ap (λ (ls : List ℕ). getD ls 0 0) two
@@ -241,13 +235,13 @@ module _ {t : ℕ → Node} {n p : ℕ} {S : ℕ → ℕ} {x : List ℕ} (few : 
     fits l = l / 2 < n
 
     low-a : fits (t p .a)
-    low-a = (rw three at (known p h)) .0
+    low-a = (rw three at known) .0
 
     low-b : fits (t p .b)
-    low-b = (rw three at (known p h)) .1 .0
+    low-b = (rw three at known) .1 .0
 
     low-c : fits (t p .c)
-    low-c = (rw three at (known p h)) .1 .1 .0
+    low-c = (rw three at known) .1 .1 .0
 
     new : Triple t n p
     new = record { low = h; kind = k }
@@ -305,14 +299,15 @@ pair-as e P = record {
 triple-as : {t t′ : ℕ → Node} {n p : ℕ} → t′ p ≡ t p → Triple t n p → Triple t′ n p
 triple-as e P = record { low = P .low; kind = rw e (P .kind) }
 
-module _ {t : ℕ → Node} {n : ℕ} {S : ℕ → ℕ} {x : List ℕ} (few : n ≤ mostNodes) (F : Filled t n S (pairsTo t n) (threesTo t n) (Named t n) x) where
+module _ {t : ℕ → Node} {n : ℕ} {S : ℕ → ℕ} {x : List ℕ} (few : n ≤ mostNodes) (F : FilledTo t n S n x)
+    (first : (m : ℕ) → m < n → firstOf x m ≡ S m) where
   pub edges-of : Edges (indexNode x) n x
   edges-of = record {
-    order = λ m h. (omega (arith, F .first m h, F .mid m h), omega (arith, F .mid m h, F .end m h), omega (arith, F .end m h, F .starts .low m h));
-    even = λ m h. omega (arith, F .first m h, F .mid m h, F .even m);
+    order = λ m h. (omega (arith, first m h, F .mid m h), omega (arith, F .mid m h, F .end m h), omega (arith, F .end m h, F .starts .low m h));
+    even = λ m h. omega (arith, first m h, F .mid m h, F .even m);
     pairs = λ m k h c.
         let j : ℕ = (k - S m) / 2 in
-        let z : S m + 2 * j ≡ k = omega (arith, F .first m h, c .0, c .2) in
+        let z : S m + 2 * j ≡ k = omega (arith, first m h, c .0, c .2) in
         let P = F .pairs m j h (omega (arith, z, F .mid m h, c .1)) in
         subst (λ (i : ℕ). Pair (indexNode x) n m (parentOf x i) (typeOf x i) (otherOf x i)) z (pair-as (F .nodes _ (P .low)) P);
     threes = λ m k h c.
@@ -326,15 +321,15 @@ module _ {t : ℕ → Node} {n : ℕ} {S : ℕ → ℕ} {x : List ℕ} (few : n 
   }
     where
       found : (m q : ℕ) → m < n → Has t n S (pairsTo t n) (threesTo t n) x m q → Parent x m q
-      found m q h (inl (j, c, z)) = inl (S m + 2 * j, (omega (arith, F .first m h), omega (arith, c, F .mid m h), omega (arith, F .first m h)), z)
+      found m q h (inl (j, c, z)) = inl (S m + 2 * j, (omega (arith, first m h), omega (arith, c, F .mid m h), omega (arith, first m h)), z)
       found m q h (inr (j, c, z)) = inr (S m + (pairsTo t n m + j), (omega (arith, F .mid m h), omega (arith, c, F .end m h)), z)
 
--- what is before the places is not changed
-pub put-same : (x : List ℕ) (p : ℕ) (y : Node) → Same firstAt x (putNode x p y)
+-- what is before the second places is not changed
+pub put-same : (x : List ℕ) (p : ℕ) (y : Node) → Same midAt x (putNode x p y)
 unfolding putNode
 put-same x p y = go (decLt (y .kind) 3) (decLt (y .kind) 7)
   where
-    pair-same : (w : List ℕ) (l o z : ℕ) → Same firstAt w (putPair w p l o z)
+    pair-same : (w : List ℕ) (l o z : ℕ) → Same midAt w (putPair w p l o z)
     pair-same w l o z i b =
         let k : ℕ = midOf w (l / 2) in
         let e : ℕ = p + 2048 * (z + l % 2) in
@@ -342,12 +337,12 @@ put-same x p y = go (decLt (y .kind) 3) (decLt (y .kind) 7)
         getD-set-other (set w₁ (edgesAt + k) e) (edgesAt + (k + 1)) i o 0 (λ q. omega (arith, q)) ∙ getD-set-other w₁ (edgesAt + k) i e 0 (λ q. omega (arith, q))
         ∙ getD-set-other w (midAt + l / 2) i (k + 2) 0 (λ q. omega (arith, q))
 
-    three-same : (w : List ℕ) (l : ℕ) → Same firstAt w (putThree w p l)
+    three-same : (w : List ℕ) (l : ℕ) → Same midAt w (putThree w p l)
     three-same w l i b =
         let k : ℕ = endOf w (l / 2) in
         getD-set-other (set w (endAt + l / 2) (k + 1)) (edgesAt + k) i p 0 (λ q. omega (arith, q)) ∙ getD-set-other w (endAt + l / 2) i (k + 1) 0 (λ q. omega (arith, q))
 
-    go : Dec (y .kind < 3) → Dec (y .kind < 7) → Same firstAt x (putNode x p y)
+    go : Dec (y .kind < 3) → Dec (y .kind < 7) → Same midAt x (putNode x p y)
     go (yes a) b = rw (lt-ltb (y .kind) 3 a) (λ i k. refl)
     go (no a) (yes b) = rw (le-ltb (y .kind) 3 (omega (arith, a)), lt-ltb (y .kind) 7 b) (λ i k.
         pair-same (putPair x p (y .a) (y .b) (3 * (y .kind - 3))) (y .b) (y .a) (3 * (y .kind + 1)) i k ∙ pair-same x (y .a) (y .b) (3 * (y .kind - 3)) i k)
@@ -401,9 +396,9 @@ edges-same {t} {t′} {n} x x′ few e s E = record {
         inl (k, (omega (arith, c .0, first m h), omega (arith, c .1, mid m h), omega (arith, c .2, first m h)), ap (_% 2048) (edge k (omega (arith, c .1, E .order m h))) ∙ z)
     found m q h (inr (k, c, z)) = inr (k, (omega (arith, c .0, mid m h), omega (arith, c .1, end m h)), edge k (omega (arith, c .1, E .order m h .2)) ∙ z)
 
--- operands are of nodes that are there, where the table's are
-pub loaded-known : (t : List ℕ) (n : ℕ) (x : List ℕ) → Loaded t n x → Known (nodeAt t) n → Known (indexNode x) n
-loaded-known t n x l k m h = rw (l .nodes m h) (k m h)
+-- operands are of earlier nodes, where the table's are
+pub loaded-early : (t : List ℕ) (n : ℕ) (x : List ℕ) → Loaded t n x → Early (nodeAt t) n → Early (indexNode x) n
+loaded-early t n x l k m h = rw (l .nodes m h) (k m h)
 
 module _ (n : ℕ) (x x₁ x₂ x₃ : List ℕ) (few : n ≤ mostNodes) (e : Linked n x x₁) (c : Copied codesSize x₁ x₂) (d : Classified classesSize x₂ x₃) where
   same : (i : ℕ) → i < codesAt → getD x₃ i 0 ≡ getD x₁ i 0

@@ -15,9 +15,9 @@ use Rattle.index.specs.Edges.{firstOf, midOf, endOf, Edges}
 abbrev pub Same : ℕ → List ℕ → List ℕ → Type 0
 Same b x x′ = (i : ℕ) → i < b → getD x′ i 0 ≡ getD x i 0
 
--- the n nodes' operands are literals of them
-abbrev pub Known : (ℕ → Node) → ℕ → Type 0
-Known t n = (m : ℕ) → m < n → All (λ l. l / 2 < n) (operands (t m))
+-- the n nodes' operands are literals of earlier ones
+abbrev pub Early : (ℕ → Node) → ℕ → Type 0
+Early t n = (m : ℕ) → m < n → All (λ l. l / 2 < m) (operands (t m))
 
 -- the n nodes of the index are those of t
 abbrev pub Agree : (ℕ → Node) → ℕ → List ℕ → Type 0
@@ -83,13 +83,23 @@ pub record Starts (t : ℕ → Node) (n : ℕ) (S : ℕ → ℕ) : Type 0 where
   pub low : (m : ℕ) → m < n → S m + (pairsTo t n m + threesTo t n m) ≤ mostEdges
   pub apart : (m d k e : ℕ) → m < n → k < n → (m ≡ k → ⊥) → d < pairsTo t n m + threesTo t n m → e < pairsTo t n k + threesTo t n k → S m + d ≡ S k + e → ⊥
 
--- each node has its places: the first two are where its edges start, the third is where those from parents of three operands do
-pub record Placed (t : ℕ → Node) (n : ℕ) (x : List ℕ) : Type 0 where
+-- the nodes from p on below q have no operands, and what f has for them is where their edges start
+abbrev pub Skips : (ℕ → Node) → (ℕ → ℕ) → (ℕ → ℕ) → ℕ → ℕ → Type 0
+Skips t S f p q = (p ≤ q) × ((m : ℕ) → p ≤ m → m < q → (t m .kind < 3) × (f m ≡ S m))
+
+-- from p on, q is the first of the n nodes that is in the chain, n where none is, and f has the next of each that is
+pub data Chain (t : ℕ → Node) (S f : ℕ → ℕ) (n : ℕ) : ℕ → ℕ → Type 0 where
+  ends : (p : ℕ) → Skips t S f p n → Chain t S f n p n
+  goes : (p q : ℕ) → Skips t S f p q → q < n → Chain t S f n (suc q) (f q) → Chain t S f n p q
+
+-- each node has its places: the second is where its edges start, the third is where those from parents of three operands do, and by the
+-- first the nodes are chained from head on
+pub record Placed (t : ℕ → Node) (n head : ℕ) (x : List ℕ) : Type 0 where
   pub size : length x ≡ indexSize
   pub nodes : Agree t n x
-  pub starts : Starts t n (firstOf x)
-  pub mid : (m : ℕ) → m < n → midOf x m ≡ firstOf x m
-  pub end : (m : ℕ) → m < n → endOf x m ≡ firstOf x m + pairsTo t n m
+  pub starts : Starts t n (midOf x)
+  pub end : (m : ℕ) → m < n → endOf x m ≡ midOf x m + pairsTo t n m
+  pub chained : Chain t (midOf x) (firstOf x) n 0 head
 
 -- an edge is put where the second or the third place of its node says, which goes on behind it: from p, whose operands are mine and other,
 -- y is 3 × (kind - 3 + 4 × side)
@@ -127,10 +137,10 @@ Blank n x = (m : ℕ) → m < n → (midOf x m ≡ 0) × (endOf x m ≡ 0)
 
 -- all nodes' edges are counted, or have their places
 abbrev pub Counting : ℕ → List ℕ → Type 0
-Counting n x = (t : ℕ → Node) × Known t n × Counted t n (pairsTo t n) (threesTo t n) x
+Counting n x = (t : ℕ → Node) × Early t n × Counted t n (pairsTo t n) (threesTo t n) x
 
-abbrev pub Placing : ℕ → List ℕ → Type 0
-Placing n x = (t : ℕ → Node) × Known t n × Placed t n x
+abbrev pub Placing : ℕ → ℕ → List ℕ → Type 0
+Placing head n x = (t : ℕ → Node) × Early t n × Placed t n head x
 
 -- the edges stand, and the nodes are as they were
 pub record Linked (n : ℕ) (x x′ : List ℕ) : Type 0 where

@@ -1,19 +1,21 @@
 -- Where only the nodes below some literals are wanted: from the highest node down, a marked node is loaded, and marks those of its operands.
--- All its parents are met before it, so its edges are counted, and get their places then. Assumes nothing.
+-- All its parents are met before it, so its edges are counted, and get their places then. The nodes met are chained, each to the one met
+-- before it. Assumes nothing.
 use mathlib.Core.Path.{_≡_}
 use mathlib.Core.Logic.{_⊎_}
 use mathlib.Core.List.{List, [], _∷_}
 use mathlib.Core.Bool.{cond}
 use Prim.Native.Nat.{ℕ, zero, suc, _+_, _*_, _/_, _<_, _≤_}
 use lib.Dec.{eqb}
-use lib.ListN.{getD, set}
+use lib.ListN.{length, getD, set}
 use Rattle.scope.specs.declared.Node.{Node}
 use Rattle.scope.specs.Table.{operands, nodeAt}
 use Rattle.calculus.specs.Model.{All}
 use Rattle.calculus.specs.Agree.{Alike, Closed}
-use Rattle.index.specs.Index.{indexSize, firstAt, midAt, endAt, mostEdges, indexNode, Codes, Classes}
+use Rattle.index.specs.declared.Descent.{Descent}
+use Rattle.index.specs.Index.{indexSize, mostNodes, firstAt, midAt, endAt, mostEdges, indexNode, Codes, Classes}
 use Rattle.index.specs.Edges.{midOf, endOf, Edges}
-use Rattle.index.specs.Built.{sum, countNode}
+use Rattle.index.specs.Built.{Early, sum, countNode}
 
 -- in the place of a node that is not wanted: a TRUE, which has no operands
 abbrev pub bare : Node
@@ -23,6 +25,10 @@ bare = record { kind = 1; a = 0; b = 0; c = 0 }
 abbrev pub marked : List ℕ → ℕ → List ℕ
 marked x l = set x (4 * (l / 2)) 1
 
+-- node p is marked
+abbrev pub Wanted : List ℕ → ℕ → Type 0
+Wanted x p = 0 < getD x (4 * p) 0
+
 unfoldable pub markAll : List ℕ → List ℕ → List ℕ
 markAll x [] = x
 markAll x (l ∷ ls) = markAll (marked x l) ls
@@ -31,32 +37,48 @@ markAll x (l ∷ ls) = markAll (marked x l) ls
 abbrev pub stored : List ℕ → ℕ → Node → List ℕ
 stored x m y = set (set (set (set x (4 * m) (y .kind)) (4 * m + 1) (y .a)) (4 * m + 2) (y .b)) (4 * m + 3) (y .c)
 
--- the edges of node p, which are counted, get their places from s on
-abbrev pub placedAt : List ℕ → ℕ → ℕ → List ℕ
-placedAt x p s = set (set (set x (firstAt + p) s) (midAt + p) s) (endAt + p) (s + midOf x p)
+-- the edges of node p, which are counted, get their places, and it is chained to the node met last
+abbrev pub placedAt : List ℕ → ℕ → Descent → List ℕ
+placedAt x p d = set (set (set x (firstAt + p) (d .last)) (midAt + p) (d .start)) (endAt + p) (d .start + midOf x p)
 
--- node p of the table t is loaded if it is marked, with its places from s on, and its own edges are counted
-unfoldable pub passed : List ℕ → List ℕ → ℕ → ℕ → List ℕ
-passed t x s p =
+-- how far that comes
+abbrev pub metAt : List ℕ → Descent → ℕ → Descent
+metAt x d p = record { start = d .start + (midOf x p + endOf x p); last = p }
+
+-- node p of the table t is loaded if it is marked, with its places, and its own edges are counted
+unfoldable pub passed : List ℕ → List ℕ → Descent → ℕ → List ℕ
+passed t x d p =
     cond (eqb (getD x (4 * p) 0) 0) (set x (4 * p) 1)
-    (countNode (markAll (stored (placedAt x p s) p (nodeAt t p)) (operands (nodeAt t p))) (nodeAt t p))
+    (countNode (markAll (stored (placedAt x p d) p (nodeAt t p)) (operands (nodeAt t p))) (nodeAt t p))
 
--- where the next ones start
-unfoldable pub startAfter : List ℕ → ℕ → ℕ → ℕ
-startAfter x s p = cond (eqb (getD x (4 * p) 0) 0) s (s + (midOf x p + endOf x p))
+-- how far passing it comes
+unfoldable pub after : List ℕ → Descent → ℕ → Descent
+after x d p = cond (eqb (getD x (4 * p) 0) 0) d (metAt x d p)
 
 -- .. and so on down, of the first p nodes
-unfoldable pub sunk : List ℕ → List ℕ → ℕ → ℕ → List ℕ
-sunk t x s zero = x
-sunk t x s (suc p) = sunk t (passed t x s p) (startAfter x s p) p
+unfoldable pub sunk : List ℕ → List ℕ → Descent → ℕ → List ℕ × Descent
+sunk t x d zero = (x, d)
+sunk t x d (suc p) = sunk t (passed t x d p) (after x d p) p
 
--- there is room behind s for the edges that are counted for the first p nodes, and for those from them
-abbrev pub Fits : ℕ → ℕ → List ℕ → Type 0
-Fits p s x = s + sum (λ i. midOf x i + endOf x i) p + 4 * p ≤ mostEdges
+-- no node is met
+abbrev pub top : ℕ → Descent
+top n = record { start = 0; last = n }
+
+-- there is room behind the start for the edges that are counted for the first p nodes, and for those from them, and the last fits a cell
+abbrev pub Fits : ℕ → Descent → List ℕ → Type 0
+Fits p d x = (d .start + sum (λ i. midOf x i + endOf x i) p + 4 * p ≤ mostEdges) × (d .last ≤ mostNodes)
+
+-- nodes that are not marked are passed, from end down to r, which is not below base
+pub record Over (base end : ℕ) (x : List ℕ) (r : ℕ) (x′ : List ℕ) : Type 0 where
+  pub low : base ≤ r
+  pub high : r ≤ end
+  pub size : length x′ ≡ indexSize
+  pub same : (t : List ℕ) (d : Descent) → sunk t x′ d r ≡ sunk t x d end
+  pub fits : (d : Descent) → Fits end d x → Fits r d x′
 
 -- operands are of earlier nodes
 abbrev pub Earlier : List ℕ → ℕ → Type 0
-Earlier t n = (m : ℕ) → m < n → All (λ l. l / 2 < m) (operands (nodeAt t m))
+Earlier t n = Early (nodeAt t) n
 
 abbrev pub Zeros : List ℕ → Type 0
 Zeros x = (i : ℕ) → i < indexSize → getD x i 0 ≡ 0

@@ -1,7 +1,7 @@
 // The index of a table, built once a call: the nodes' fields as numbers, four a node, each node's edges, so that its parents are found
 // without a look at the others, and the codes and classes, which say what the clauses of a literal come to.
 ghost use mathlib.Core.Path.{_≡_};
-ghost use Prim.Native.Nat.{ℕ, _+_, _/_, _%_, _<_, _≤_};
+ghost use Prim.Native.Nat.{ℕ, _+_, _-_, _/_, _%_, _<_, _≤_};
 ghost use lib.ListN.{length};
 ghost use Rattle.record.specs.Place.{placeOf};
 ghost use Rattle.scope.specs.Table.{operands, nodeAt};
@@ -9,8 +9,8 @@ ghost use Rattle.calculus.specs.Model.{All, Below};
 ghost use Rattle.index.specs.Codes.{codesSize, classesSize};
 ghost use Rattle.index.specs.Index.{indexSize, mostNodes, mostEdges, firstAt, midAt, endAt, indexNode};
 ghost use Rattle.index.specs.Edges.{midOf, endOf};
-ghost use Rattle.index.specs.Built.{Same, Known, raised, countNode, putPair, putThree, putNode, Room, Blank, Counting, Placing, Linked, Loaded, Copied, Classified, Built};
-ghost use Rattle.index.specs.Marks.{marked, markAll, stored, placedAt, passed, startAfter, sunk, Fits, Earlier, Zeros, Pruned};
+ghost use Rattle.index.specs.Built.{Same, Early, raised, countNode, putPair, putThree, putNode, Room, Blank, Counting, Placing, Linked, Loaded, Copied, Classified, Built};
+ghost use Rattle.index.specs.Marks.{marked, markAll, stored, placedAt, metAt, Wanted, passed, after, sunk, top, Fits, Over, Earlier, Zeros, Pruned};
 
 // The layout: node m has its kind at 4 m, then its operands; from FIRST, MID and END on each node's offsets: its edges from parents of two
 // operands stand from the first on below the second, two numbers each, those from parents of three from the second on below the third, one
@@ -561,7 +561,7 @@ fn count_node(x: &mut [u16], n: usize, p: usize)
 
 // All edges are counted.
 fn count(x: &mut [u16], n: usize)
-    requires { ⌜ (length (now x) ≡ indexSize) × (n ≤ mostNodes) × Known (indexNode (now x)) n ⌝ }
+    requires { ⌜ (length (now x) ≡ indexSize) × (n ≤ mostNodes) × Early (indexNode (now x)) n ⌝ }
     requires { ⌜ Blank n (now x) ⌝ }
     ensures { λ _. ⌜ Counting n (now (x .exit)) × Same firstAt (now (x .entry)) (now (x .exit)) ⌝ }
 {
@@ -572,17 +572,17 @@ fn count(x: &mut [u16], n: usize)
     }
 }
 
-// Each node's edges get their place, behind those of the nodes before it.
+// Each node's edges get their place, behind those of the nodes before it; until they are put, its first number is the next node.
 fn place(x: &mut [u16], n: usize)
     requires { ⌜ (n ≤ mostNodes) × Counting n (now x) ⌝ }
-    ensures { λ _. ⌜ Placing n (now (x .exit)) × Same firstAt (now (x .entry)) (now (x .exit)) ⌝ }
+    ensures { λ _. ⌜ Placing 0 n (now (x .exit)) × Same firstAt (now (x .entry)) (now (x .exit)) ⌝ }
 {
     let mut m = 0;
     let mut start = 0u16;
     while m < n {
         let mid = start + x[MID + m];
         let end = mid + x[END + m];
-        x[FIRST + m] = start;
+        x[FIRST + m] = (m + 1) as u16;
         x[MID + m] = start;
         x[END + m] = mid;
         start = end;
@@ -638,27 +638,30 @@ fn put_node(x: &mut [u16], n: usize, p: usize)
     put_three(x, p, c);
 }
 
-// All edges are put.
-fn fill(x: &mut [u16], n: usize)
-    requires { ⌜ (n ≤ mostNodes) × Placing n (now x) ⌝ }
+// All edges are put, from head on along the chain: the first number of each node in it is the next. Its parents come behind it, so none of
+// its own edges is put yet, and its second number is still where they start.
+fn fill(x: &mut [u16], head: usize, n: usize)
+    requires { ⌜ (n ≤ mostNodes) × Placing head n (now x) ⌝ }
     ensures { λ _. ⌜ Linked n (now (x .entry)) (now (x .exit)) ⌝ }
 {
-    let mut p = 0;
+    let mut p = head;
     while p < n {
+        let next = x[FIRST + p] as usize;
+        x[FIRST + p] = x[MID + p];
         put_node(x, n, p);
-        p += 1;
+        p = next;
     }
 }
 
 // The edges are counted, get their places and are put.
 fn link(x: &mut [u16], n: usize)
-    requires { ⌜ (length (now x) ≡ indexSize) × (n ≤ mostNodes) × Known (indexNode (now x)) n ⌝ }
+    requires { ⌜ (length (now x) ≡ indexSize) × (n ≤ mostNodes) × Early (indexNode (now x)) n ⌝ }
     requires { ⌜ Blank n (now x) ⌝ }
     ensures { λ _. ⌜ Linked n (now (x .entry)) (now (x .exit)) ⌝ }
 {
     count(x, n);
     place(x, n);
-    fill(x, n);
+    fill(x, 0, n);
 }
 
 // Node m is stored, from its record at a place of the table.
@@ -754,7 +757,7 @@ fn copy_classes(x: &mut [u16])
 
 // The index of the nodes of a table. Nothing is assumed of what x held: each number that belongs to a node is stored.
 pub fn build(t: &[u8], nodes: usize, x: &mut [u16])
-    requires { ⌜ (nodes ≤ mostNodes) × ((m : ℕ) → m < nodes → placeOf m + 8 ≤ length (now t)) × Known (nodeAt (now t)) nodes ⌝ }
+    requires { ⌜ (nodes ≤ mostNodes) × ((m : ℕ) → m < nodes → placeOf m + 8 ≤ length (now t)) × Earlier (now t) nodes ⌝ }
     requires { ⌜ length (now x) ≡ indexSize ⌝ }
     ensures { λ _. ⌜ Built (now (t .entry)) nodes (now (x .exit)) ⌝ }
 {
@@ -811,68 +814,90 @@ fn meet(x: &mut [u16], p: usize)
     count_three(x, c);
 }
 
-// The edges of node p, which are all counted, get their places from start on. Where the next ones start.
-fn place_node(x: &mut [u16], p: usize, start: u16) -> u16
-    requires { ⌜ (length (now x) ≡ indexSize) × (p < mostNodes) × (start + (midOf (now x) p + endOf (now x) p) ≤ mostEdges) ⌝ }
-    ensures { λ r. ⌜ (now (x .exit) ≡ placedAt (now (x .entry)) p start) × (r ≡ start + (midOf (now (x .entry)) p + endOf (now (x .entry)) p)) ⌝ }
+// How far the way down has come: where the next node's edges start, and the node met last.
+struct Descent {
+    start: u16,
+    last: usize,
+}
+
+// The edges of node p, which are all counted, get their places; until they are put, its first number is the node met before it.
+fn place_node(x: &mut [u16], p: usize, d: Descent) -> Descent
+    requires { ⌜ (length (now x) ≡ indexSize) × (p < mostNodes) × (d .start + (midOf (now x) p + endOf (now x) p) ≤ mostEdges) × (d .last ≤ mostNodes) ⌝ }
+    ensures { λ r. ⌜ (now (x .exit) ≡ placedAt (now (x .entry)) p d) × (r ≡ metAt (now (x .entry)) d p) ⌝ }
 {
     let pairs = x[MID + p];
     let threes = x[END + p];
-    x[FIRST + p] = start;
-    x[MID + p] = start;
-    x[END + p] = start + pairs;
-    start + (pairs + threes)
+    x[FIRST + p] = d.last as u16;
+    x[MID + p] = d.start;
+    x[END + p] = d.start + pairs;
+    Descent {
+        start: d.start + (pairs + threes),
+        last: p,
+    }
 }
 
-// Node p is loaded if it is marked: it comes behind all its parents, so its edges get their places; it marks its operands' nodes, and its own
-// edges are counted there. Where the next ones start.
-fn pass(t: &[u8], x: &mut [u16], p: usize, at: usize, start: u16) -> u16
+// Node p, which is marked, is loaded: it comes behind all its parents, so its edges get their places; it marks its operands' nodes, and its
+// own edges are counted there.
+fn pass(t: &[u8], x: &mut [u16], p: usize, at: usize, d: Descent) -> Descent
     requires { ⌜ (p < mostNodes) × (at ≡ placeOf p) × (placeOf p + 8 ≤ length (now t)) × (length (now x) ≡ indexSize) ⌝ }
     requires { ⌜ All (λ l. l / 2 < p) (operands (nodeAt (now t) p)) ⌝ }
-    requires { ⌜ Fits (p + 1) start (now x) ⌝ }
-    ensures { λ r. ⌜ (now (x .exit) ≡ passed (now (t .entry)) (now (x .entry)) start p) × (r ≡ startAfter (now (x .entry)) start p) ⌝ }
+    requires { ⌜ Fits (p + 1) d (now x) × Wanted (now x) p ⌝ }
+    ensures { λ r. ⌜ (now (x .exit) ≡ passed (now (t .entry)) (now (x .entry)) d p) × (r ≡ after (now (x .entry)) d p) ⌝ }
 {
-    if x[4 * p] == 0 {
-        x[4 * p] = 1;
-        return start;
-    }
-    let next = place_node(x, p, start);
+    let r = place_node(x, p, d);
     store_node(t, x, p, at);
     meet(x, p);
-    next
+    r
+}
+
+// The nodes below end, down to base, are passed over until one is marked: each becomes a TRUE. One past the marked one, or base.
+fn pass_over(x: &mut [u16], base: usize, end: usize) -> usize
+    requires { ⌜ (base ≤ end) × (end ≤ mostNodes) × (length (now x) ≡ indexSize) ⌝ }
+    ensures { λ r. ⌜ Over base end (now (x .entry)) r (now (x .exit)) × (base < r → Wanted (now (x .exit)) (r - 1)) ⌝ }
+{
+    let mut e = end;
+    while base < e {
+        if x[4 * (e - 1)] != 0 {
+            return e;
+        }
+        e -= 1;
+        x[4 * e] = 1;
+    }
+    e
 }
 
 // The nodes below end, down to base, all of one block.
-fn pass_block(t: &[u8], x: &mut [u16], base: usize, end: usize, start: u16) -> u16
+fn pass_block(t: &[u8], x: &mut [u16], base: usize, end: usize, from: Descent) -> Descent
     requires { ⌜ (base % 63 ≡ 0) × (base ≤ end) × (end ≤ base + 63) × (end ≤ mostNodes) ⌝ }
     requires { ⌜ ((m : ℕ) → m < end → placeOf m + 8 ≤ length (now t)) × Earlier (now t) end × (length (now x) ≡ indexSize) ⌝ }
-    requires { ⌜ Fits end start (now x) ⌝ }
-    ensures { λ r. ⌜ (sunk (now (t .entry)) (now (x .exit)) r base ≡ sunk (now (t .entry)) (now (x .entry)) start end) × (length (now (x .exit)) ≡ indexSize) × Fits base r (now (x .exit)) ⌝ }
+    requires { ⌜ Fits end from (now x) ⌝ }
+    ensures { λ r. ⌜ (sunk (now (t .entry)) (now (x .exit)) r base ≡ sunk (now (t .entry)) (now (x .entry)) from end) × (length (now (x .exit)) ≡ indexSize) × Fits base r (now (x .exit)) ⌝ }
 {
-    let mut p = end;
-    let mut next = start;
-    let mut at = record::place(base) + 8 * (end - base);
+    let at = record::place(base);
+    let mut d = from;
+    let mut p = pass_over(x, base, end);
     while base < p {
         p -= 1;
-        at -= 8;
-        next = pass(t, x, p, at, next);
+        d = pass(t, x, p, at + 8 * (p - base), d);
+        p = pass_over(x, base, p);
     }
-    next
+    d
 }
 
-// The first n nodes, from the highest down, block by block.
-fn sink(t: &[u8], n: usize, x: &mut [u16])
+// The first n nodes, from the highest down, block by block. The node met last, or n.
+fn sink(t: &[u8], n: usize, x: &mut [u16]) -> usize
     requires { ⌜ (n ≤ mostNodes) × ((m : ℕ) → m < n → placeOf m + 8 ≤ length (now t)) × Earlier (now t) n ⌝ }
-    requires { ⌜ (length (now x) ≡ indexSize) × Fits n 0 (now x) ⌝ }
-    ensures { λ _. ⌜ now (x .exit) ≡ sunk (now (t .entry)) (now (x .entry)) 0 n ⌝ }
+    requires { ⌜ (length (now x) ≡ indexSize) × Fits n (top n) (now x) ⌝ }
+    ensures { λ r. ⌜ (now (x .exit) ≡ sunk (now (t .entry)) (now (x .entry)) (top n) n .0) × (r ≡ sunk (now (t .entry)) (now (x .entry)) (top n) n .1 .last) ⌝ }
 {
     let mut end = n;
-    let mut start = 0u16;
+    let mut d = Descent { start: 0, last: n };
     while 0 < end {
         let base = 63 * ((end - 1) / 63);
-        start = pass_block(t, x, base, end, start);
+        d = pass_block(t, x, base, end, d);
         end = base;
     }
+    d.last
 }
 
 // The index of those of the first n nodes of a table that are below some literals of them: all that a search of these comes to. In the
@@ -884,8 +909,8 @@ pub fn build_below(t: &[u8], ls: &[u16], n: usize, x: &mut [u16])
     ensures { λ _. ⌜ Pruned (now (t .entry)) (now (ls .entry)) n (now (x .exit)) ⌝ }
 {
     mark_all(x, ls);
-    sink(t, n, x);
-    fill(x, n);
+    let head = sink(t, n, x);
+    fill(x, head, n);
     copy_codes(x);
     copy_classes(x);
 }

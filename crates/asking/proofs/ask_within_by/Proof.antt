@@ -1,7 +1,7 @@
 -- `asking::ask_within_by` meets its contract: the index is that of the nodes that the goals reach. Assumes nothing.
 use borrow.Author.Needs.{needs}
 use Rattle.codec.specs.Valid.{Bytes}
-use Rattle.asking.proofs.Nodes.{buildable-few, earlier-few, reaches}
+use Rattle.asking.proofs.Nodes.{buildable-few, reaches}
 use Rattle.asking.proofs.Answers.{within-none, within-some}
 use Rattle.asking.proofs.ask_within_by.Statement.{statement}
 use Rattle.asking.proofs.ask_within_by.Tie as tie
@@ -29,8 +29,7 @@ build-below-requires c κs =
     let b = bytes (c .before .before .before .before .before .before .before) in
     let r = c .before .reach .ensures in
     let l = r .least _ (e .admitted _ q .below) in
-    let f = buildable-few _ (e .counted _ q) b _ l in
-    ((f .0, f .1, earlier-few _ (e .counted _ q) b _ l), (r .below, search needs))
+    (buildable-few _ (e .counted _ q) b _ l, (r .below, search needs))
 
 returns : tie.Need-returns
 returns c = within-none _ _ _ _ _ _ _ (c .before .before .before .admit .ensures .refuses _ (c .before .a .given .1)) _

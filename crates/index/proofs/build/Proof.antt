@@ -1,5 +1,5 @@
 -- `index::build` meets its contract: of the nodes loaded no edge is counted yet, and linking keeps them. Assumes nothing.
-use Rattle.index.proofs.Wholes.{loaded-known, built}
+use Rattle.index.proofs.Wholes.{loaded-early, built}
 use borrow.Author.Needs.{needs}
 use Rattle.index.proofs.build.Statement.{statement}
 use Rattle.index.proofs.build.Tie as tie
@@ -13,7 +13,7 @@ link-requires : tie.Need-link-requires
 link-requires c κs =
     let l = c .before .before .before .load .ensures in
     let p = c .before .before .before .before .before .before .before .pre in
-    ((l .size, p .0 .0, loaded-known _ _ _ l (p .0 .2)), l .counts)
+    ((l .size, p .0 .0, loaded-early _ _ _ l (p .0 .2)), l .counts)
 
 copy-codes-requires : tie.Need-copy-codes-requires
 copy-codes-requires c κs = c .before .before .before .link .ensures .size

@@ -4,7 +4,7 @@ use Rattle.calculus.proofs.Lists.{all-imply}
 use Rattle.index.specs.Index.{mostNodes}
 use Rattle.index.specs.Marks.{markAll}
 use Rattle.index.proofs.Marks.{pruned}
-use Rattle.index.proofs.Falls.{fits-none, marks-zeros, sinks-whole, sunk-placing}
+use Rattle.index.proofs.Falls.{fits-none, marks-zeros, sinks-whole}
 use native.Mathlib.Omega.{arith}
 use borrow.Author.Needs.{needs}
 use Rattle.index.proofs.build_below.Statement.{statement}
@@ -25,8 +25,8 @@ sink-requires c κs =
 fill-requires : tie.Need-fill-requires
 fill-requires c κs =
     let s = c .before .before .before .before .before .before .before .before .before .before .before .before in
-    let w = sinks-whole (s .args .t .now) (s .args .ls .now) (s .args .n) (s .args .x .now) _ _ (s .pre .0 .0) (s .pre .0 .2) (s .pre .1 .0) (s .pre .1 .1 .0) (s .pre .1 .1 .1) (c .before .before .before .before .before .before .before .mark-all .ensures) (c .before .before .before .sink .ensures) in
-    (s .pre .0 .0, sunk-placing _ _ _ _ (s .pre .0 .2) w)
+    let w = sinks-whole (s .args .t .now) (s .args .ls .now) (s .args .n) (s .args .x .now) _ _ _ (s .pre .0 .0) (s .pre .0 .2) (s .pre .1 .0) (s .pre .1 .1 .0) (s .pre .1 .1 .1) (c .before .before .before .before .before .before .before .mark-all .ensures) (c .before .before .before .sink .ensures .0) (c .before .before .before .sink .ensures .1) in
+    (s .pre .0 .0, w .1)
 
 copy-codes-requires : tie.Need-copy-codes-requires
 copy-codes-requires c κs = search needs
@@ -45,8 +45,8 @@ returns c =
     let k = l .before .before .before .before in
     let m = k .before .before .before .before in
     let s = m .before .before .before .before .before in
-    let w = sinks-whole (s .args .t .now) (s .args .ls .now) (s .args .n) (s .args .x .now) _ _ (s .pre .0 .0) (s .pre .0 .2) (s .pre .1 .0) (s .pre .1 .1 .0) (s .pre .1 .1 .1) (m .mark-all .ensures) (k .sink .ensures) in
-    pruned (s .args .t .now) (s .args .ls .now) (s .args .n) _ _ _ _ (s .pre .0 .0) (w .sinking) (l .fill .ensures) (y .copy-codes .ensures) (v .copy-classes .ensures)
+    let w = sinks-whole (s .args .t .now) (s .args .ls .now) (s .args .n) (s .args .x .now) _ _ _ (s .pre .0 .0) (s .pre .0 .2) (s .pre .1 .0) (s .pre .1 .1 .0) (s .pre .1 .1 .1) (m .mark-all .ensures) (k .sink .ensures .0) (k .sink .ensures .1) in
+    pruned (s .args .t .now) (s .args .ls .now) (s .args .n) _ _ _ _ (s .pre .0 .0) (w .0) (l .fill .ensures) (y .copy-codes .ensures) (v .copy-classes .ensures)
 
 pub build-below-spec : {M : Type 1} → statement M
 build-below-spec =

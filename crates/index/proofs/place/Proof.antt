@@ -5,16 +5,17 @@ use Prim.Native.Nat.{ℕ, _+_, _-_, _≤_}
 use lib.ListN.{getD, length-set}
 use Rattle.scope.specs.declared.Node.{Node}
 use Rattle.index.specs.Index.{firstAt, midAt}
-use Rattle.index.specs.Built.{Same, Known, pairsTo, threesTo, startOf}
+use Rattle.index.specs.Built.{Same, Early, pairsTo, threesTo, startOf}
 use Rattle.index.proofs.Sums.{sum-next, total-low}
-use Rattle.index.proofs.Wholes.{Place, start-none, place-none, place-more, place-same, places}
+use Rattle.index.proofs.Wholes.{Place, start-none, place-none, place-more, place-same}
+use Rattle.index.proofs.Chains.{places}
 use native.Mathlib.Omega.{arith}
 use borrow.Author.Needs.{needs}
 use Rattle.index.proofs.place.Statement.{statement}
 use Rattle.index.proofs.place.Tie as tie
 
 abbrev Inv-loop : tie.InvT-loop
-Inv-loop x₀ n m₀ start₀ x m start = (m ≤ n) × ((t : ℕ → Node) × Known t n × Place t n m x × (start ≡ startOf t n m)) × Same firstAt x₀ x
+Inv-loop x₀ n m₀ start₀ x m start = (m ≤ n) × ((t : ℕ → Node) × Early t n × Place t n m x × (start ≡ startOf t n m)) × Same firstAt x₀ x
 
 abbrev μ-loop : tie.MeasureT-loop
 μ-loop x₀ n m₀ start₀ x m start = n - m
@@ -57,14 +58,20 @@ add-end-2 c =
 add-x : tie.Need-add-x Inv-loop μ-loop
 add-x c = search needs
 
+cast-x : tie.Need-cast-x Inv-loop μ-loop
+cast-x c = omega (arith, c .before .before .loop-test .taken, c .before .before .before .before .pre .0)
+
+add-x-2 : tie.Need-add-x-2 Inv-loop μ-loop
+add-x-2 c = search needs
+
 mul-x : tie.Need-mul-x Inv-loop μ-loop
 mul-x c = search needs
 
 slice-write-x : tie.Need-slice-write-x Inv-loop μ-loop
 slice-write-x c = (omega (arith, c .before .before .before .loop .inv .1 .2 .size, c .before .before .loop-test .taken, c .before .before .before .before .pre .0))
 
-add-x-2 : tie.Need-add-x-2 Inv-loop μ-loop
-add-x-2 c = search needs
+add-x-3 : tie.Need-add-x-3 Inv-loop μ-loop
+add-x-3 c = search needs
 
 mul-x-2 : tie.Need-mul-x-2 Inv-loop μ-loop
 mul-x-2 c = search needs
@@ -72,8 +79,8 @@ mul-x-2 c = search needs
 slice-write-x-2 : tie.Need-slice-write-x-2 Inv-loop μ-loop
 slice-write-x-2 c = simp length-set (omega (arith, c .before .before .before .loop .inv .1 .2 .size, c .before .before .loop-test .taken, c .before .before .before .before .pre .0))
 
-add-x-3 : tie.Need-add-x-3 Inv-loop μ-loop
-add-x-3 c = search needs
+add-x-4 : tie.Need-add-x-4 Inv-loop μ-loop
+add-x-4 c = search needs
 
 mul-x-3 : tie.Need-mul-x-3 Inv-loop μ-loop
 mul-x-3 c = search needs
@@ -126,12 +133,14 @@ place-spec =
     slice-read-end
     add-end-2
     add-x
+    cast-x
+    add-x-2
     mul-x
     slice-write-x
-    add-x-2
+    add-x-3
     mul-x-2
     slice-write-x-2
-    add-x-3
+    add-x-4
     mul-x-3
     slice-write-x-3
     add-m

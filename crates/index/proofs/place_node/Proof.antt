@@ -23,6 +23,9 @@ mul-threes c = search needs
 slice-read-threes : tie.Need-slice-read-threes
 slice-read-threes c = search needs
 
+cast-x : tie.Need-cast-x
+cast-x c = search needs
+
 add-x : tie.Need-add-x
 add-x c = search needs
 
@@ -39,7 +42,7 @@ mul-x-2 : tie.Need-mul-x-2
 mul-x-2 c = search needs
 
 slice-write-x-2 : tie.Need-slice-write-x-2
-slice-write-x-2 c = simp length-set (omega (arith, c .before .before .pre))
+slice-write-x-2 c = simp length-set (omega (arith, c .before .before .before .pre))
 
 add-x-3 : tie.Need-add-x-3
 add-x-3 c = search needs
@@ -51,13 +54,13 @@ mul-x-3 : tie.Need-mul-x-3
 mul-x-3 c = search needs
 
 slice-write-x-3 : tie.Need-slice-write-x-3
-slice-write-x-3 c = simp length-set (omega (arith, c .before .before .pre))
+slice-write-x-3 c = simp length-set (omega (arith, c .before .before .before .before .pre))
 
-add-result : tie.Need-add-result
-add-result c = search needs
+add-t9 : tie.Need-add-t9
+add-t9 c = search needs
 
-add-result-2 : tie.Need-add-result-2
-add-result-2 c = search needs
+add-t14 : tie.Need-add-t14
+add-t14 c = search needs
 
 same-length : tie.Need-same-length
 same-length c = search needs
@@ -75,6 +78,7 @@ place-node-spec =
     add-threes
     mul-threes
     slice-read-threes
+    cast-x
     add-x
     mul-x
     slice-write-x
@@ -85,7 +89,7 @@ place-node-spec =
     add-x-4
     mul-x-3
     slice-write-x-3
-    add-result
-    add-result-2
+    add-t9
+    add-t14
     same-length
     returns)

@@ -1,9 +1,11 @@
 -- `index::sink` meets its contract. The loop's invariant: what is left to pass gives what all gave. Assumes nothing.
-use mathlib.Core.Path.{_≡_, refl, sym, _∙_}
-use Prim.Native.Nat.{_≤_}
+use mathlib.Core.Path.{_≡_, refl, sym, ap, _∙_}
+use mathlib.Core.List.{List}
+use Prim.Native.Nat.{ℕ, _≤_}
 use lib.ListN.{length}
+use Rattle.index.specs.declared.Descent.{Descent}
 use Rattle.index.specs.Index.{indexSize}
-use Rattle.index.specs.Marks.{sunk, Fits}
+use Rattle.index.specs.Marks.{sunk, top, Fits}
 use Rattle.index.proofs.Marks.{sunk-none}
 use native.Mathlib.Omega.{arith}
 use borrow.Author.Needs.{needs}
@@ -11,10 +13,10 @@ use Rattle.index.proofs.sink.Statement.{statement}
 use Rattle.index.proofs.sink.Tie as tie
 
 abbrev Inv-loop : tie.InvT-loop
-Inv-loop t n x₀ end₀ start₀ x end start = (end ≤ n) × (length x ≡ indexSize) × (sunk t x start end ≡ sunk t x₀ 0 n) × Fits end start x
+Inv-loop t n x₀ end₀ d₀ x end d = (end ≤ n) × (length x ≡ indexSize) × (sunk t x d end ≡ sunk t x₀ (top n) n) × Fits end d x
 
 abbrev μ-loop : tie.MeasureT-loop
-μ-loop t n x₀ end₀ start₀ x end start = end
+μ-loop t n x₀ end₀ d₀ x end d = end
 
 loop-holds : tie.Need-loop-holds Inv-loop μ-loop
 loop-holds c = (omega arith, c .before .before .pre .1 .0, refl, c .before .before .pre .1 .1)
@@ -50,7 +52,8 @@ returns : tie.Need-returns Inv-loop μ-loop
 returns c =
     let i = c .before .loop .inv in
     let e : c .before .loop .end ≡ 0 = omega (arith, c .loop-test .left) in
-    sym (sunk-none _ _ _) ∙ (rw e at (i .2))
+    let q = sym (sunk-none (c .before .before .before .before .args .t .now) (c .before .loop .x) (c .before .loop .d)) ∙ (rw e at (i .2)) in
+    (ap (λ (r : List ℕ × Descent). r .0) q, ap (λ (r : List ℕ × Descent). r .1 .last) q)
 
 pub sink-spec : {M : Type 1} → statement M
 sink-spec =
