@@ -29,8 +29,8 @@ use Rattle.calculus.proofs.Search.{grown-whole}
 use Rattle.calculus.proofs.Asked.{list-met, by-fine}
 use Rattle.index.specs.Index.{indexSize, mostNodes, mostLiterals, indexNode, Codes, Classes}
 use Rattle.index.specs.Edges.{Edges}
-use Rattle.index.specs.Built.{Built}
-use Rattle.index.specs.Marks.{bare, Earlier, Pruned}
+use Rattle.index.specs.Built.{Early, Built}
+use Rattle.index.specs.Marks.{bare, Pruned}
 use Rattle.index.specs.Indexed.{Indexed}
 use Rattle.asking.specs.Asks.{Prepared}
 use Rattle.asking.specs.Within.{Reached}
@@ -66,7 +66,7 @@ module _ (t : List ℕ) {nodes : ℕ} (e : tableCount t ≡ answer nodes) where
     whole = rw (size-in t nodes) at (table-of t (nodesIn t nodes) all nodes-read)
 
     -- an index of the first m nodes may be built
-    pub buildable-few : (m : ℕ) → m ≤ nodes → (m ≤ mostNodes) × ((i : ℕ) → i < m → placeOf i + 8 ≤ length t) × Earlier t m
+    pub buildable-few : (m : ℕ) → m ≤ nodes → (m ≤ mostNodes) × ((i : ℕ) → i < m → placeOf i + 8 ≤ length t) × Early (nodeAt t) m
     buildable-few m l =
         let c = counted t e in (
           omega (arith, few),
@@ -75,7 +75,7 @@ module _ (t : List ℕ) {nodes : ℕ} (e : tableCount t ≡ answer nodes) where
         )
 
     -- .. and of all
-    pub buildable : (nodes ≤ mostNodes) × ((m : ℕ) → m < nodes → placeOf m + 8 ≤ length t) × Earlier t nodes
+    pub buildable : (nodes ≤ mostNodes) × ((m : ℕ) → m < nodes → placeOf m + 8 ≤ length t) × Early (nodeAt t) nodes
     buildable = buildable-few nodes (omega arith)
 
     -- an index that has a node or a TRUE in its place

@@ -17,7 +17,7 @@ use Rattle.index.specs.declared.Descent.{Descent}
 use Rattle.index.specs.Index.{indexSize, mostNodes, firstAt, midAt, endAt, indexNode}
 use Rattle.index.specs.Edges.{firstOf, midOf, endOf}
 use Rattle.index.specs.Built.{Early, sum, pairsIn, threesIn, pairsTo, threesTo, Counted, countNode, Chain, Placing}
-use Rattle.index.specs.Marks.{bare, markAll, stored, placedAt, metAt, Wanted, passed, after, sunk, top, Fits, Over, Earlier, Zeros}
+use Rattle.index.specs.Marks.{bare, markAll, stored, placedAt, metAt, Wanted, passed, descended, sunk, top, Fits, Over, Zeros}
 use Rattle.index.proofs.Sums.{sum-zero, sum-same, sum-plus, node-four, brings-none, brings-nothing, early-none}
 use Rattle.index.proofs.Counts.{counted-by, count-same}
 use Rattle.index.proofs.Chains.{chain-none, chain-more, chain-over, chain-same}
@@ -63,10 +63,14 @@ fits-moved {p} {d} {y} {x} {d′} {x′} few M f =
     go (inl (e, l)) = omega (arith, l, few)
     go (inr (b, e, l)) = omega (arith, l, f .1)
 
+-- the places stand behind the nodes
+bare-cell : (x : List ℕ) (p : ℕ) → p < mostNodes → (i : ℕ) → firstAt ≤ i → getD (set x (4 * p) 1) i 0 ≡ getD x i 0
+bare-cell x p few i h = getD-set-other x (4 * p) i 1 0 (λ q. omega (arith, q))
+
 fits-bare : (p : ℕ) (d : Descent) (x : List ℕ) → p < mostNodes → Fits (suc p) d x → Fits p d (set x (4 * p) 1)
 unfolding sum
 fits-bare p d x few f =
-    let other : (i : ℕ) → firstAt ≤ i → getD (set x (4 * p) 1) i 0 ≡ getD x i 0 = λ i h. getD-set-other x (4 * p) i 1 0 (λ q. omega (arith, q, h, few)) in
+    let other = bare-cell x p few in
     (omega (arith, f .0, sum-same (counted (set x (4 * p) 1)) (counted x) p (λ i h. omega (arith, other (midAt + i) (omega arith), other (endAt + i) (omega arith)))), f .1)
 
 -- ---- a node that is not marked
@@ -76,7 +80,7 @@ module _ (x : List ℕ) (p : ℕ) (d : Descent) (few : p < mostNodes) (z : lengt
   x₀ = set x (4 * p) 1
 
   bare-places : (i : ℕ) → firstAt ≤ i → getD x₀ i 0 ≡ getD x i 0
-  bare-places i h = getD-set-other x (4 * p) i 1 0 (λ q. omega (arith, q))
+  bare-places = bare-cell x p few
 
   bare-kind : indexNode x₀ p .kind < 3
   unfolding indexNode
@@ -300,15 +304,15 @@ falls-moved {n} {p} {d} {y} {x} {d′} {x′} few h M F = record {
 }
 
 module _ (t x : List ℕ) (d : Descent) (p : ℕ) (few : p < mostNodes) (z : length x ≡ indexSize) (a : All (λ l. l / 2 < p) (operands (nodeAt t p))) where
-  pub fits-passed : Wanted x p → Fits (suc p) d x → Fits p (after x d p) (passed t x d p)
-  unfolding passed after
+  pub fits-passed : Wanted x p → Fits (suc p) d x → Fits p (descended x d p) (passed t x d p)
+  unfolding passed descended
   fits-passed w f = rw (ne-eqb (getD x (4 * p) 0) 0 (λ q. omega (arith, q, w))) (fits-moved few (moved-node t x d p few z a) f)
 
-  falls-passed : {n : ℕ} → n ≤ mostNodes → p < n → Falling n (suc p) d x → Falling n p (after x d p) (passed t x d p)
-  unfolding passed after
+  falls-passed : {n : ℕ} → n ≤ mostNodes → p < n → Falling n (suc p) d x → Falling n p (descended x d p) (passed t x d p)
+  unfolding passed descended
   falls-passed {n} l h F = go (ℕ-discrete (getD x (4 * p) 0) 0)
     where
-      go : Dec (getD x (4 * p) 0 ≡ 0) → Falling n p (after x d p) (passed t x d p)
+      go : Dec (getD x (4 * p) 0 ≡ 0) → Falling n p (descended x d p) (passed t x d p)
       go (yes e) =
           let b = F .blank p (omega arith) e in
           rw (eq-eqb (getD x (4 * p) 0) 0 e) (falls-moved l h (moved-bare x p d few z (F .first p (omega arith)) (b .0) (b .1)) F)
@@ -355,11 +359,11 @@ record Sunk (t ls : List ℕ) (n : ℕ) (r : List ℕ × Descent) : Type 0 where
   sinking : Sinking t ls n 0 (r .0)
   falling : Falling n 0 (r .1) (r .0)
 
-sinks : (t ls : List ℕ) (n p : ℕ) (d : Descent) (x : List ℕ) → n ≤ mostNodes → p ≤ n → Earlier t n → Sinking t ls n p x → Falling n p d x → Sunk t ls n (sunk t x d p)
+sinks : (t ls : List ℕ) (n p : ℕ) (d : Descent) (x : List ℕ) → n ≤ mostNodes → p ≤ n → Early (nodeAt t) n → Sinking t ls n p x → Falling n p d x → Sunk t ls n (sunk t x d p)
 unfolding sunk
 sinks t ls n zero d x few h a S F = record { sinking = S; falling = F }
 sinks t ls n (suc p) d x few h a S F =
-    sinks t ls n p (after x d p) (passed t x d p) few (omega arith) a (sinks-passed t ls n p d x S few (omega arith) (a p (omega arith)))
+    sinks t ls n p (descended x d p) (passed t x d p) few (omega arith) a (sinks-passed t ls n p d x S few (omega arith) (a p (omega arith)))
     (falls-passed t x d p (omega arith) (S .size) (a p (omega arith)) few (omega arith) F)
 
 -- marks are before the places
@@ -367,14 +371,14 @@ pub marks-zeros : (n : ℕ) (x ls : List ℕ) → n ≤ mostNodes → Below n ls
 marks-zeros n x ls few b none i h l = marks-other x ls i (all-imply (λ l. l < 2 * n) _ (λ l c q. omega (arith, q, c, few, h)) ls b) ∙ none i l
 
 -- operands are of earlier nodes
-sunk-early : (t ls : List ℕ) (n : ℕ) (x : List ℕ) → Earlier t n → Sinking t ls n 0 x → Early (indexNode x) n
+sunk-early : (t ls : List ℕ) (n : ℕ) (x : List ℕ) → Early (nodeAt t) n → Sinking t ls n 0 x → Early (indexNode x) n
 sunk-early t ls n x a S m h = go (S .nodes m (omega arith) h)
   where
     go : (indexNode x m ≡ nodeAt t m) ⊎ (indexNode x m ≡ bare) → All (λ l. l / 2 < m) (operands (indexNode x m))
     go (inl e) = rw e (a m h)
     go (inr e) = rw (e, operands-none bare (omega arith)) tt
 
-sunk-placing : (t ls : List ℕ) (n : ℕ) (r : List ℕ × Descent) → Earlier t n → Sunk t ls n r → Placing (r .1 .last) n (r .0)
+sunk-placing : (t ls : List ℕ) (n : ℕ) (r : List ℕ × Descent) → Early (nodeAt t) n → Sunk t ls n r → Placing n (r .1 .last) (r .0)
 unfolding sum
 sunk-placing t ls n (x, d) a S =
     let F = S .falling in
@@ -394,8 +398,8 @@ sunk-placing t ls n (x, d) a S =
       },
     )
 
-pub sinks-whole : (t ls : List ℕ) (n : ℕ) (x x₁ x₂ : List ℕ) (head : ℕ) → n ≤ mostNodes → Earlier t n → Below n ls → length x ≡ indexSize → Zeros x
-    → x₁ ≡ markAll x ls → x₂ ≡ sunk t x₁ (top n) n .0 → head ≡ sunk t x₁ (top n) n .1 .last → Sinking t ls n 0 x₂ × Placing head n x₂
+pub sinks-whole : (t ls : List ℕ) (n : ℕ) (x x₁ x₂ : List ℕ) (head : ℕ) → n ≤ mostNodes → Early (nodeAt t) n → Below n ls → length x ≡ indexSize → Zeros x
+    → x₁ ≡ markAll x ls → x₂ ≡ sunk t x₁ (top n) n .0 → head ≡ sunk t x₁ (top n) n .1 .last → Sinking t ls n 0 x₂ × Placing n head x₂
 sinks-whole t ls n x x₁ x₂ head few a b z none e f g =
     let y = markAll x ls in
     let S = sinks t ls n n (top n) y few (omega arith) a (sinks-none t ls n x few b z none) (falls-none n y few (marks-zeros n x ls few b none)) in

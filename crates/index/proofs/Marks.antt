@@ -19,7 +19,7 @@ use Rattle.index.specs.Codes.{codesSize, classesSize}
 use Rattle.index.specs.Index.{indexSize, mostNodes, mostEdges, firstAt, midAt, endAt, indexNode}
 use Rattle.index.specs.Edges.{firstOf, midOf, endOf}
 use Rattle.index.specs.Built.{Same, countNode, Room, Linked, Copied, Classified}
-use Rattle.index.specs.Marks.{bare, marked, markAll, stored, placedAt, metAt, Wanted, passed, after, sunk, Fits, Zeros, Pruned}
+use Rattle.index.specs.Marks.{bare, marked, markAll, stored, placedAt, metAt, Wanted, passed, descended, sunk, Fits, Zeros, Pruned}
 use Rattle.index.proofs.Nodes.{node-same}
 use Rattle.index.proofs.Sums.{sum-part, brings-four}
 use Rattle.index.proofs.Counts.{count-size, count-same}
@@ -192,7 +192,7 @@ module _ (x : List ℕ) (p : ℕ) (d : Descent) where
 
 module _ (t x : List ℕ) (d : Descent) (p : ℕ) where
   pub sunk-bare : getD x (4 * p) 0 ≡ 0 → sunk t (set x (4 * p) 1) d p ≡ sunk t x d (suc p)
-  unfolding sunk passed after
+  unfolding sunk passed descended
   sunk-bare e = rw (eq-eqb (getD x (4 * p) 0) 0 e)
 
   -- a marked node has its places, is loaded, and has marked its operands'
@@ -202,8 +202,8 @@ module _ (t x : List ℕ) (d : Descent) (p : ℕ) where
   abbrev pub marking : List ℕ
   marking = markAll loaded (operands (nodeAt t p))
 
-  pub passed-node : Wanted x p → (countNode marking (nodeAt t p) ≡ passed t x d p) × (metAt x d p ≡ after x d p)
-  unfolding passed after
+  pub passed-node : Wanted x p → (countNode marking (nodeAt t p) ≡ passed t x d p) × (metAt x d p ≡ descended x d p)
+  unfolding passed descended
   passed-node w =
       let e = ne-eqb (getD x (4 * p) 0) 0 (λ q. omega (arith, q, w)) in
       (rw e, rw e)
@@ -252,7 +252,7 @@ module _ (t x : List ℕ) (d : Descent) (p : ℕ) where
         one : (m : ℕ) → m < p → midOf x m + endOf x m + 4 ≤ mostEdges
         one m h = omega (arith, f .0, sum-part (λ i. midOf x i + endOf x i) m (p + 1) (omega arith))
 
-pub sunk-more : (t x : List ℕ) (d : Descent) (p : ℕ) → sunk t (passed t x d p) (after x d p) p ≡ sunk t x d (suc p)
+pub sunk-more : (t x : List ℕ) (d : Descent) (p : ℕ) → sunk t (passed t x d p) (descended x d p) p ≡ sunk t x d (suc p)
 unfolding sunk
 sunk-more t x d p = refl
 

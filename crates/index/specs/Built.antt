@@ -140,7 +140,7 @@ abbrev pub Counting : ℕ → List ℕ → Type 0
 Counting n x = (t : ℕ → Node) × Early t n × Counted t n (pairsTo t n) (threesTo t n) x
 
 abbrev pub Placing : ℕ → ℕ → List ℕ → Type 0
-Placing head n x = (t : ℕ → Node) × Early t n × Placed t n head x
+Placing n head x = (t : ℕ → Node) × Early t n × Placed t n head x
 
 -- the edges stand, and the nodes are as they were
 pub record Linked (n : ℕ) (x x′ : List ℕ) : Type 0 where

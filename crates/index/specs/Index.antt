@@ -1,4 +1,4 @@
--- The index of a table, a slice of 22,626 numbers: four numbers a node, each node's edges from its parents, the codes and the classes.
+-- The index of a table, 22,626 numbers: four numbers a node, each node's edges from its parents, the codes and the classes.
 -- Assumes nothing.
 use mathlib.Core.Path.{_≡_}
 use mathlib.Core.List.{List, _∷_, map}

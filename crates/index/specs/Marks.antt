@@ -15,7 +15,7 @@ use Rattle.calculus.specs.Agree.{Alike, Closed}
 use Rattle.index.specs.declared.Descent.{Descent}
 use Rattle.index.specs.Index.{indexSize, mostNodes, firstAt, midAt, endAt, mostEdges, indexNode, Codes, Classes}
 use Rattle.index.specs.Edges.{midOf, endOf, Edges}
-use Rattle.index.specs.Built.{Early, sum, countNode}
+use Rattle.index.specs.Built.{sum, countNode}
 
 -- in the place of a node that is not wanted: a TRUE, which has no operands
 abbrev pub bare : Node
@@ -25,7 +25,7 @@ bare = record { kind = 1; a = 0; b = 0; c = 0 }
 abbrev pub marked : List ℕ → ℕ → List ℕ
 marked x l = set x (4 * (l / 2)) 1
 
--- node p is marked
+-- node p, which is not passed yet, is marked
 abbrev pub Wanted : List ℕ → ℕ → Type 0
 Wanted x p = 0 < getD x (4 * p) 0
 
@@ -52,13 +52,13 @@ passed t x d p =
     (countNode (markAll (stored (placedAt x p d) p (nodeAt t p)) (operands (nodeAt t p))) (nodeAt t p))
 
 -- how far passing it comes
-unfoldable pub after : List ℕ → Descent → ℕ → Descent
-after x d p = cond (eqb (getD x (4 * p) 0) 0) d (metAt x d p)
+unfoldable pub descended : List ℕ → Descent → ℕ → Descent
+descended x d p = cond (eqb (getD x (4 * p) 0) 0) d (metAt x d p)
 
 -- .. and so on down, of the first p nodes
 unfoldable pub sunk : List ℕ → List ℕ → Descent → ℕ → List ℕ × Descent
 sunk t x d zero = (x, d)
-sunk t x d (suc p) = sunk t (passed t x d p) (after x d p) p
+sunk t x d (suc p) = sunk t (passed t x d p) (descended x d p) p
 
 -- no node is met
 abbrev pub top : ℕ → Descent
@@ -75,10 +75,6 @@ pub record Over (base end : ℕ) (x : List ℕ) (r : ℕ) (x′ : List ℕ) : Ty
   pub size : length x′ ≡ indexSize
   pub same : (t : List ℕ) (d : Descent) → sunk t x′ d r ≡ sunk t x d end
   pub fits : (d : Descent) → Fits end d x → Fits r d x′
-
--- operands are of earlier nodes
-abbrev pub Earlier : List ℕ → ℕ → Type 0
-Earlier t n = Early (nodeAt t) n
 
 abbrev pub Zeros : List ℕ → Type 0
 Zeros x = (i : ℕ) → i < indexSize → getD x i 0 ≡ 0

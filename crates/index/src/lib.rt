@@ -10,7 +10,7 @@ ghost use Rattle.index.specs.Codes.{codesSize, classesSize};
 ghost use Rattle.index.specs.Index.{indexSize, mostNodes, mostEdges, firstAt, midAt, endAt, indexNode};
 ghost use Rattle.index.specs.Edges.{midOf, endOf};
 ghost use Rattle.index.specs.Built.{Same, Early, raised, countNode, putPair, putThree, putNode, Room, Blank, Counting, Placing, Linked, Loaded, Copied, Classified, Built};
-ghost use Rattle.index.specs.Marks.{marked, markAll, stored, placedAt, metAt, Wanted, passed, after, sunk, top, Fits, Over, Earlier, Zeros, Pruned};
+ghost use Rattle.index.specs.Marks.{marked, markAll, stored, placedAt, metAt, Wanted, passed, descended, sunk, top, Fits, Over, Zeros, Pruned};
 
 // The layout: node m has its kind at 4 m, then its operands; from FIRST, MID and END on each node's offsets: its edges from parents of two
 // operands stand from the first on below the second, two numbers each, those from parents of three from the second on below the third, one
@@ -575,7 +575,7 @@ fn count(x: &mut [u16], n: usize)
 // Each node's edges get their place, behind those of the nodes before it; until they are put, its first number is the next node.
 fn place(x: &mut [u16], n: usize)
     requires { ⌜ (n ≤ mostNodes) × Counting n (now x) ⌝ }
-    ensures { λ _. ⌜ Placing 0 n (now (x .exit)) × Same firstAt (now (x .entry)) (now (x .exit)) ⌝ }
+    ensures { λ _. ⌜ Placing n 0 (now (x .exit)) × Same firstAt (now (x .entry)) (now (x .exit)) ⌝ }
 {
     let mut m = 0;
     let mut start = 0u16;
@@ -641,7 +641,7 @@ fn put_node(x: &mut [u16], n: usize, p: usize)
 // All edges are put, from head on along the chain: the first number of each node in it is the next. Its parents come behind it, so none of
 // its own edges is put yet, and its second number is still where they start.
 fn fill(x: &mut [u16], head: usize, n: usize)
-    requires { ⌜ (n ≤ mostNodes) × Placing head n (now x) ⌝ }
+    requires { ⌜ (n ≤ mostNodes) × Placing n head (now x) ⌝ }
     ensures { λ _. ⌜ Linked n (now (x .entry)) (now (x .exit)) ⌝ }
 {
     let mut p = head;
@@ -757,7 +757,7 @@ fn copy_classes(x: &mut [u16])
 
 // The index of the nodes of a table. Nothing is assumed of what x held: each number that belongs to a node is stored.
 pub fn build(t: &[u8], nodes: usize, x: &mut [u16])
-    requires { ⌜ (nodes ≤ mostNodes) × ((m : ℕ) → m < nodes → placeOf m + 8 ≤ length (now t)) × Earlier (now t) nodes ⌝ }
+    requires { ⌜ (nodes ≤ mostNodes) × ((m : ℕ) → m < nodes → placeOf m + 8 ≤ length (now t)) × Early (nodeAt (now t)) nodes ⌝ }
     requires { ⌜ length (now x) ≡ indexSize ⌝ }
     ensures { λ _. ⌜ Built (now (t .entry)) nodes (now (x .exit)) ⌝ }
 {
@@ -814,7 +814,7 @@ fn meet(x: &mut [u16], p: usize)
     count_three(x, c);
 }
 
-// How far the way down has come: where the next node's edges start, and the node met last.
+// How far the way down has come: where the next node's edges start, and the node met last, or how many there are where none was.
 struct Descent {
     start: u16,
     last: usize,
@@ -830,10 +830,8 @@ fn place_node(x: &mut [u16], p: usize, d: Descent) -> Descent
     x[FIRST + p] = d.last as u16;
     x[MID + p] = d.start;
     x[END + p] = d.start + pairs;
-    Descent {
-        start: d.start + (pairs + threes),
-        last: p,
-    }
+    let start = d.start + (pairs + threes);
+    Descent { start, last: p }
 }
 
 // Node p, which is marked, is loaded: it comes behind all its parents, so its edges get their places; it marks its operands' nodes, and its
@@ -842,7 +840,7 @@ fn pass(t: &[u8], x: &mut [u16], p: usize, at: usize, d: Descent) -> Descent
     requires { ⌜ (p < mostNodes) × (at ≡ placeOf p) × (placeOf p + 8 ≤ length (now t)) × (length (now x) ≡ indexSize) ⌝ }
     requires { ⌜ All (λ l. l / 2 < p) (operands (nodeAt (now t) p)) ⌝ }
     requires { ⌜ Fits (p + 1) d (now x) × Wanted (now x) p ⌝ }
-    ensures { λ r. ⌜ (now (x .exit) ≡ passed (now (t .entry)) (now (x .entry)) d p) × (r ≡ after (now (x .entry)) d p) ⌝ }
+    ensures { λ r. ⌜ (now (x .exit) ≡ passed (now (t .entry)) (now (x .entry)) d p) × (r ≡ descended (now (x .entry)) d p) ⌝ }
 {
     let r = place_node(x, p, d);
     store_node(t, x, p, at);
@@ -869,7 +867,7 @@ fn pass_over(x: &mut [u16], base: usize, end: usize) -> usize
 // The nodes below end, down to base, all of one block.
 fn pass_block(t: &[u8], x: &mut [u16], base: usize, end: usize, from: Descent) -> Descent
     requires { ⌜ (base % 63 ≡ 0) × (base ≤ end) × (end ≤ base + 63) × (end ≤ mostNodes) ⌝ }
-    requires { ⌜ ((m : ℕ) → m < end → placeOf m + 8 ≤ length (now t)) × Earlier (now t) end × (length (now x) ≡ indexSize) ⌝ }
+    requires { ⌜ ((m : ℕ) → m < end → placeOf m + 8 ≤ length (now t)) × Early (nodeAt (now t)) end × (length (now x) ≡ indexSize) ⌝ }
     requires { ⌜ Fits end from (now x) ⌝ }
     ensures { λ r. ⌜ (sunk (now (t .entry)) (now (x .exit)) r base ≡ sunk (now (t .entry)) (now (x .entry)) from end) × (length (now (x .exit)) ≡ indexSize) × Fits base r (now (x .exit)) ⌝ }
 {
@@ -886,7 +884,7 @@ fn pass_block(t: &[u8], x: &mut [u16], base: usize, end: usize, from: Descent) -
 
 // The first n nodes, from the highest down, block by block. The node met last, or n.
 fn sink(t: &[u8], n: usize, x: &mut [u16]) -> usize
-    requires { ⌜ (n ≤ mostNodes) × ((m : ℕ) → m < n → placeOf m + 8 ≤ length (now t)) × Earlier (now t) n ⌝ }
+    requires { ⌜ (n ≤ mostNodes) × ((m : ℕ) → m < n → placeOf m + 8 ≤ length (now t)) × Early (nodeAt (now t)) n ⌝ }
     requires { ⌜ (length (now x) ≡ indexSize) × Fits n (top n) (now x) ⌝ }
     ensures { λ r. ⌜ (now (x .exit) ≡ sunk (now (t .entry)) (now (x .entry)) (top n) n .0) × (r ≡ sunk (now (t .entry)) (now (x .entry)) (top n) n .1 .last) ⌝ }
 {
@@ -903,7 +901,7 @@ fn sink(t: &[u8], n: usize, x: &mut [u16]) -> usize
 // The index of those of the first n nodes of a table that are below some literals of them: all that a search of these comes to. In the
 // place of each other is a TRUE. x is zeros.
 pub fn build_below(t: &[u8], ls: &[u16], n: usize, x: &mut [u16])
-    requires { ⌜ (n ≤ mostNodes) × ((m : ℕ) → m < n → placeOf m + 8 ≤ length (now t)) × Earlier (now t) n ⌝ }
+    requires { ⌜ (n ≤ mostNodes) × ((m : ℕ) → m < n → placeOf m + 8 ≤ length (now t)) × Early (nodeAt (now t)) n ⌝ }
     requires { ⌜ Below n (now ls) ⌝ }
     requires { ⌜ (length (now x) ≡ indexSize) × Zeros (now x) ⌝ }
     ensures { λ _. ⌜ Pruned (now (t .entry)) (now (ls .entry)) n (now (x .exit)) ⌝ }

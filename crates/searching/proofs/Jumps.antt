@@ -513,7 +513,8 @@ pub opened : {t : ℕ → Node} {n : ℕ} {goals w w′ k′ : List ℕ} (v : St
     → jumpedFrom t n goals 0 blank (gOf w) ≡ jumpedFrom t n goals 0 blank [] → Opened t n goals w′ v
 opened Shut P z = counted-whole z (jumps-closed P 0 refl)
 opened Open P z = counted-whole z (jumps-model P 0 refl)
-opened {k′ = k′} (Fork l) P z = (k′, record { holds = P .holds; splits = (l, P .forks l refl); same = P .same 0 ∙ z })
+opened {k′ = k′} (Fork l) P z =
+    ((k′, record { holds = P .holds; splits = (l, P .forks l refl); same = P .same 0 ∙ z }), P .forks l refl)
 
 -- it answers as the plain order does
 pub solved-plain : {t : ℕ → Node} {n : ℕ} {goals w : List ℕ} {r : Ended} → Table n t → Below n goals → Counted t n goals w r → {f : Found} → f ≡ foundBy r

@@ -128,8 +128,8 @@ pub record Counted (t : ℕ → Node) (n : ℕ) (goals w′ : List ℕ) (r : End
   pub answered : foundOf (foundBy r) (gOf w′) ≡ endAnswer (jump 128 (expand t) goals n 0 [] .end)
   pub counted : madeBy r ≡ stopped (jump 128 (expand t) goals n 0 [] .splits)
 
--- a question was put up to its first split: with none it closes, or has a model; or it was left there
+-- a question was put up to its first split: with none it closes, or has a model; or it was left there, at a split on l
 abbrev pub Opened : (ℕ → Node) → ℕ → List ℕ → List ℕ → Stop → Type 0
 Opened t n goals w Shut = Counted t n goals w (Closed 0)
 Opened t n goals w Open = Counted t n goals w (Model 0)
-Opened t n goals w (Fork l) = LeftOff t n goals w
+Opened t n goals w (Fork l) = LeftOff t n goals w × (move (expand t) goals (gOf w) ≡ Split l)

@@ -19,7 +19,7 @@ ghost use Rattle.rests.specs.Words.{Sets};
 ghost use Rattle.searching.specs.Search.{Solved};
 ghost use Rattle.searching.specs.Jumps.{blank, Aimed, slotFor, Concluded, Begun, LeftOff, Propagated, withLeft, Jumps, foundBy, Counted, Opened};
 
-// Where the units end: at a conflict, at a model, or at a split on a literal.
+// Where goals and units end: at a conflict or a false goal, at a model, or at a split on a literal.
 pub enum Stop {
     Closed,
     Model,

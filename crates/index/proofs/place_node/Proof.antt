@@ -56,11 +56,11 @@ mul-x-3 c = search needs
 slice-write-x-3 : tie.Need-slice-write-x-3
 slice-write-x-3 c = simp length-set (omega (arith, c .before .before .before .before .pre))
 
-add-t9 : tie.Need-add-t9
-add-t9 c = search needs
+add-start : tie.Need-add-start
+add-start c = search needs
 
-add-t14 : tie.Need-add-t14
-add-t14 c = search needs
+add-start-2 : tie.Need-add-start-2
+add-start-2 c = search needs
 
 same-length : tie.Need-same-length
 same-length c = search needs
@@ -89,7 +89,7 @@ place-node-spec =
     add-x-4
     mul-x-3
     slice-write-x-3
-    add-t9
-    add-t14
+    add-start
+    add-start-2
     same-length
     returns)

@@ -22,7 +22,7 @@ enum-told-3 c = search needs
 go-on-requires : tie.Need-go-on-requires
 go-on-requires c κs =
     let p = c .before .before .before .before .before .before .before .before .before .before .before .pre in
-    (p .0, (p .1 .0, (rw (c .before .before .enum-told3 .given .1) at (c .before .before .before .before .before .before .put .ensures), p .1 .1 .1)))
+    (p .0, (p .1 .0, ((rw (c .before .before .enum-told3 .given .1) at (c .before .before .before .before .before .before .put .ensures)) .0, p .1 .1 .1)))
 
 verdict-requires : tie.Need-verdict-requires
 verdict-requires c κs = search needs

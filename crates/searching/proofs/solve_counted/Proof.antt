@@ -18,7 +18,7 @@ enum-told-3 c = search needs
 alone-requires : tie.Need-alone-requires
 alone-requires c κs =
     let p = c .before .before .before .before .before .before .before .before .before .before .pre in
-    (p .0, (p .1 .0, rw (c .before .enum-told3 .given .1) at (c .before .before .before .before .before .put .ensures)))
+    (p .0, (p .1 .0, (rw (c .before .enum-told3 .given .1) at (c .before .before .before .before .before .put .ensures)) .0))
 
 same-length : tie.Need-same-length
 same-length c = search needs
