@@ -80,7 +80,7 @@ static size_t some_allowance(unsigned sort)
 }
 
 /* Questions from the first call to the last verdict. */
-static unsigned long session(const uint8_t *t, size_t len, const uint16_t *questions, int q, unsigned sort)
+static unsigned long course(const uint8_t *t, size_t len, const uint16_t *questions, int q, unsigned sort)
 {
     static m_round r;
     size_t turns[Q], calls = 0;
@@ -119,20 +119,20 @@ static unsigned long session(const uint8_t *t, size_t len, const uint16_t *quest
     return calls;
 }
 
-static void random_sessions(void)
+static void random_courses(void)
 {
     static uint8_t t[16384];
-    unsigned long calls = 0, sessions = 0;
-    for (int round = 0; round < 700 && !failed; round++, sessions++) {
+    unsigned long calls = 0, courses = 0;
+    for (int round = 0; round < 700 && !failed; round++, courses++) {
         unsigned points = 2 + pick(6);
         size_t n = points + 1 + pick(60), len = random_table(t, points, n);
         uint16_t questions[Q];
         for (int i = 0; i < Q; i++)
             questions[i] = (uint16_t)pick(2 * (unsigned)n);
-        calls += session(t, len, questions, 1 + (int)pick(Q), pick(6));
+        calls += course(t, len, questions, 1 + (int)pick(Q), pick(6));
     }
-    printf("random questions: %lu sessions, %lu later calls\n", sessions, calls);
-    EXPECT(calls > 2 * sessions);
+    printf("random questions: %lu courses, %lu later calls\n", courses, calls);
+    EXPECT(calls > 2 * courses);
 }
 
 static uint8_t small[512];
@@ -255,7 +255,7 @@ int main(void)
 {
     guard();
     refusals();
-    random_sessions();
+    random_courses();
     foreign();
     deepest();
     EXPECT(whole());

@@ -81,5 +81,9 @@ reads = refl
 builds :
     dimacs (112 ∷ 32 ∷ 99 ∷ 110 ∷ 102 ∷ 32 ∷ 50 ∷ 32 ∷ 51 ∷ 10 ∷ 50 ∷ 32 ∷ 49 ∷ 32 ∷ 50 ∷ 32 ∷ 48 ∷ 32 ∷ 45 ∷ 49 ∷ 32 ∷ 49 ∷ 32 ∷ 48 ∷ 32 ∷ 45 ∷ 50 ∷ 32 ∷ 48 ∷ []) (replicate 512 7)
     ≡ answer (record { literal = 10; used = 512; bytes = encode (node 2 0 0 ∷ node 2 1 0 ∷ node 4 0 2 ∷ node 1 0 0 ∷ node 3 4 6 ∷ node 3 3 8 ∷ []) })
-unfolding behindComments startsWith digits valueFrom heading wordsFrom allDigits positive negative wordOf clausesFrom fileOf points yes-literal no-literal holds distinctFrom bothSigns orAll orClause clause andJoin andAll goalOf build dimacs add addNode addNew decodeUsed arity operands withOperands placed sorted ordered turned normalized indexOf blocksFile blocksOf nodeBytes mathlib.Core.List.flatMap blockOf seal checkOf weighted weight checkOk headOk zeros paddingOk blockTest recordAt recordsIn nodeOf formOk rangeOk orderOk readRecord anyBelow repeats recordTest lengthOk blockRows tableTest listFrom decode first
+unfolding behindComments startsWith digits valueFrom heading wordsFrom allDigits positive negative wordOf clausesFrom fileOf points yes-literal
+    no-literal holds distinctFrom bothSigns orAll orClause clause andJoin andAll goalOf build dimacs add addNode addNew decodeUsed arity operands
+    withOperands placed sorted ordered turned normalized indexOf blocksFile blocksOf nodeBytes mathlib.Core.List.flatMap blockOf seal checkOf weighted
+    weight checkOk headOk zeros paddingOk blockTest recordAt recordsIn nodeOf formOk rangeOk orderOk readRecord anyBelow repeats recordTest lengthOk
+    blockRows tableTest listFrom decode first
 builds = refl

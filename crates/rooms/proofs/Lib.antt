@@ -1,7 +1,7 @@
--- Laws for the proofs of the functions, and what the calls promise of a session. Assumes nothing.
+-- Laws for the proofs of the functions, and what the calls promise of a course. Assumes nothing.
 pub mod Alike
 pub mod Same
 pub mod Rows
 pub mod Goes
 pub mod Ends
-pub mod Sessions
+pub mod Courses

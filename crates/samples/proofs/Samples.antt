@@ -162,7 +162,11 @@ abbrev _also_ : {A B : Type 0} → A → B → A × B
 x also y = (x, y)
 
 facts : All Fact rows
-unfolding nodesA fileOf blocksOf nodeBytes mathlib.Core.List.flatMap blockOf seal checkOf weighted weight checkOk headOk zeros paddingOk blockTest recordAt recordsIn nodeOf arity operands formOk rangeOk orderOk readRecord anyBelow repeats recordTest lengthOk blockRows tableTest listFrom decode first atomHeld mem stepOk stepsOf removals tree move clauses moveOf firstOf some stateOf valueOf expand templates chosen answerOf jump restOf falseRest originRest among unstruck anyHolds ruleU ruleR ruleE ruleC ruleS names body equal agreed namesTest apply unitTwo conflictTwo applyTwo ruleIn advance ended run accepts ascii digitsOf heading nodeLine nodeLines
+unfolding nodesA fileOf blocksOf nodeBytes mathlib.Core.List.flatMap blockOf seal checkOf weighted weight checkOk headOk zeros paddingOk blockTest
+    recordAt recordsIn nodeOf arity operands formOk rangeOk orderOk readRecord anyBelow repeats recordTest lengthOk blockRows tableTest listFrom
+    decode first atomHeld mem stepOk stepsOf removals tree move clauses moveOf firstOf some stateOf valueOf expand templates chosen answerOf jump
+    restOf falseRest originRest among unstruck anyHolds ruleU ruleR ruleE ruleC ruleS names body equal agreed namesTest apply unitTwo conflictTwo
+    applyTwo ruleIn advance ended run accepts ascii digitsOf heading nodeLine nodeLines
 facts =
     (refl, refl) also (refl, refl)
     also (refl, refl) also (refl, refl) also (refl, refl) also (refl, refl) also (refl, refl) also (refl, refl)

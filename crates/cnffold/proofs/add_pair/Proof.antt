@@ -33,13 +33,22 @@ mul-grow-2 : tie.Need-mul-grow-2
 mul-grow-2 c = omega (arith, order-low (c .before .before .before .before .before .before .before .before .before .in-order .ensures) (c .before .before .before .before .before .before .before .before .before .before .before .before .before .pre .1 .2) (c .before .before .before .before .before .before .before .before .before .before .before .before .before .pre .1 .3))
 
 add-grow : tie.Need-add-grow
-add-grow c = omega (arith, order-low (c .before .before .before .before .before .before .before .before .before .before .in-order .ensures) (c .before .before .before .before .before .before .before .before .before .before .before .before .before .before .pre .1 .2) (c .before .before .before .before .before .before .before .before .before .before .before .before .before .before .pre .1 .3))
+add-grow c =
+    let at-in-order = c .before .before .before .before .before .before .before .before .before .before in
+    let s = at-in-order .before .before .before .before in
+    omega (arith, order-low (at-in-order .in-order .ensures) (s .pre .1 .2) (s .pre .1 .3))
 
 cast-grow : tie.Need-cast-grow
-cast-grow c = omega (arith, order-low (c .before .before .before .before .before .before .before .before .before .before .in-order .ensures) (c .before .before .before .before .before .before .before .before .before .before .before .before .before .before .pre .1 .2) (c .before .before .before .before .before .before .before .before .before .before .before .before .before .before .pre .1 .3))
+cast-grow c =
+    let at-in-order = c .before .before .before .before .before .before .before .before .before .before in
+    let s = at-in-order .before .before .before .before in
+    omega (arith, order-low (at-in-order .in-order .ensures) (s .pre .1 .2) (s .pre .1 .3))
 
 add-grow-2 : tie.Need-add-grow-2
-add-grow-2 c = omega (arith, order-low (c .before .before .before .before .before .before .before .before .before .before .in-order .ensures) (c .before .before .before .before .before .before .before .before .before .before .before .before .before .before .pre .1 .2) (c .before .before .before .before .before .before .before .before .before .before .before .before .before .before .pre .1 .3), c .before .before .before .before .before .before .before .before .before .before .before .before .before .before .pre .1 .1)
+add-grow-2 c =
+    let at-in-order = c .before .before .before .before .before .before .before .before .before .before in
+    let s = at-in-order .before .before .before .before in
+    omega (arith, order-low (at-in-order .in-order .ensures) (s .pre .1 .2) (s .pre .1 .3), s .pre .1 .1)
 
 grow-requires : tie.Need-grow-requires
 grow-requires c κs =
@@ -62,13 +71,17 @@ same-length-3 c = search needs
 
 returns-3 : tie.Need-returns-3
 returns-3 c =
-    let s = c .before .before .before .before .before .before .before .before .before .before .before .before .before .before .before .before .before .before .before .before .before in
+    let at-grow = c .before .before .before .before .before .before in
+    let at-if2 = at-grow .before .before .before .before .before .before in
+    let at-if1 = at-if2 .before .before .before in
+    let at-in-order = at-if1 .before .before in
+    let s = at-in-order .before .before .before .before in
     let a = s .args in
     let k = s .pre .1 in
-    let o = c .before .before .before .before .before .before .before .before .before .before .before .before .before .before .before .before .before .in-order .result in
-    let low = order-low (c .before .before .before .before .before .before .before .before .before .before .before .before .before .before .before .before .before .in-order .ensures) (k .2) (k .3) in
-    let reads = pair-reads (a .kind) (k .0) (k .1) (a .a) (a .b) (a .nodes) (c .before .before .before .before .before .before .before .before .before .before .before .before .before .before .before .before .before .in-order .ensures) (c .before .before .before .before .before .before .before .before .before .before .before .before .before .before .before .if1 .left) (c .before .before .before .before .before .before .before .before .before .before .before .before .if2 .left) in
-    grows-put (s .pre .0) (keyOf (a .kind) (o .low) (o .high)) (a .kind) (a .a) (a .b) (node (a .kind) (o .low) (o .high)) (key-node (a .kind) (o .low) (o .high) (omega (arith, low .0)) (omega (arith, low .1))) reads (c .before .before .before .before .before .before .grow .ensures)
+    let o = at-in-order .in-order .result in
+    let low = order-low (at-in-order .in-order .ensures) (k .2) (k .3) in
+    let reads = pair-reads (a .kind) (k .0) (k .1) (a .a) (a .b) (a .nodes) (at-in-order .in-order .ensures) (at-if1 .if1 .left) (at-if2 .if2 .left) in
+    grows-put (s .pre .0) (keyOf (a .kind) (o .low) (o .high)) (a .kind) (a .a) (a .b) (node (a .kind) (o .low) (o .high)) (key-node (a .kind) (o .low) (o .high) (omega (arith, low .0)) (omega (arith, low .1))) reads (at-grow .grow .ensures)
 
 pub add-pair-spec : {M : Type 1} → statement M
 add-pair-spec =

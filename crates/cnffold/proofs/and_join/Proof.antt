@@ -27,10 +27,15 @@ same-length-3 c = search needs
 
 returns-2 : tie.Need-returns-2
 returns-2 c =
-    let a = c .before .before .before .before .before .before .before .before .before .before .before .before .before .before .before .before .args in
+    let at-add-false = c .before .before .before .before .before .before in
+    let at-if2 = at-add-false .before .before .before .before in
+    let at-opposite = at-if2 .before in
+    let at-if1 = at-opposite .before in
+    let s = at-if1 .before .before .before .before in
+    let a = s .args in
     grows-as
-    (λ buf q. sym (and-opposite (a .goal) (a .literal) (a .keys .now) (a .nodes) buf (c .before .before .before .before .before .before .before .before .before .before .before .before .if1 .left) (c .before .before .before .before .before .before .before .before .before .before .if2 .taken ∙ c .before .before .before .before .before .before .before .before .before .before .before .opposite .ensures)))
-    (c .before .before .before .before .before .before .add-false .ensures)
+    (λ buf q. sym (and-opposite (a .goal) (a .literal) (a .keys .now) (a .nodes) buf (at-if1 .if1 .left) (at-if2 .if2 .taken ∙ at-opposite .opposite .ensures)))
+    (at-add-false .add-false .ensures)
 
 add-pair-requires : tie.Need-add-pair-requires
 add-pair-requires c κs = let p = c .before .before .before .before .before .before .before .before .before .pre in (p .0, (omega arith, omega arith, p .1 .0, p .1 .1))
@@ -46,10 +51,15 @@ same-length-6 c = search needs
 
 returns-3 : tie.Need-returns-3
 returns-3 c =
-    let a = c .before .before .before .before .before .before .before .before .before .before .before .before .before .before .before .before .args in
+    let at-add-pair = c .before .before .before .before .before .before in
+    let at-if2 = at-add-pair .before .before .before .before in
+    let at-opposite = at-if2 .before in
+    let at-if1 = at-opposite .before in
+    let s = at-if1 .before .before .before .before in
+    let a = s .args in
     grows-as
-    (λ buf q. sym (and-put (a .goal) (a .literal) (a .keys .now) (a .nodes) buf (c .before .before .before .before .before .before .before .before .before .before .before .before .if1 .left) (λ z. c .before .before .before .before .before .before .before .before .before .before .if2 .left (z ∙ sym (c .before .before .before .before .before .before .before .before .before .before .before .opposite .ensures)))))
-    (c .before .before .before .before .before .before .add-pair .ensures)
+    (λ buf q. sym (and-put (a .goal) (a .literal) (a .keys .now) (a .nodes) buf (at-if1 .if1 .left) (λ z. at-if2 .if2 .left (z ∙ sym (at-opposite .opposite .ensures)))))
+    (at-add-pair .add-pair .ensures)
 
 pub and-join-spec : {M : Type 1} → statement M
 and-join-spec =

@@ -12,7 +12,9 @@ use Rattle.cnffold.proofs.or_clause.Statement.{statement}
 use Rattle.cnffold.proofs.or_clause.Tie as tie
 
 abbrev Inv-loop : tie.InvT-loop
-Inv-loop keys₀ head₀ next₀ room nodes held count literal₀ end₀ i₀ keys head next literal end i = (i ≤ count) × (literal < 4032) × (length keys ≡ length keys₀) × (length head ≡ length head₀) × (length next ≡ length next₀) × Under keys head next room end × Over room (λ buf. orAll (state literal keys end buf) (drop i (take count held)) ≡ orClause (state 0 keys₀ nodes buf) (take count held))
+Inv-loop keys₀ head₀ next₀ room nodes held count literal₀ end₀ i₀ keys head next literal end i =
+    (i ≤ count) × (literal < 4032) × (length keys ≡ length keys₀) × (length head ≡ length head₀) × (length next ≡ length next₀)
+    × Under keys head next room end × Over room (λ buf. orAll (state literal keys end buf) (drop i (take count held)) ≡ orClause (state 0 keys₀ nodes buf) (take count held))
 
 abbrev μ-loop : tie.MeasureT-loop
 μ-loop keys₀ head₀ next₀ room nodes held count literal₀ end₀ i₀ keys head next literal end i = count - i
@@ -30,7 +32,11 @@ same-length-3 : tie.Need-same-length-3 Inv-loop μ-loop
 same-length-3 c = search needs
 
 returns : tie.Need-returns Inv-loop μ-loop
-returns c = let a = c .before .before .before .before .before .before .before .before .before .before .before .before .before .before .before .args in grows-as (λ buf q. sym (or-none (a .held .now) (a .count) (a .keys .now) (a .nodes) buf (c .before .before .before .before .before .before .before .before .before .before .if1 .taken))) (c .before .before .before .before .before .before .add-false .ensures)
+returns c =
+    let at-add-false = c .before .before .before .before .before .before in
+    let at-if1 = at-add-false .before .before .before .before in
+    let s = at-if1 .before .before .before .before .before in
+    let a = s .args in grows-as (λ buf q. sym (or-none (a .held .now) (a .count) (a .keys .now) (a .nodes) buf (at-if1 .if1 .taken))) (at-add-false .add-false .ensures)
 
 shared-slice-read-literal : tie.Need-shared-slice-read-literal Inv-loop μ-loop
 shared-slice-read-literal c = omega (arith, c .before .before .before .before .before .before .pre .1 .within, c .before .if1 .left)

@@ -63,7 +63,11 @@ same-length-10 : tie.Need-same-length-10 Inv-loop μ-loop
 same-length-10 c = search needs
 
 returns-2 : tie.Need-returns-2 Inv-loop μ-loop
-returns-2 c = folds-unread (folding-other (c .before .before .before .before .before .before .before .before .before .before .loop .inv .0) (c .before .before .before .before .before .before .before .before .before .before .before .before .before .before .before .before .before .args .clauses) (c .before .before .before .before .before .before .before .gather .ensures .ended (c .before .enum-told2 .given .1)) (c .if1 .taken))
+returns-2 c =
+    let at-gather = c .before .before .before .before .before .before .before in
+    let at-loop = at-gather .before .before .before in
+    let s = at-loop .before .before .before .before .before .before .before in
+    folds-unread (folding-other (at-loop .loop .inv .0) (s .args .clauses) (at-gather .gather .ensures .ended (c .before .enum-told2 .given .1)) (c .if1 .taken))
 
 end-body-requires : tie.Need-end-body-requires Inv-loop μ-loop
 end-body-requires c κs = let f = c .before .before .before .before .before .before .before .before .before .before .before .before .before .loop .inv .0 in (f .under, f .low)
@@ -84,7 +88,14 @@ same-length-15 : tie.Need-same-length-15 Inv-loop μ-loop
 same-length-15 c = search needs
 
 returns-3 : tie.Need-returns-3 Inv-loop μ-loop
-returns-3 c = folding-all (c .before .before .before .before .before .before .before .before .before .before .before .before .before .before .before .before .before .before .before .before .loop .inv .0) (c .before .before .before .before .before .before .before .before .before .before .before .before .before .before .before .before .before .before .before .before .before .before .before .before .before .before .before .args .clauses) (c .before .before .before .before .before .before .before .before .before .before .before .before .before .before .before .before .before .gather .ensures .ended (c .before .before .before .before .before .before .before .before .before .before .before .enum-told2 .given .1)) (c .before .before .before .before .before .before .before .before .before .before .if1 .left) (c .before .before .before .before .before .before .end-body .ensures)
+returns-3 c =
+    let at-end-body = c .before .before .before .before .before .before in
+    let at-if1 = at-end-body .before .before .before .before in
+    let at-enum-told2 = at-if1 .before in
+    let at-gather = at-enum-told2 .before .before .before .before .before .before in
+    let at-loop = at-gather .before .before .before in
+    let s = at-loop .before .before .before .before .before .before .before in
+    folding-all (at-loop .loop .inv .0) (s .args .clauses) (at-gather .gather .ensures .ended (at-enum-told2 .enum-told2 .given .1)) (at-if1 .if1 .left) (at-end-body .end-body .ensures)
 
 enum-known-g : tie.Need-enum-known-g Inv-loop μ-loop
 enum-known-g c = search needs
@@ -121,26 +132,42 @@ same-length-20 c = search needs
 
 returns-4 : tie.Need-returns-4 Inv-loop μ-loop
 returns-4 c =
-    let r = c .before .before .before .before .before .before .before .before .before .before .before .before .before .before .before .before .before .before .before .before .before .before .before .before .before .gather .ensures .clause _ (c .before .before .before .before .before .before .before .before .before .before .before .before .before .before .before .before .before .before .before .g .given .1) in
-    folding-refused (c .before .before .before .before .before .before .before .before .before .before .before .before .before .before .before .before .before .before .before .before .before .before .before .before .before .before .before .before .loop .inv .0) r (c .before .before .before .before .before .before .before .before .join-clause .ensures) (c .before .before .before .before .before .before .before .before .before .before .before .before .before .before .before .before .before .before .before .before .before .before .before .before .before .before .before .before .before .before .before .before .before .before .before .args .clauses) (c .enum-told3 .given .1)
+    let at-join-clause = c .before .before .before .before .before .before .before .before in
+    let at-g = at-join-clause .before .before .before .before .before .before .before .before .before .before .before in
+    let at-gather = at-g .before .before .before .before .before .before in
+    let at-loop = at-gather .before .before .before in
+    let s = at-loop .before .before .before .before .before .before .before in
+    let r = at-gather .gather .ensures .clause _ (at-g .g .given .1) in
+    folding-refused (at-loop .loop .inv .0) r (at-join-clause .join-clause .ensures) (s .args .clauses) (c .enum-told3 .given .1)
 
 add-k : tie.Need-add-k Inv-loop μ-loop
 add-k c =
-    let f = c .before .before .before .before .before .before .before .before .before .before .before .before .before .before .before .before .before .before .before .before .before .before .before .before .before .before .before .before .before .loop .inv .0 in
-    let r = c .before .before .before .before .before .before .before .before .before .before .before .before .before .before .before .before .before .before .before .before .before .before .before .before .before .before .gather .ensures .clause _ (c .before .before .before .before .before .before .before .before .before .before .before .before .before .before .before .before .before .before .before .before .g .given .1) in
-    omega (arith, c .before .before .before .before .before .before .before .before .before .before .before .before .before .before .before .before .before .before .before .before .before .before .before .before .before .before .before .before .before .before .before .before .before .before .before .before .good, f .slow, r .later, r .within)
+    let at-g = c .before .before .before .before .before .before .before .before .before .before .before .before .before .before .before .before .before .before .before .before in
+    let at-gather = at-g .before .before .before .before .before .before in
+    let at-loop = at-gather .before .before .before in
+    let s = at-loop .before .before .before .before .before .before .before in
+    let f = at-loop .loop .inv .0 in
+    let r = at-gather .gather .ensures .clause _ (at-g .g .given .1) in
+    omega (arith, s .good, f .slow, r .later, r .within)
 
 loop-less : tie.Need-loop-less Inv-loop μ-loop
 loop-less c =
-    let r = c .before .before .before .before .before .before .before .before .before .before .before .before .before .before .before .before .before .before .before .before .before .before .before .before .before .before .gather .ensures .clause _ (c .before .before .before .before .before .before .before .before .before .before .before .before .before .before .before .before .before .before .before .before .g .given .1) in
+    let at-g = c .before .before .before .before .before .before .before .before .before .before .before .before .before .before .before .before .before .before .before .before in
+    let at-gather = at-g .before .before .before .before .before .before in
+    let r = at-gather .gather .ensures .clause _ (at-g .g .given .1) in
     omega (arith, r .later, r .within)
 
 loop-again : tie.Need-loop-again Inv-loop μ-loop
 loop-again c =
-    let v = c .before .before .before .before .before .before .before .before .before .before .before .before .before .before .before .before .before .before .before .before .before .before .before .before .before .before .before .before .before .loop .inv in
-    let r = c .before .before .before .before .before .before .before .before .before .before .before .before .before .before .before .before .before .before .before .before .before .before .before .before .before .before .gather .ensures .clause _ (c .before .before .before .before .before .before .before .before .before .before .before .before .before .before .before .before .before .before .before .before .g .given .1) in (
-      folding-next (v .0) r (c .before .before .before .before .before .before .before .before .before .join-clause .ensures) (c .before .a .given .1),
-      c .before .before .before .before .before .before .before .before .before .before .before .before .before .before .before .before .clear .ensures,
+    let at-join-clause = c .before .before .before .before .before .before .before .before .before in
+    let at-clear = at-join-clause .before .before .before .before .before .before .before in
+    let at-g = at-clear .before .before .before .before in
+    let at-gather = at-g .before .before .before .before .before .before in
+    let at-loop = at-gather .before .before .before in
+    let v = at-loop .loop .inv in
+    let r = at-gather .gather .ensures .clause _ (at-g .g .given .1) in (
+      folding-next (v .0) r (at-join-clause .join-clause .ensures) (c .before .a .given .1),
+      at-clear .clear .ensures,
       search needs,
       search needs,
       search needs,

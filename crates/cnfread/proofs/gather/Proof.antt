@@ -93,9 +93,13 @@ keep-requires c κs =
 
 loop-less : tie.Need-loop-less Inv-loop μ-loop
 loop-less c =
-    let a = c .before .before .before .before .before .before .before .before .before .before .before .before .before .before .before .before .before .before .args in
-    let u = c .before .before .before .before .before .before .before .before .before .before .before .before .before .before .loop .inv .0 in
-    let t = token-told (a .vars) (a .text .now) (c .before .before .before .before .before .before .before .before .before .before .before .before .before .before .loop .i) (c .before .before .before .before .before .before .before .before .before .before .before .t2 .given .1) (c .before .before .before .before .before .before .before .before .before .before .before .before .before .next-token .ensures) in
+    let at-t2 = c .before .before .before .before .before .before .before .before .before .before .before in
+    let at-next-token = at-t2 .before .before in
+    let at-loop = at-next-token .before in
+    let s = at-loop .before .before .before .before in
+    let a = s .args in
+    let u = at-loop .loop .inv .0 in
+    let t = token-told (a .vars) (a .text .now) (at-loop .loop .i) (at-t2 .t2 .given .1) (at-next-token .next-token .ensures) in
     omega (arith, t .later, t .within)
 
 loop-again : tie.Need-loop-again Inv-loop μ-loop

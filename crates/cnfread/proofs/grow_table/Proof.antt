@@ -51,7 +51,12 @@ same-length-6 : tie.Need-same-length-6
 same-length-6 c = search needs
 
 returns-2 : tie.Need-returns-2
-returns-2 c = points-folded (c .before .before .before .before .before .before .before .before .before .before .before .before .before .before .before .before .before .before .before .before .before .before .before .before .before .before .before .before .before .before .before .args .h) (c .before .before .before .before .before .before .before .before .before .before .before .before .before .before .before .before .before .before .before .before .before .before .before .add-points .ensures) (c .before .before .before .before .before .before .before .before .before .before .before .before .before .before .before .p .given .1) (c .before .before .before .before .before .before .before .before .fold-body .ensures)
+returns-2 c =
+    let at-fold-body = c .before .before .before .before .before .before .before .before in
+    let at-p = at-fold-body .before .before .before .before .before .before .before in
+    let at-add-points = at-p .before .before .before .before .before .before .before .before in
+    let s = at-add-points .before .before .before .before .before .before .before .before in
+    points-folded (s .args .h) (at-add-points .add-points .ensures) (at-p .p .given .1) (at-fold-body .fold-body .ensures)
 
 pub grow-table-spec : {M : Type 1} → statement M
 grow-table-spec =

@@ -34,7 +34,12 @@ returns : tie.Need-returns Inv-loop μ-loop
 returns c = run-done (c .before .before .before .before .loop .inv .0)
 
 mul-value : tie.Need-mul-value Inv-loop μ-loop
-mul-value c = let b = getD (c .before .before .before .before .before .before .before .args .text .now) (c .before .before .before .before .loop .i) 0 in let d : digit b ≡ true = sym (c .before .is-digit .ensures) ∙ not-false _ (c .if1 .left) in omega (arith, nine-digits _ _ (c .before .before .before .before .loop .inv .0 .low) (omega (arith, c .before .before .before .before .loop .inv .0 .short)))
+mul-value c =
+    let at-loop = c .before .before .before .before in
+    let s = at-loop .before .before .before in
+    let b = getD (s .args .text .now) (at-loop .loop .i) 0 in
+    let d : digit b ≡ true = sym (c .before .is-digit .ensures) ∙ not-false _ (c .if1 .left) in
+    omega (arith, nine-digits _ _ (at-loop .loop .inv .0 .low) (omega (arith, at-loop .loop .inv .0 .short)))
 
 sub-value : tie.Need-sub-value Inv-loop μ-loop
 sub-value c = let b = getD (c .before .before .before .before .before .before .before .args .text .now) (c .before .before .before .before .loop .i) 0 in let d : digit b ≡ true = sym (c .before .is-digit .ensures) ∙ not-false _ (c .if1 .left) in omega (arith, digit-range b d)
@@ -43,7 +48,12 @@ cast-value : tie.Need-cast-value Inv-loop μ-loop
 cast-value c = let b = getD (c .before .before .before .before .before .before .before .args .text .now) (c .before .before .before .before .loop .i) 0 in let d : digit b ≡ true = sym (c .before .is-digit .ensures) ∙ not-false _ (c .if1 .left) in omega (arith, digit-range b d)
 
 add-value : tie.Need-add-value Inv-loop μ-loop
-add-value c = let b = getD (c .before .before .before .before .before .before .before .args .text .now) (c .before .before .before .before .loop .i) 0 in let d : digit b ≡ true = sym (c .before .is-digit .ensures) ∙ not-false _ (c .if1 .left) in omega (arith, digit-range b d, nine-digits _ _ (c .before .before .before .before .loop .inv .0 .low) (omega (arith, c .before .before .before .before .loop .inv .0 .short)))
+add-value c =
+    let at-loop = c .before .before .before .before in
+    let s = at-loop .before .before .before in
+    let b = getD (s .args .text .now) (at-loop .loop .i) 0 in
+    let d : digit b ≡ true = sym (c .before .is-digit .ensures) ∙ not-false _ (c .if1 .left) in
+    omega (arith, digit-range b d, nine-digits _ _ (at-loop .loop .inv .0 .low) (omega (arith, at-loop .loop .inv .0 .short)))
 
 add-i : tie.Need-add-i Inv-loop μ-loop
 add-i c = search needs
@@ -52,7 +62,16 @@ loop-less : tie.Need-loop-less Inv-loop μ-loop
 loop-less c = search needs
 
 loop-again : tie.Need-loop-again Inv-loop μ-loop
-loop-again c = let b = getD (c .before .before .before .before .before .before .before .args .text .now) (c .before .before .before .before .loop .i) 0 in let d : digit b ≡ true = sym (c .before .is-digit .ensures) ∙ not-false _ (c .if1 .left) in let h = c .before .before .before .loop-test .taken in let n = c .before .before .before .before .before .nine-on .ensures in (run-more (c .before .before .before .before .loop .inv .0) (omega (arith, h, n .1)) (omega (arith, h, n .2)) d, omega (arith, h))
+loop-again c =
+    let at-loop-test = c .before .before .before in
+    let at-loop = at-loop-test .before in
+    let at-nine-on = at-loop .before in
+    let s = at-nine-on .before .before in
+    let b = getD (s .args .text .now) (at-loop .loop .i) 0 in
+    let d : digit b ≡ true = sym (c .before .is-digit .ensures) ∙ not-false _ (c .if1 .left) in
+    let h = at-loop-test .loop-test .taken in
+    let n = at-nine-on .nine-on .ensures in
+    (run-more (at-loop .loop .inv .0) (omega (arith, h, n .1)) (omega (arith, h, n .2)) d, omega (arith, h))
 
 returns-2 : tie.Need-returns-2 Inv-loop μ-loop
 returns-2 c = run-done (c .before .loop .inv .0)

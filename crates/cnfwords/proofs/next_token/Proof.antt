@@ -36,8 +36,15 @@ token-of-requires c κs = search needs
 
 returns-3 : tie.Need-returns-3
 returns-3 c =
-    let e = not-false _ (c .before .before .if2 .left) in
-    run-token (c .before .before .before .before .before .before .before .skip .ensures) (c .before .before .before .before .before .before .if1 .left) (c .before .before .before .before .before .behind-minus .ensures) (c .before .before .before .before .digit-run .ensures) (c .before .before .before .ends .ensures .some e) (c .before .before .before .ends .ensures .next e) (c .before .before .before .before .before .before .before .before .before .args .vars)
+    let at-if2 = c .before .before in
+    let at-ends = at-if2 .before in
+    let at-digit-run = at-ends .before in
+    let at-behind-minus = at-digit-run .before in
+    let at-if1 = at-behind-minus .before in
+    let at-skip = at-if1 .before in
+    let s = at-skip .before .before in
+    let e = not-false _ (at-if2 .if2 .left) in
+    run-token (at-skip .skip .ensures) (at-if1 .if1 .left) (at-behind-minus .behind-minus .ensures) (at-digit-run .digit-run .ensures) (at-ends .ends .ensures .some e) (at-ends .ends .ensures .next e) (s .args .vars)
     (c .before .literal .ensures) (c .token-of .ensures)
 
 pub next-token-spec : {M : Type 1} → statement M

@@ -47,13 +47,16 @@ loop-less c = search needs
 
 loop-again : tie.Need-loop-again Inv-loop μ-loop
 loop-again c =
-    let at-loop = c .before .before .before .before .before .before .before .before in
+    let at-copy-at = c .before .before in
+    let at-bytes-of = at-copy-at .before .before .before in
+    let at-loop-test = at-bytes-of .before .before in
+    let at-loop = at-loop-test .before in
     let start = at-loop .before .before .before in
     let inv = at-loop .loop .inv in
     let i = at-loop .loop .i in (
-      omega (arith, c .before .before .before .before .before .before .before .loop-test .taken),
+      omega (arith, at-loop-test .loop-test .taken),
       search needs,
-      ap (take (8 * (i + 1))) (c .before .before .copy-at .ensures) ∙ filled-more (at-loop .loop .body) (start .args .keys .now) _ (start .args .from) i (omega (arith, c .before .before .before .before .before .before .before .loop-test .taken, start .pre .2)) (omega (arith, c .before .before .before .before .before .before .before .loop-test .taken, start .pre .1, inv .1)) (inv .2) (c .before .before .before .before .before .bytes-of .ensures),
+      ap (take (8 * (i + 1))) (at-copy-at .copy-at .ensures) ∙ filled-more (at-loop .loop .body) (start .args .keys .now) _ (start .args .from) i (omega (arith, at-loop-test .loop-test .taken, start .pre .2)) (omega (arith, at-loop-test .loop-test .taken, start .pre .1, inv .1)) (inv .2) (at-bytes-of .bytes-of .ensures),
     )
 
 same-length : tie.Need-same-length Inv-loop μ-loop

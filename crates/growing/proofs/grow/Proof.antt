@@ -54,7 +54,11 @@ returns-3 : tie.Need-returns-3
 returns-3 c = grown-52 (c .before .before .before .before .before .before .before .before .before .before .before .pre .0) (c .before .before .before .find .ensures) (c .before .before .if1 .left) (c .before .if2 .left) (c .if3 .taken)
 
 insert-requires : tie.Need-insert-requires
-insert-requires c κs = let u = c .before .before .before .before .before .before .before .before .before .before .before .before .before .before .pre .0 in (u .chains, omega (arith, u .chains .most, c .before .before .before .before .if2 .left), c .before .before .before .before .before .before .before .before .before .before .hash .ensures .0, c .before .before .before .before .before .before .before .before .before .before .hash .ensures .1)
+insert-requires c κs =
+    let at-if2 = c .before .before .before .before in
+    let at-hash = at-if2 .before .before .before .before .before .before in
+    let s = at-hash .before .before .before .before in
+    let u = s .pre .0 in (u .chains, omega (arith, u .chains .most, at-if2 .if2 .left), at-hash .hash .ensures .0, at-hash .hash .ensures .1)
 
 mul-t28 : tie.Need-mul-t28
 mul-t28 c = omega (arith, c .before .before .before .before .before .before .before .before .before .before .before .before .before .before .before .before .before .before .before .before .before .pre .0 .chains .most)

@@ -29,9 +29,12 @@ spend-few-requires c κs =
 
 cast-put-next : tie.Need-cast-put-next
 cast-put-next c =
-    let start = c .before .before .before .before .before .before .before .before .before .before .before .before .before .before .before .before .before .before .before .before .before .before .before .before .before .before .before in
+    let at-spend-few = c .before .before .before .before .before .before .before .before .before in
+    let at-look = at-spend-few .before .before .before .before .before .before .before in
+    let at-next = at-look .before .before .before in
+    let start = at-next .before .before .before .before .before .before .before .before in
     let q = start .args .questions .now in
-    omega (arith, few-low q (c .before .before .before .before .before .before .before .before .before .before .before .before .before .before .before .before .look .ensures) (c .before .before .before .before .before .before .before .before .before .before .before .before .before .before .before .before .before .before .before .next .ensures) (c .before .before .before .before .before .before .before .before .before .spend-few .ensures) (search needs) (start .pre .1 .1 .1 .0 .few))
+    omega (arith, few-low q (at-look .look .ensures) (at-next .next .ensures) (at-spend-few .spend-few .ensures) (search needs) (start .pre .1 .1 .1 .0 .few))
 
 put-next-requires : tie.Need-put-next-requires
 put-next-requires c κs =

@@ -48,7 +48,11 @@ array-read-v : tie.Need-array-read-v
 array-read-v c = search needs
 
 put-requires : tie.Need-put-requires
-put-requires c κs = c .before .before .before .before .before .before .before .before .before .spend .kept .1 .1 .1 .1 .0 ∙ c .before .before .before .before .before .before .before .before .before .before .before .before .before .before .before .before .before .before .before .before .resume .kept .1 .1 .1 .0 ∙ c .before .before .before .before .before .before .before .before .before .before .before .before .before .before .before .before .before .before .before .before .before .before .before .before .before .before .before .before .pre .1 .1 .1 .1
+put-requires c κs =
+    let at-spend = c .before .before .before .before .before .before .before .before .before in
+    let at-resume = at-spend .before .before .before .before .before .before .before .before .before .before .before in
+    let s = at-resume .before .before .before .before .before .before .before .before in
+    at-spend .spend .kept .1 .1 .1 .1 .0 ∙ at-resume .resume .kept .1 .1 .1 .0 ∙ s .pre .1 .1 .1 .1
 
 same-length : tie.Need-same-length
 same-length c = search needs

@@ -25,7 +25,12 @@ same-length c = search needs
 
 returns-3 : tie.Need-returns-3
 returns-3 c =
-    gathers-both _ _ (c .before .before .before .before .before .before .before .before .before .before .before .before .before .args .list .now) _ _ (omega (arith, c .before .before .before .before .before .before .before .before .before .before .before .before .before .pre, c .before .before .before .before .before .before .before .before .before .if1 .left, c .before .before .before .before .before .before .before .before .if2 .left, c .before .before .before .before .before .before .copy .kept .1 .0, c .before .before .copy2 .kept .1 .0)) (c .before .before .before .before .before .before .copy .ensures) (c .before .before .copy2 .ensures)
+    let at-copy2 = c .before .before in
+    let at-copy = at-copy2 .before .before .before .before in
+    let at-if2 = at-copy .before .before in
+    let at-if1 = at-if2 .before in
+    let s = at-if1 .before .before .before .before in
+    gathers-both _ _ (s .args .list .now) _ _ (omega (arith, s .pre, at-if1 .if1 .left, at-if2 .if2 .left, at-copy .copy .kept .1 .0, at-copy2 .copy2 .kept .1 .0)) (at-copy .copy .ensures) (at-copy2 .copy2 .ensures)
 
 pub gather-spec : {M : Type 1} → statement M
 gather-spec =

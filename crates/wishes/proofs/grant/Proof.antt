@@ -53,7 +53,11 @@ same-length-2 c = search needs
 
 returns-2 : tie.Need-returns-2
 returns-2 c =
-    ends _ _ _ _ _ _ (bytes (c .before .before .before .before .before .before .before .before .before .before .before .before .before .before .before .before .before .before .before .before .before .before)) (c .before .before .before .before .before .before .before .before .before .before .before .before .before .before .before .ask .ensures .asks .reached _ (c .before .before .before .before .before .before .before .before .before .before .before .a2 .given .1)) _ (c .before .before .before .before .before .questions .ensures)
+    let at-questions = c .before .before .before .before .before in
+    let at-a2 = at-questions .before .before .before .before .before .before in
+    let at-ask = at-a2 .before .before .before .before in
+    let at-bytes = at-ask .before .before .before .before .before .before .before in
+    ends _ _ _ _ _ _ (bytes at-bytes) (at-ask .ask .ensures .asks .reached _ (at-a2 .a2 .given .1)) _ (at-questions .questions .ensures)
 
 pub grant-spec : {M : Type 1} → statement M
 grant-spec =

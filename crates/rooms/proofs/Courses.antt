@@ -24,7 +24,7 @@ use Rattle.turns.proofs.Rounds.{spend-add, turns-add, waits-few}
 use Rattle.turns.proofs.Replay.{turn-resumes, resumed-resumes}
 use Rattle.turns.proofs.Rooms.{written-parts, finished-stays, room-verdict, rooms-end}
 use Rattle.roomareas.specs.Areas.{areaSize, pointsSize, partOf, stored, goalOf, goalsOf, roundOf}
-use Rattle.rooms.specs.Session.{Later, none, turned, reported, Session}
+use Rattle.rooms.specs.Course.{Later, none, turned, reported, Course}
 use Rattle.rooms.proofs.Alike.{Alike, spend-alike, turns-alike}
 use Rattle.rooms.proofs.Ends.{turns-told}
 use Rattle.rooms.proofs.Rows.{admitted-read}
@@ -122,7 +122,7 @@ module _ {t questions : List ℕ} {rs : List Node} {s₀ w₀ : List ℕ} where
 
 -- ---- from the first call on
 
-module _ {t questions : List ℕ} {rs : List Node} {s₀ : List ℕ} {ms s w : List ℕ} (b : Session t questions rs s₀ ms s w) where
+module _ {t questions : List ℕ} {rs : List Node} {s₀ : List ℕ} {ms s w : List ℕ} (b : Course t questions rs s₀ ms s w) where
   starts : (i : ℕ) → i < length questions → roundOf rs questions (b .areas) .searches i ≡ running []
   starts i l = b .opened .searches rs (b .read) i l
 
@@ -131,18 +131,18 @@ module _ {t questions : List ℕ} {rs : List Node} {s₀ : List ℕ} {ms s w : L
   opened-agree = record { searches = starts; next = b .opened .next rs (b .read); good = λ i l. rw (starts i l) }
 
   -- the areas hold the round after the sum of the allowances, from the start on, whatever they are
-  pub session-round : Agree questions rs (roundOf rs questions w) (spent questions rs (sum ms) opening)
-  session-round = agree-trans questions rs (later-round (b .later)) (spent-agree questions rs (sum ms) opened-agree)
+  pub course-round : Agree questions rs (roundOf rs questions w) (spent questions rs (sum ms) opening)
+  course-round = agree-trans questions rs (later-round (b .later)) (spent-agree questions rs (sum ms) opened-agree)
 
-  pub session-settings : (i : ℕ) → i < length questions
+  pub course-settings : (i : ℕ) → i < length questions
       → partOf pointsSize i s ≡ written rs (running []) (roundOf rs questions w .searches i) (partOf pointsSize i s₀)
-  session-settings i l =
+  course-settings i l =
       later-settings (b .later) i l
       ∙ ap (λ (x : Search). written rs x (roundOf rs questions w .searches i) (partOf pointsSize i s₀)) (starts i l)
 
   -- the table reads, and each question is a literal of it
-  session-read : (decode t ≡ answer rs) × Below (length rs) questions
-  session-read = admitted-read t questions (length s₀) (length (b .lent)) (b .read)
+  course-read : (decode t ≡ answer rs) × Below (length rs) questions
+  course-read = admitted-read t questions (length s₀) (length (b .lent)) (b .read)
 
   module _ (all : Bytes t) (i : ℕ) (l : i < length questions) where
     -- how many turns all searches take
@@ -150,34 +150,34 @@ module _ {t questions : List ℕ} {rs : List Node} {s₀ : List ℕ} {ms s w : L
     enough = total (λ i. turnsOf (searchOf rs (goalsOf questions i))) (length questions)
 
     goals-below : (j : ℕ) → j < length questions → goalOf questions j < 2 * length rs
-    goals-below j h = all-at (λ x. x < 2 * length rs) questions j 0 (session-read .1) h
+    goals-below j h = all-at (λ x. x < 2 * length rs) questions j 0 (course-read .1) h
 
     -- a verdict that is there is that of the plain order
-    pub session-verdict : verdictOf (roundOf rs questions w .searches i)
+    pub course-verdict : verdictOf (roundOf rs questions w .searches i)
         ≡ cond (ltb (turnsFor (turnOf questions rs) (length questions) (sum ms) opening i) (turnsOf (searchOf rs (goalsOf questions i)))) unfinished (answerOf (searchOf rs (goalsOf questions i)))
-    session-verdict =
-        ap verdictOf (session-round .searches i l)
-        ∙ room-verdict (length rs) (nodesOf rs) (table-of t rs all (session-read .0)) (goalOf questions) (length questions) goals-below (sum ms) i l
+    course-verdict =
+        ap verdictOf (course-round .searches i l)
+        ∙ room-verdict (length rs) (nodesOf rs) (table-of t rs all (course-read .0)) (goalOf questions) (length questions) goals-below (sum ms) i l
 
     -- .. and with enough turns it is there, with its setting
     module _ (h : enough ≤ sum ms) where
-      pub session-ends : verdictOf (roundOf rs questions w .searches i) ≡ answerOf (searchOf rs (goalsOf questions i))
-      session-ends =
-          ap verdictOf (session-round .searches i l)
-          ∙ rooms-end (length rs) (nodesOf rs) (table-of t rs all (session-read .0)) (goalOf questions) (length questions) goals-below (sum ms) h i l
+      pub course-ends : verdictOf (roundOf rs questions w .searches i) ≡ answerOf (searchOf rs (goalsOf questions i))
+      course-ends =
+          ap verdictOf (course-round .searches i l)
+          ∙ rooms-end (length rs) (nodesOf rs) (table-of t rs all (course-read .0)) (goalOf questions) (length questions) goals-below (sum ms) h i l
 
-      pub session-written : partOf pointsSize i s ≡ settingsOn rs (partOf pointsSize i s₀) (answerOf (searchOf rs (goalsOf questions i)))
-      session-written = session-settings i l ∙ ap (settingsOn rs (partOf pointsSize i s₀)) session-ends
+      pub course-written : partOf pointsSize i s ≡ settingsOn rs (partOf pointsSize i s₀) (answerOf (searchOf rs (goalsOf questions i)))
+      course-written = course-settings i l ∙ ap (settingsOn rs (partOf pointsSize i s₀)) course-ends
 
       -- .. as decide answers, lent the question's settings bytes
-      pub session-decides : (v : List ℕ) {d : Decided} → decide t (goalsOf questions i) (partOf pointsSize i s₀) v ≡ answer d
+      pub course-decides : (v : List ℕ) {d : Decided} → decide t (goalsOf questions i) (partOf pointsSize i s₀) v ≡ answer d
           → (verdictOf (roundOf rs questions w .searches i) ≡ d .verdict) × (partOf pointsSize i s ≡ d .settings)
-      session-decides v {d} e =
+      course-decides v {d} e =
           let p = decide-plain t (goalsOf questions i) (partOf pointsSize i s₀) v all e in
           let reads : decode t ≡ answer (p .0) = p .1 in
-          let known : decode t ≡ answer rs = session-read .0 in
+          let known : decode t ≡ answer rs = course-read .0 in
           let same : p .0 ≡ rs = cc in
           let verdict : d .verdict ≡ answerOf (searchOf rs (goalsOf questions i)) = p .2 .verdict ∙ ap (λ (qs : List Node). answerOf (searchOf qs (goalsOf questions i))) same in
           let settings : d .settings ≡ settingsOn rs (partOf pointsSize i s₀) (answerOf (searchOf rs (goalsOf questions i))) =
           p .2 .settings ∙ ap (λ (qs : List Node). settingsOn qs (partOf pointsSize i s₀) (answerOf (searchOf qs (goalsOf questions i)))) same in
-          (session-ends ∙ sym verdict, session-written ∙ sym settings)
+          (course-ends ∙ sym verdict, course-written ∙ sym settings)

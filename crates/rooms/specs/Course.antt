@@ -21,8 +21,8 @@ abbrev pub reported : {t questions : List ℕ} {rs : List Node} {s₀ w₀ ms s 
 reported none i = 0
 reported (turned {r = r} b e a) i = reported b i + getD (r .turns) i 0
 
--- a first call, with the settings s₀, and later calls of these allowances
-pub record Session (t questions : List ℕ) (rs : List Node) (s₀ ms s w : List ℕ) : Type 0 where
+-- a course of calls: a first one, with the settings s₀, and later ones of these allowances
+pub record Course (t questions : List ℕ) (rs : List Node) (s₀ ms s w : List ℕ) : Type 0 where
   pub lent : List ℕ
   pub areas : List ℕ
   pub first : Turned
