@@ -13,5 +13,6 @@ pub mod Same
 pub mod Truth
 pub mod Sound
 pub mod Complete
+pub mod Stays
 pub mod Setting
 pub mod Asked

@@ -65,6 +65,10 @@ pub record Triple (t : ℕ → Node) (n p : ℕ) : Type 0 where
   pub low : p < n
   pub kind : 6 < t p .kind
 
+-- an operand cell of node p names node m
+abbrev pub Names : (ℕ → Node) → ℕ → ℕ → ℕ → Type 0
+Names t n m p = (y : ℕ) × (y < 4 * n) × (opNode t y ≡ m) × (y / 4 ≡ p)
+
 -- node m has an edge from p
 abbrev pub Parent : List ℕ → ℕ → ℕ → Type 0
 Parent x m p = ((k : ℕ) × PairAt x m k × (parentOf x k ≡ p)) ⊎ ((k : ℕ) × ThreeAt x m k × (edgeAt x k ≡ p))

@@ -22,7 +22,7 @@ use Rattle.state.specs.Holds.{Holds, NoneDenied}
 use Rattle.moves.proofs.Moves.{goal-next, position-free, step}
 use Rattle.rests.specs.Words.{heldOf}
 use Rattle.solver.specs.Changes.{Stands, Shuts, Enlisted}
-use Rattle.solver.proofs.Stays.{holds-fails, holds-undecided, fails-undecided, value-stays}
+use Rattle.calculus.proofs.Stays.{holds-fails, holds-undecided, fails-undecided, value-stays}
 use Rattle.solver.proofs.Settles.{waiting-over}
 use Rattle.solver.proofs.Goals.{code-fails, free-first, as-many, shuts-goal}
 use Rattle.searching.specs.Jumps.{jumpedFrom, blank, Begun}

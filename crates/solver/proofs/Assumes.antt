@@ -14,9 +14,12 @@ use Rattle.calculus.specs.Order.{holds, undecided, valueOf, stateOf, clauses, i
 use Rattle.calculus.specs.Model.{Goals, Fresh}
 use Rattle.calculus.proofs.Literals.{value-joined}
 use Rattle.calculus.proofs.Sizes.{clauses-more}
+use Rattle.calculus.proofs.Stays.{holds-fails, holds-stays, was-undecided, fails-joined, all-met-stays, some-empty-stays, first-stays, first-changes, first-undecided}
 use Rattle.trail.proofs.Trails.{trail-length, trail-same}
 use Rattle.index.specs.Index.{indexNode, mostNodes}
+use Rattle.index.specs.Edges.{Names}
 use Rattle.index.specs.Indexed.{Indexed}
+use Rattle.index.proofs.Named.{still-or}
 use Rattle.units.specs.Units.{member, positions, Units, Putted}
 use Rattle.clause.specs.Coded.{statesOf, Coded}
 use Rattle.state.specs.Work.{tail, litAt, baseOf, cursorAt, codeAt, cursorOf, conflictOf, waitingOf, gOf, trail, Ready, Numbered, trailAt, literalsAt, basesAt, valuesAt, cursorsAt, codesAt, area}
@@ -24,9 +27,7 @@ use Rattle.state.specs.Holds.{statesAt, Entered, Late, Closed, AllMet, Holds, d
 use Rattle.state.specs.Picked.{Picked, Leads}
 use Rattle.state.specs.Changes.{Pushed, baseSet}
 use Rattle.state.proofs.Areas.{count-most, room-left, held-below, held-still, base-most, ready-same}
-use Rattle.solver.specs.Changes.{Beside, Renewed, Pending, Touchable, Touched, Taken, Forcing, Tidied, Attached, Served, Apart, Awaited}
-use Rattle.solver.proofs.Stays.{holds-fails, holds-stays, was-undecided, fails-joined, all-met-stays, some-empty-stays}
-use Rattle.solver.proofs.Stays.{first-stays, first-changes, first-undecided, still-or}
+use Rattle.solver.specs.Changes.{Beside, Renewed, Touchable, Touched, Taken, Foremost, Fronts, Ahead, Forcing, Tidied, Attached, Served, Apart, Awaited}
 use Rattle.solver.proofs.Marks.{beside-same, still-at, still-list, still-ready, still-literal, still-states, entered-still, late-still, closed-still}
 use Rattle.solver.proofs.Walks.{beside-on}
 use Rattle.solver.proofs.Settles.{awaited-none}
@@ -46,6 +47,24 @@ module _ {x goals w m m₀ : List ℕ} {n l : ℕ} (I : Indexed x n) (H : Holds 
 
   pub node-low : l / 2 < n
   node-low = omega (arith, f .0)
+
+  -- what is in the set now was in it before, at a position that is held
+  from₁ : (q : ℕ) → q < positions → member m₀ q ≡ 1 → member m q ≡ 1
+  from₁ q i y = ⊎-elim (λ e. sym e ∙ y) (λ e. e .1) (N .same q i)
+
+  clear₁ : (q : ℕ) → h ≤ q → q < positions → member m₀ q ≡ 0
+  clear₁ q i b = ⊎-elim (λ e. e ∙ H .clear q i b) (λ e. e .0) (N .same q b)
+
+  held₁ : (q : ℕ) → q < positions → member m₀ q ≡ 1 → q < h
+  held₁ q i y = go (decLt q h)
+    where
+      go : Dec (q < h) → q < h
+      go (yes b) = b
+      go (no b) = absurd (omega (arith, y, clear₁ q (omega (arith, b)) i))
+
+  -- what `front` asks
+  pub front-asked : (q : ℕ) → q < positions → member m₀ q ≡ 1 → q < mostNodes
+  front-asked q i y = omega (arith, held₁ q i y, room)
 
   -- ---- after `push`
 
@@ -74,13 +93,6 @@ module _ {x goals w m m₀ : List ℕ} {n l : ℕ} (I : Indexed x n) (H : Holds 
     code₁ : (q : ℕ) → q < h → codeAt r₁ q ≡ codeAt r q
     code₁ q i = P .kept (trailAt + (codesAt + q)) (inr (inr (inr (omega arith, λ y. omega (arith, y, room)))))
 
-    -- what is in the set now was in it before
-    from₁ : (q : ℕ) → q < positions → member m₀ q ≡ 1 → member m q ≡ 1
-    from₁ q i y = ⊎-elim (λ e. sym e ∙ y) (λ e. e .1) (N .same q i)
-
-    clear₁ : (q : ℕ) → h ≤ q → q < positions → member m₀ q ≡ 0
-    clear₁ q i b = ⊎-elim (λ e. e ∙ H .clear q i b) (λ e. e .0) (N .same q b)
-
     -- where a position was taken out of the set, the states of its clauses do not stay
     taken₁ : (q : ℕ) → q < h → mostNodes ≤ conflictOf w₁ → member m q ≡ 1 → codeAt r q % 4096 ≡ l
         → statesOf t (l ∷ gOf w) (litAt r q) ≡ statesAt t (gOf w) r q → ⊥
@@ -90,7 +102,7 @@ module _ {x goals w m m₀ : List ℕ} {n l : ℕ} (I : Indexed x n) (H : Holds 
         first-changes (gOf w) l (f .1) (expand t (litAt r q)) one (sym (H .entered q i .unit free one .1 .literal) ∙ k) s
 
     -- an earlier position is entered, or one of a parent
-    waits₁ : (q : ℕ) → q < h → Entered t (gOf w₁) r₁ (conflictOf w₁) m₀ q ⊎ Pending t n (l / 2) (litAt r₁ q / 2)
+    waits₁ : (q : ℕ) → q < h → Entered t (gOf w₁) r₁ (conflictOf w₁) m₀ q ⊎ Names t n (l / 2) (litAt r₁ q / 2)
     waits₁ q i =
         ⊎-elim (λ s. inl (go s (N .same q (omega (arith, i, room))))) (λ y. inr (rw (lits₁ q i) y))
         (still-or n t (I .table) (litAt r q) (held-below (H .ready) q i) (gOf w) l)
@@ -159,12 +171,12 @@ module _ {x goals w m m₀ : List ℕ} {n l : ℕ} (I : Indexed x n) (H : Holds 
           still : (q : ℕ) → q < suc h → statesAt t (gOf w₂) (tail w₂) q ≡ statesAt t (gOf w₁) r₁ q
           still q i = still-states (I .few) (P .ready) (R .beside) t q (omega (arith, i, P .count))
 
-          go : (q : ℕ) → q < suc h → Dec (q ≡ h) → Entered t (gOf w₂) (tail w₂) (conflictOf w₂) m₂ q ⊎ Pending t n (l / 2) (litAt (tail w₂) q / 2)
+          go : (q : ℕ) → q < suc h → Dec (q ≡ h) → Entered t (gOf w₂) (tail w₂) (conflictOf w₂) m₂ q ⊎ Names t n (l / 2) (litAt (tail w₂) q / 2)
           go q i (yes e) = inl (subst (Entered t (gOf w₂) (tail w₂) (conflictOf w₂) m₂) (sym e) (R .here))
           go q i (no e) =
               let j = still-literal (I .few) (P .ready) (R .beside) q (omega (arith, i, P .count)) in
               ⊎-elim (λ u. inl (entered-still (still q i) (R .lower) (R .else q (omega (arith, i, room)) e) u))
-              (λ y. inr (subst (λ (k : ℕ). Pending t n (l / 2) (k / 2)) (sym j) y)) (waits₁ q (omega (arith, i, e)))
+              (λ y. inr (subst (λ (k : ℕ). Names t n (l / 2) (k / 2)) (sym j) y)) (waits₁ q (omega (arith, i, e)))
 
           own : Late t n (gOf w₁) r₁ (conflictOf w₁) m₀ h
           own =
@@ -175,6 +187,20 @@ module _ {x goals w m m₀ : List ℕ} {n l : ℕ} (I : Indexed x n) (H : Holds 
           late q i (yes e) = subst (Late t n (gOf w₂) (tail w₂) (conflictOf w₂) m₂) (sym e) (R .late own)
           late q i (no e) =
               late-still (still q i) (R .lower) (R .else q (omega (arith, i, room)) e) (still-list (I .few) (P .ready) (R .beside)) (late₁ q (omega (arith, i, e)))
+
+      -- its own position is behind the first unit
+      pub ahead₂ : {u : ℕ} → Fronts w m₀ u → Ahead w₂ m₂ u
+      ahead₂ {u} F = record {
+        some = λ y.
+            let (a, k) = F .some y in
+            let b = held₁ (u / 65536) (a .low) (a .here) in
+            let s = R .else (u / 65536) (a .low) (λ e. omega (arith, e, b)) in
+            (record { low = a .low; here = s .0 ∙ a .here; before = λ j i. same j (omega (arith, i, b)) ∙ a .before j i }, s .1 ∙ code₁ (u / 65536) b ∙ k);
+        none = λ y q i. let b : q < h = omega (arith, i, count₂) in same q b ∙ F .none y q (omega (arith, b, room));
+      }
+        where
+          same : (j : ℕ) → j < h → member m₂ j ≡ member m₀ j
+          same j i = R .else j (omega (arith, i, room)) (λ e. omega (arith, e, i)) .0
 
       -- ---- after the walk, and the base
 
@@ -230,15 +256,18 @@ module _ {x goals w m m₀ : List ℕ} {n l : ℕ} (I : Indexed x n) (H : Holds 
           clear₄ : (q : ℕ) → suc h ≤ q → q < positions → member m₃ q ≡ 0
           clear₄ q i b = K .else q (omega (arith, i, count₂)) b ∙ R .else q b (λ a. omega (arith, a, i)) .0 ∙ clear₁ q (omega (arith, i)) b
 
+          code₄ : (q : ℕ) → codeAt (tail w₄) q ≡ codeAt (tail w₃) q
+          code₄ q = other₄ (trailAt + (codesAt + q)) (λ e. omega (arith, e, room))
+
           -- what `next_unit` asks
+          pub foremost₄ : {u : ℕ} → Foremost w₃ m₃ u → Foremost w₄ m₃ u
+          foremost₄ {u} F y = (F y .0, code₄ (u / 65536) ∙ F y .1)
+
           pub forcing₄ : Forcing n w₄ m₃
           forcing₄ q b y = go (decLt q (suc h))
             where
-              code₄ : codeAt (tail w₄) q ≡ codeAt (tail w₃) q
-              code₄ = other₄ (trailAt + (codesAt + q)) (λ e. omega (arith, e, room))
-
               go : Dec (q < suc h) → (q < mostNodes) × (codeAt (tail w₄) q % 4096 < 2 * n)
-              go (yes i) = (omega (arith, i, room), rw code₄ (K .late q (omega (arith, i, count₂)) .low y))
+              go (yes i) = (omega (arith, i, room), rw (code₄ q) (K .late q (omega (arith, i, count₂)) .low y))
               go (no i) = absurd (omega (arith, y, clear₄ q (omega (arith, i)) b))
 
           -- what `wait` asks
@@ -295,7 +324,7 @@ module _ {x goals w m m₀ : List ℕ} {n l : ℕ} (I : Indexed x n) (H : Holds 
             codes₅ q = tail₅ (codesAt + q) (λ e. omega (arith, e))
 
             code₅ : (q : ℕ) → codeAt r₅ q ≡ codeAt (tail w₃) q
-            code₅ q = codes₅ q ∙ other₄ (trailAt + (codesAt + q)) (λ e. omega (arith, e, room))
+            code₅ q = codes₅ q ∙ code₄ q
 
             conflicts₅ : conflictOf w₅ ≡ conflictOf w₄
             conflicts₅ = A .other 1 (λ e. omega (arith, e)) (λ e. omega (arith, e))

@@ -22,7 +22,7 @@ use Rattle.state.specs.Holds.{Waiting, Holds, deniedOf, NoneDenied}
 use Rattle.state.proofs.Areas.{ready-same}
 use Rattle.state.proofs.Clauses.{sofar, none-at, none-goals, none-position, goal-state, goals-length}
 use Rattle.solver.specs.Changes.{Taken, Attached, Apart, Awaited, Stands, Shuts, Enlisted}
-use Rattle.solver.proofs.Stays.{holds-fails, holds-undecided, fails-undecided, value-stays}
+use Rattle.calculus.proofs.Stays.{holds-fails, holds-undecided, fails-undecided, value-stays}
 use Rattle.solver.proofs.Settles.{waiting-over, awaited-apart}
 use Rattle.solver.proofs.Assumes.{ready-attached, list-now, holds-attached, list-attached, taken-none}
 

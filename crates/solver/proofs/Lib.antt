@@ -1,6 +1,6 @@
 -- Laws of the solver's state changes. Assumes nothing.
-pub mod Stays
 pub mod Marks
+pub mod Fronts
 pub mod Walks
 pub mod Lives
 pub mod Settles

@@ -96,6 +96,14 @@ lowered-before k = record { size = refl; other = λ i d. refl; lower = omega ari
 pub held-low : {n : ℕ} {w : List ℕ} {q : ℕ} → n ≤ mostNodes → Ready n w → q < tail w 0 → q < mostNodes
 held-low few h b = omega (arith, b, count-most h, few)
 
+-- what is kept of a position is stored, and nothing else
+module _ {n : ℕ} {w m w′ m′ : List ℕ} {q k : ℕ} (few : n ≤ mostNodes) (h : Ready n w) (b : q < tail w 0) (g : Flagged w m q k w′ m′) where
+  pub flagged-other : (j : ℕ) → (j ≡ trailAt + (codesAt + q) → ⊥) → getD w′ j 0 ≡ getD w j 0
+  flagged-other j d = rw (g .stored) (getD-set-other w (trailAt + (codesAt + q)) j k 0 d)
+
+  pub flagged-stored : codeAt (tail w′) q ≡ k
+  flagged-stored = rw (g .stored) (getD-set-same w (trailAt + (codesAt + q)) k 0 (omega (arith, h .size, held-low few h b)))
+
 module _ (t : ℕ → Node) {n : ℕ} {w : List ℕ} {q : ℕ} (few : n ≤ mostNodes) (h : Ready n w) (b : q < tail w 0) where
   abbrev r : ℕ → ℕ
   r = tail w
@@ -143,14 +151,11 @@ module _ (t : ℕ → Node) {n : ℕ} {w : List ℕ} {q : ℕ} (few : n ≤ most
     else = λ j o d. (g .putted .other j o d, other (trailAt + (codesAt + j)) (λ e. d (omega (arith, e))));
   }
     where
-      place : ℕ
-      place = trailAt + (codesAt + q)
-
       other : (j : ℕ) → (j ≡ trailAt + (codesAt + q) → ⊥) → getD w′ j 0 ≡ getD w j 0
-      other j d = rw (g .stored) (getD-set-other w (trailAt + (codesAt + q)) j k 0 d)
+      other = flagged-other few h b g
 
       stored : codeAt (tail w′) q ≡ k
-      stored = rw (g .stored) (getD-set-same w (trailAt + (codesAt + q)) k 0 (omega (arith, h .size, held-low few h b)))
+      stored = flagged-stored few h b g
 
       beside : Beside w w′
       beside = record { size = rw (g .stored) (length-set w (trailAt + (codesAt + q)) k); other = λ j d o. other j (λ e. omega (arith, e, o)) }

@@ -20,7 +20,7 @@ use Rattle.state.proofs.Areas.{count-most, ready-same}
 use Rattle.state.proofs.Idle.{split-clear, split-true}
 use Rattle.state.proofs.Clauses.{sofar-length, none-position, goals-length}
 use Rattle.solver.specs.Changes.{Settled, Left}
-use Rattle.solver.proofs.Stays.{holds-fails}
+use Rattle.calculus.proofs.Stays.{holds-fails}
 use Rattle.solver.proofs.Settles.{waiting-over, settled-list, settled-holds}
 
 -- the first literals of a trail, from those held

@@ -9,14 +9,14 @@ use Rattle.scope.specs.declared.Node.{Node}
 use Rattle.calculus.specs.Order.{holds, valueOf}
 use Rattle.trail.proofs.Trails.{side-none, side-true}
 use Rattle.index.specs.Index.{mostNodes, indexNode}
-use Rattle.index.specs.Edges.{firstOf, midOf, endOf, PairAt, Parent, parentOf, edgeAt}
+use Rattle.index.specs.Edges.{firstOf, midOf, endOf, Names, PairAt, Parent, parentOf, edgeAt}
 use Rattle.index.specs.Indexed.{Indexed}
 use Rattle.units.specs.Units.{Units}
 use Rattle.clause.specs.Classed.{keptBy, Says, Classed}
 use Rattle.state.specs.Work.{tail, litAt, entryOf, gOf, conflictOf, Ready}
 use Rattle.state.specs.Holds.{statesAt, Entered}
 use Rattle.state.proofs.Areas.{count-most, held-below}
-use Rattle.solver.specs.Changes.{Beside, Lowered, Flagged, Visited, Pending, PairFrom, ThreeFrom, Walk, Touchable, Touched}
+use Rattle.solver.specs.Changes.{Beside, Lowered, Flagged, Visited, PairFrom, ThreeFrom, Walk, Touchable, Touched}
 use Rattle.solver.proofs.Settles.{code-holds}
 use Rattle.solver.proofs.Lives.{code-undecided}
 use Rattle.solver.proofs.Marks.{beside-same, still-at, still-ready, still-literal, still-states, entered-still, held-low}
@@ -102,12 +102,12 @@ module _ {x : List ℕ} {n node : ℕ} {w₀ : List ℕ} (I : Indexed x n) (h : 
   t = indexNode x
 
   -- it starts at the node's first edge
-  pub pairs-start : {m₀ : List ℕ} → Touchable t n node w₀ m₀ → Walk t n (λ p. PairFrom x node (firstOf x node) p ⊎ ThreeFrom x node 0 p) w₀ m₀ w₀ m₀
-  pairs-start v = walk-same v go
+  pub pairs-start : {k : ℕ} {m₀ : List ℕ} → k ≡ firstOf x node → Touchable t n node w₀ m₀ → Walk t n (λ p. PairFrom x node k p ⊎ ThreeFrom x node 0 p) w₀ m₀ w₀ m₀
+  pairs-start {k = f} d v = walk-same v go
     where
-      go : (p : ℕ) → Pending t n node p → PairFrom x node (firstOf x node) p ⊎ ThreeFrom x node 0 p
+      go : (p : ℕ) → Names t n node p → PairFrom x node f p ⊎ ThreeFrom x node 0 p
       go p (y, i, e, k) =
-          ⊎-elim (λ (j, a, o). inl (j, a .0, a, o ∙ k)) (λ (j, a, o). inr (j, omega arith, a, o ∙ k))
+          ⊎-elim (λ (j, a, o). inl (j, omega (arith, a .0, d), a, o ∙ k)) (λ (j, a, o). inr (j, omega arith, a, o ∙ k))
           (subst (λ (m : ℕ). Parent x m (y / 4)) e (I .edges .complete y i (subst (λ (m : ℕ). m < n) (sym e) b)))
 
   -- an edge from a node of two operands is left behind
@@ -126,8 +126,8 @@ module _ {x : List ℕ} {n node : ℕ} {w₀ : List ℕ} (I : Indexed x n) (h : 
   pairs-end d e v = walk-same v (λ p. ⊎-elim (λ (j, i, a, o). absurd (omega (arith, i, d, e, a .1))) (λ z. z))
 
   -- then come those from nodes of three
-  pub threes-start : {m₀ w m : List ℕ} → Walk t n (ThreeFrom x node 0) w₀ m₀ w m → Walk t n (ThreeFrom x node (midOf x node)) w₀ m₀ w m
-  threes-start v = walk-same v (λ p (j, i, a, o). (j, a .0, a, o))
+  pub threes-start : {k : ℕ} {m₀ w m : List ℕ} → k ≡ midOf x node → Walk t n (ThreeFrom x node 0) w₀ m₀ w m → Walk t n (ThreeFrom x node k) w₀ m₀ w m
+  threes-start d v = walk-same v (λ p (j, i, a, o). (j, omega (arith, a .0, d), a, o))
 
   threes-go : {k : ℕ} {m₀ w m w′ m′ : List ℕ} → Walk t n (ThreeFrom x node k) w₀ m₀ w m → Visited t n w m (edgeAt x k) w′ m′
       → Walk t n (ThreeFrom x node (k + 1)) w₀ m₀ w′ m′
@@ -186,17 +186,17 @@ module _ {t : ℕ → Node} {n : ℕ} {w : List ℕ} {p o c : ℕ} (few : n ≤ 
     abbrev at : ℕ
     at = (e - 1) / 2
 
-    at-held : at < tail w 0
-    at-held = at-low h b entry-is looked-some
+    pub looked-held : at < tail w 0
+    looked-held = at-low h b entry-is looked-some
 
     pub looked-low : at < mostNodes
-    looked-low = held-low few h at-held
+    looked-low = held-low few h looked-held
 
     at-says : Says n (statesAt t (gOf w) (tail w) at) o c
-    at-says = says at at-held (at-node h b entry-is looked-some)
+    at-says = says at looked-held (at-node h b entry-is looked-some)
 
     pub looked-conflict : {m w′ : List ℕ} → Units m → c ≡ 1 → Lowered w at w′ → Visited t n w m p w′ m
-    looked-conflict u z k = visited h b entry-is looked-some few (renewed-empty t few h at-held u (at-says .conflict z) k)
+    looked-conflict u z k = visited h b entry-is looked-some few (renewed-empty t few h looked-held u (at-says .conflict z) k)
 
     module _ {o′ : ℕ} (other : o′ ≡ o) (z : c ≡ 1 → ⊥) where
       unit : 2 ≤ c
@@ -209,4 +209,4 @@ module _ {t : ℕ → Node} {n : ℕ} {w : List ℕ} {p o c : ℕ} (few : n ≤ 
       looked-unit y g =
           let s = y ∙ ap (λ (i : ℕ). keptBy i c) other in
           visited h b entry-is looked-some few
-          (renewed-unit t few h at-held (at-says .free unit) (at-says .unit unit) (rw s (at-says .kept unit)) (rw s (at-says .kept-low unit .1)) g)
+          (renewed-unit t few h looked-held (at-says .free unit) (at-says .unit unit) (rw s (at-says .kept unit)) (rw s (at-says .kept-low unit .1)) g)

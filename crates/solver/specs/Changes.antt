@@ -3,15 +3,15 @@ use mathlib.Core.Path.{_≡_}
 use mathlib.Core.Logic.{_⊎_}
 use mathlib.Core.Bool.{Bool, true, false}
 use mathlib.Core.List.{List, [], _∷_}
-use Prim.Native.Nat.{ℕ, _+_, _-_, _*_, _/_, _%_, _<_, _≤_}
+use Prim.Native.Nat.{ℕ, suc, _+_, _-_, _*_, _/_, _%_, _<_, _≤_}
 use lib.ListN.{getD, length}
 use Rattle.scope.specs.declared.Node.{Node}
 use Rattle.calculus.specs.Expansion.{neg, expand}
 use Rattle.calculus.specs.Model.{Goals}
 use Rattle.calculus.specs.Order.{holds, fails, undecided, valueOf, move}
 use Rattle.calculus.specs.declared.Move.the-variants.{Conflict}
-use Rattle.index.specs.Index.{mostNodes, opNode}
-use Rattle.index.specs.Edges.{PairAt, ThreeAt, parentOf, edgeAt}
+use Rattle.index.specs.Index.{mostNodes}
+use Rattle.index.specs.Edges.{Names, PairAt, ThreeAt, parentOf, edgeAt}
 use Rattle.units.specs.Units.{positions, member, Units, Empty, Putted, First}
 use Rattle.state.specs.Work.{tail, litAt, baseOf, cursorAt, codeAt, gOf, cursorOf, conflictOf, waitingOf, Ready, trailAt, codesAt}
 use Rattle.state.specs.Holds.{Entered, Late, FirstLive, Closed, Waiting, Holds, deniedAt, deniedOf}
@@ -56,10 +56,6 @@ pub record Visited (t : ℕ → Node) (n : ℕ) (w m : List ℕ) (p : ℕ) (w′
   pub late : (q : ℕ) → q < tail w 0 → Late t n (gOf w) (tail w) (conflictOf w) m q → Late t n (gOf w′) (tail w′) (conflictOf w′) m′ q
   pub else : (q : ℕ) → q < positions → (q < tail w 0 → litAt (tail w) q / 2 ≡ p → ⊥) → (member m′ q ≡ member m q) × (codeAt (tail w′) q ≡ codeAt (tail w) q)
 
--- an operand cell of node p names a node
-abbrev pub Pending : (ℕ → Node) → ℕ → ℕ → ℕ → Type 0
-Pending t n node p = (y : ℕ) × (y < 4 * n) × (opNode t y ≡ node) × (y / 4 ≡ p)
-
 -- from offset k on, node m has an edge from p, which has two operands; or three
 abbrev pub PairFrom : List ℕ → ℕ → ℕ → ℕ → Type 0
 PairFrom x m k p = (j : ℕ) × (k ≤ j) × PairAt x m j × (parentOf x j ≡ p)
@@ -78,7 +74,7 @@ pub record Walk (t : ℕ → Node) (n : ℕ) (to-come : ℕ → Type 0) (w₀ m�
 
 -- what the walk starts from: a position that is not entered is one of a parent of the node
 abbrev pub Touchable : (ℕ → Node) → ℕ → ℕ → List ℕ → List ℕ → Type 0
-Touchable t n node w m = Walk t n (Pending t n node) w m w m
+Touchable t n node w m = Walk t n (Names t n node) w m w m
 
 -- and what it ends with
 abbrev pub Touched : (ℕ → Node) → ℕ → List ℕ → List ℕ → List ℕ → List ℕ → Type 0
@@ -98,6 +94,27 @@ pub record Dropped (w m m′ : List ℕ) : Type 0 where
   pub from : (q : ℕ) → q < positions → member m′ q ≡ 1 → member m q ≡ 1
   pub kept : (q : ℕ) → q < positions → member m q ≡ 1 → valueOf (gOf w) (codeAt (tail w) q % 4096) ≡ undecided → member m′ q ≡ 1
 
+-- u is the unit at the first position of the set, with what is kept of it, or `noUnit`; and it is that only where the set is empty
+abbrev pub Foremost : List ℕ → List ℕ → ℕ → Type 0
+Foremost w m u = (u ≡ noUnit → ⊥) → First m (u / 65536) × (codeAt (tail w) (u / 65536) ≡ u % 65536)
+
+pub record Fronts (w m : List ℕ) (u : ℕ) : Type 0 where
+  pub some : Foremost w m u
+  pub none : u ≡ noUnit → Empty m
+
+-- the same, but that the position of the newest literal is not looked at where it is `noUnit`
+pub record Ahead (w m : List ℕ) (u : ℕ) : Type 0 where
+  pub some : Foremost w m u
+  pub none : u ≡ noUnit → (q : ℕ) → suc q < tail w 0 → member m q ≡ 0
+
+-- r is the earlier of the unit b and that of position q, of which k is kept
+abbrev pub Earlier : ℕ → ℕ → ℕ → ℕ → Type 0
+Earlier b q k r = (q ≤ b / 65536 → r ≡ 65536 * q + k) × (b / 65536 < q → r ≡ b)
+
+-- where b was the first unit, r is it now
+abbrev pub Onward : List ℕ → List ℕ → ℕ → List ℕ → List ℕ → ℕ → Type 0
+Onward w m b w′ m′ r = Ahead w m b → Ahead w′ m′ r
+
 -- what is kept of each position in the set forces a literal of the n nodes
 abbrev pub Forcing : ℕ → List ℕ → List ℕ → Type 0
 Forcing n w m = (q : ℕ) → q < positions → member m q ≡ 1 → (q < mostNodes) × (codeAt (tail w) q % 4096 < 2 * n)
@@ -106,7 +123,7 @@ Forcing n w m = (q : ℕ) → q < positions → member m q ≡ 1 → (q < mostNo
 pub record Lived (w m m′ : List ℕ) (u : ℕ) : Type 0 where
   pub dropped : Dropped w m m′
   pub first : (q : ℕ) → First m′ q → valueOf (gOf w) (codeAt (tail w) q % 4096) ≡ undecided
-  pub next : (u ≡ noUnit → ⊥) → First m′ (u / 65536) × (codeAt (tail w) (u / 65536) ≡ u % 65536)
+  pub next : Foremost w m′ u
   pub none : u ≡ noUnit → Empty m′
 
 -- the same where there is no conflict; behind one u is `noUnit`

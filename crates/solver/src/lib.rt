@@ -11,14 +11,14 @@ ghost use Rattle.calculus.specs.Expansion.{expand};
 ghost use Rattle.calculus.specs.Order.{holds, valueOf};
 ghost use Rattle.calculus.specs.Model.{Goals, Fresh, questionSize};
 ghost use Rattle.index.specs.Index.{mostNodes, indexNode};
-ghost use Rattle.index.specs.Edges.{PairAt, parentOf};
+ghost use Rattle.index.specs.Edges.{firstOf, midOf, PairAt, parentOf};
 ghost use Rattle.index.specs.Indexed.{Indexed};
 ghost use Rattle.units.specs.Units.{words, positions, member, Units};
 ghost use Rattle.clause.specs.Coded.{Coded};
 ghost use Rattle.state.specs.Work.{area, tail, litAt, gOf, conflictOf, waitingOf, Ready, trailAt, basesAt};
 ghost use Rattle.state.specs.Holds.{Holds, Splits, Waiting, statesAt, deniedAt};
 ghost use Rattle.state.specs.Picked.{Picked, Leads};
-ghost use Rattle.solver.specs.Changes.{Lowered, Flagged, Renewed, Visited, ThreeFrom, Walk, Touchable, Touched, Forcing, Lived, Tidied, Taken, Held, Attached, Served, Awaited, Stands, Enlisted, Settled, Left, Apart};
+ghost use Rattle.solver.specs.Changes.{Lowered, Flagged, Renewed, Visited, ThreeFrom, Walk, Touchable, Touched, Foremost, Fronts, Earlier, Onward, Forcing, Lived, Tidied, Taken, Held, Attached, Served, Awaited, Stands, Enlisted, Settled, Left, Apart};
 
 // The cells of the work area.
 const CURSOR: usize = 0;
@@ -58,6 +58,30 @@ fn conflict(work: &mut [u16], q: usize)
     }
 }
 
+// The unit at the first position of the set, with what is kept of it; or NO_UNIT.
+fn front(work: &[u16], masks: &[u64]) -> u32
+    requires { ⌜ area ≤ length (now work) ⌝ }
+    requires { ⌜ Units (now masks) × ((q : ℕ) → q < positions → member (now masks) q ≡ 1 → q < mostNodes) ⌝ }
+    ensures { λ r. ⌜ Fronts (now (work .entry)) (now (masks .entry)) r ⌝ }
+{
+    if units::some(masks) {
+        let q = units::first(masks);
+        return 65536 * (q as u32) + state::code(work, q) as u32;
+    }
+    NO_UNIT
+}
+
+// Of the unit best and that of position q, of which `kept` is kept, the one whose position is the first; if it is the same, that of q.
+fn earlier(best: u32, q: usize, kept: u16) -> u32
+    requires { ⌜ q < mostNodes ⌝ }
+    ensures { λ r. ⌜ Earlier best q kept r ⌝ }
+{
+    if q as u32 <= best / 65536 {
+        return 65536 * (q as u32) + kept as u32;
+    }
+    best
+}
+
 // Position q has a unit; what it forces is kept.
 fn unit(work: &mut [u16], masks: &mut [u64], q: usize, kept: u16)
     requires { ⌜ Units (now masks) ⌝ }
@@ -68,22 +92,36 @@ fn unit(work: &mut [u16], masks: &mut [u64], q: usize, kept: u16)
     units::add(masks, q);
 }
 
-// What the clauses of node p's literal, at position q, come to is entered, by its code.
-fn enter(x: &[u16], n: usize, work: &mut [u16], masks: &mut [u64], p: usize, q: usize, code: u16)
+// What the clauses of node p's literal, at position q, come to is entered, by its code. Of the first unit, best, the answer is the first
+// then.
+fn enter(
+    x: &[u16],
+    n: usize,
+    work: &mut [u16],
+    masks: &mut [u64],
+    p: usize,
+    q: usize,
+    code: u16,
+    best: u32,
+) -> u32
     requires { ⌜ Indexed (now x) n ⌝ }
     requires { ⌜ Ready n (now work) × Units (now masks) ⌝ }
     requires { ⌜ (q < tail (now work) 0) × (litAt (tail (now work)) q / 2 ≡ p) × (p < n) ⌝ }
     requires { ⌜ Coded (indexNode (now x) p) (statesAt (indexNode (now x)) (gOf (now work)) (tail (now work)) q) code ⌝ }
     ensures { λ _. ⌜ Renewed (indexNode (now (x .entry))) n (now (work .entry)) (now (masks .entry)) q (now (work .exit)) (now (masks .exit)) ⌝ }
+    ensures { λ r. ⌜ Onward (now (work .entry)) (now (masks .entry)) best (now (work .exit)) (now (masks .exit)) r ⌝ }
 {
     if (code / 2) % 2 == 1 {
         conflict(work, q);
-        return;
+        return best;
     }
     if code % 2 == 1 {
         let l = clause::choose(x, n, p, ((code / 32) % 8) as usize);
-        unit(work, masks, q, l + 4096 * ((code / 8) % 4));
+        let kept = l + 4096 * ((code / 8) % 4);
+        unit(work, masks, q, kept);
+        return earlier(best, q, kept);
     }
+    best
 }
 
 // So are they worked out and entered; the answer is the code.
@@ -103,25 +141,27 @@ fn renew(
     ensures { λ r. ⌜ Coded (indexNode (now (x .entry)) p) (statesAt (indexNode (now (x .entry))) (gOf (now (work .entry))) (tail (now (work .entry))) q) r ⌝ }
 {
     let code = clause::code(x, n, work, p, sign);
-    enter(x, n, work, masks, p, q, code);
+    enter(x, n, work, masks, p, q, code, NO_UNIT);
     code
 }
 
 // The same for node p, which has three operands, if its literal is held. Most looks end at the test: no clause is a unit or all false.
-fn visit(x: &[u16], n: usize, work: &mut [u16], masks: &mut [u64], p: usize)
+fn visit(x: &[u16], n: usize, work: &mut [u16], masks: &mut [u64], p: usize, best: u32) -> u32
     requires { ⌜ Indexed (now x) n ⌝ }
     requires { ⌜ Ready n (now work) × Units (now masks) ⌝ }
     requires { ⌜ (p < n) × (6 < indexNode (now x) p .kind) ⌝ }
     ensures { λ _. ⌜ Visited (indexNode (now (x .entry))) n (now (work .entry)) (now (masks .entry)) p (now (work .exit)) (now (masks .exit)) ⌝ }
+    ensures { λ r. ⌜ Onward (now (work .entry)) (now (masks .entry)) best (now (work .exit)) (now (masks .exit)) r ⌝ }
 {
     let e = state::entry(work, p) as usize;
     if e == 0 {
-        return;
+        return best;
     }
     let code = clause::code_of_three(x, n, work, p, (e - 1) % 2);
     if code % 4 != 0 {
-        enter(x, n, work, masks, p, (e - 1) / 2, code);
+        return enter(x, n, work, masks, p, (e - 1) / 2, code, best);
     }
+    best
 }
 
 // The edge of a node at offset k, as the node's literal of a sign has become true: so is what the clauses of its parent's literal come to,
@@ -134,72 +174,111 @@ fn look(
     node: usize,
     k: usize,
     sign: usize,
-)
+    best: u32,
+) -> u32
     requires { ⌜ Indexed (now x) n ⌝ }
     requires { ⌜ Ready n (now work) × Units (now masks) ⌝ }
     requires { ⌜ (node < n) × PairAt (now x) node k × (sign < 2) ⌝ }
     requires { ⌜ valueOf (gOf (now work)) (2 * node + sign) ≡ holds ⌝ }
     ensures { λ _. ⌜ Visited (indexNode (now (x .entry))) n (now (work .entry)) (now (masks .entry)) (parentOf (now (x .entry)) k) (now (work .exit)) (now (masks .exit)) ⌝ }
+    ensures { λ r. ⌜ Onward (now (work .entry)) (now (masks .entry)) best (now (work .exit)) (now (masks .exit)) r ⌝ }
 {
     let class = clause::class(x, n, work, node, k, sign);
     if class == 0 {
-        return;
+        return best;
     }
     let p = clause::parent(x, n, node, k);
     let e = state::entry(work, p) as usize;
     let q = (e - 1) / 2;
     if class == 1 {
         conflict(work, q);
-        return;
+        return best;
     }
     let other = clause::other(x, n, node, k);
     let kept = clause::kept(other, class);
     unit(work, masks, q, kept);
+    earlier(best, q, kept)
 }
 
-// So with all parents of two operands of a node.
-fn touch_pairs(x: &[u16], n: usize, work: &mut [u16], masks: &mut [u64], node: usize, sign: usize)
+// So with all parents of two operands of a node, whose edges are from `first` on below `end`.
+fn touch_pairs(
+    x: &[u16],
+    n: usize,
+    work: &mut [u16],
+    masks: &mut [u64],
+    node: usize,
+    sign: usize,
+    first: usize,
+    end: usize,
+    best: u32,
+) -> u32
     requires { ⌜ Indexed (now x) n ⌝ }
     requires { ⌜ Ready n (now work) ⌝ }
     requires { ⌜ Touchable (indexNode (now x)) n node (now work) (now masks) ⌝ }
     requires { ⌜ (node < n) × (sign < 2) × (valueOf (gOf (now work)) (2 * node + sign) ≡ holds) ⌝ }
+    requires { ⌜ (first ≡ firstOf (now x) node) × (end ≡ midOf (now x) node) ⌝ }
     ensures { λ _. ⌜ Walk (indexNode (now (x .entry))) n (ThreeFrom (now (x .entry)) node 0) (now (work .entry)) (now (masks .entry)) (now (work .exit)) (now (masks .exit)) ⌝ }
+    ensures { λ r. ⌜ Onward (now (work .entry)) (now (masks .entry)) best (now (work .exit)) (now (masks .exit)) r ⌝ }
 {
-    let mut k = x[FIRST + node] as usize;
-    let end = x[MID + node] as usize;
+    let mut k = first;
+    let mut b = best;
     while k < end {
-        look(x, n, work, masks, node, k, sign);
+        b = look(x, n, work, masks, node, k, sign, b);
         k += 2;
     }
+    b
 }
 
-// So with those of three.
-fn touch_threes(x: &[u16], n: usize, work: &mut [u16], masks: &mut [u64], node: usize)
+// So with those of three, whose edges are from `first` on.
+fn touch_threes(
+    x: &[u16],
+    n: usize,
+    work: &mut [u16],
+    masks: &mut [u64],
+    node: usize,
+    first: usize,
+    best: u32,
+) -> u32
     requires { ⌜ Indexed (now x) n ⌝ }
     requires { ⌜ Ready n (now work) ⌝ }
     requires { ⌜ Walk (indexNode (now x)) n (ThreeFrom (now x) node 0) (now work) (now masks) (now work) (now masks) ⌝ }
-    requires { ⌜ node < n ⌝ }
+    requires { ⌜ (node < n) × (first ≡ midOf (now x) node) ⌝ }
     ensures { λ _. ⌜ Touched (indexNode (now (x .entry))) n (now (work .entry)) (now (masks .entry)) (now (work .exit)) (now (masks .exit)) ⌝ }
+    ensures { λ r. ⌜ Onward (now (work .entry)) (now (masks .entry)) best (now (work .exit)) (now (masks .exit)) r ⌝ }
 {
-    let mut k = x[MID + node] as usize;
     let end = x[END + node] as usize;
+    let mut k = first;
+    let mut b = best;
     while k < end {
         let p = clause::parent_of_three(x, n, node, k);
-        visit(x, n, work, masks, p);
+        b = visit(x, n, work, masks, p, b);
         k += 1;
     }
+    b
 }
 
 // So with all parents of a node.
-fn touch(x: &[u16], n: usize, work: &mut [u16], masks: &mut [u64], node: usize, sign: usize)
+fn touch(
+    x: &[u16],
+    n: usize,
+    work: &mut [u16],
+    masks: &mut [u64],
+    node: usize,
+    sign: usize,
+    first: usize,
+    mid: usize,
+    best: u32,
+) -> u32
     requires { ⌜ Indexed (now x) n ⌝ }
     requires { ⌜ Ready n (now work) ⌝ }
     requires { ⌜ Touchable (indexNode (now x)) n node (now work) (now masks) ⌝ }
     requires { ⌜ (node < n) × (sign < 2) × (valueOf (gOf (now work)) (2 * node + sign) ≡ holds) ⌝ }
+    requires { ⌜ (first ≡ firstOf (now x) node) × (mid ≡ midOf (now x) node) ⌝ }
     ensures { λ _. ⌜ Touched (indexNode (now (x .entry))) n (now (work .entry)) (now (masks .entry)) (now (work .exit)) (now (masks .exit)) ⌝ }
+    ensures { λ r. ⌜ Onward (now (work .entry)) (now (masks .entry)) best (now (work .exit)) (now (masks .exit)) r ⌝ }
 {
-    touch_pairs(x, n, work, masks, node, sign);
-    touch_threes(x, n, work, masks, node);
+    let b = touch_pairs(x, n, work, masks, node, sign, first, mid, best);
+    touch_threes(x, n, work, masks, node, mid, b)
 }
 
 // How many goals wait: the first that is not true, and all behind it.
@@ -260,36 +339,54 @@ fn wait(n: usize, goals: &[u16], work: &mut [u16], l: u16)
     }
 }
 
-// The first position of the set that forces an undecided literal, with what is kept of it; positions before it leave the set.
-fn live(n: usize, work: &[u16], masks: &mut [u64]) -> u32
+// The first unit of the set that forces an undecided literal; positions before it leave the set. `first` is the first unit of all.
+fn live(n: usize, work: &[u16], masks: &mut [u64], first: u32) -> u32
     requires { ⌜ Ready n (now work) × (n ≤ mostNodes) ⌝ }
     requires { ⌜ Units (now masks) × Forcing n (now work) (now masks) ⌝ }
+    requires { ⌜ Fronts (now work) (now masks) first ⌝ }
     ensures { λ r. ⌜ Lived (now (work .entry)) (now (masks .entry)) (now (masks .exit)) r ⌝ }
 {
-    while units::some(masks) {
-        let q = units::first(masks);
-        let kept = state::code(work, q);
-        if state::value(n, work, kept % 4096) == 0 {
-            return 65536 * (q as u32) + kept as u32;
+    let mut u = first;
+    while u != NO_UNIT {
+        if state::value(n, work, (u % 4096) as u16) == 0 {
+            return u;
         }
-        units::leave(masks, q);
+        units::leave(masks, (u / 65536) as usize);
+        u = front(work, masks);
     }
     NO_UNIT
 }
 
-// The same where there is no conflict.
-fn next_unit(n: usize, work: &[u16], masks: &mut [u64]) -> u32
+// The first unit of the set, where best is that or NO_UNIT.
+fn known(work: &[u16], masks: &[u64], best: u32) -> u32
+    requires { ⌜ area ≤ length (now work) ⌝ }
+    requires { ⌜ Units (now masks) × ((q : ℕ) → q < positions → member (now masks) q ≡ 1 → q < mostNodes) ⌝ }
+    requires { ⌜ Foremost (now work) (now masks) best ⌝ }
+    ensures { λ r. ⌜ Fronts (now (work .entry)) (now (masks .entry)) r ⌝ }
+{
+    if best != NO_UNIT {
+        return best;
+    }
+    front(work, masks)
+}
+
+// The first unit of the set that forces an undecided literal where there is no conflict; best is the first of all, or NO_UNIT.
+fn next_unit(n: usize, work: &[u16], masks: &mut [u64], best: u32) -> u32
     requires { ⌜ Ready n (now work) × (n ≤ mostNodes) ⌝ }
     requires { ⌜ Units (now masks) × Forcing n (now work) (now masks) ⌝ }
+    requires { ⌜ Foremost (now work) (now masks) best ⌝ }
     ensures { λ r. ⌜ Tidied (now (work .entry)) (now (masks .entry)) (now (masks .exit)) r ⌝ }
 {
     if work[CONFLICT] < NONE {
         return NO_UNIT;
     }
-    live(n, work, masks)
+    let first = known(work, masks, best);
+    live(n, work, masks, first)
 }
 
 // A literal, which is undecided, joins those held; which goals wait is not looked at. The answer is the next unit of the set, or NO_UNIT.
+// Where its edges are and the first unit are read before anything is stored, so that no store is waited for; then each unit found is
+// compared with the first, and the set is looked into only where none was found.
 fn attach(x: &[u16], n: usize, work: &mut [u16], masks: &mut [u64], l: u16) -> u32
     requires { ⌜ Indexed (now x) n ⌝ }
     requires { ⌜ Held (indexNode (now x)) n (now work) l (now masks) ⌝ }
@@ -299,11 +396,14 @@ fn attach(x: &[u16], n: usize, work: &mut [u16], masks: &mut [u64], l: u16) -> u
     let h = state::count(work);
     let node = (l / 2) as usize;
     let sign = (l % 2) as usize;
+    let first = x[FIRST + node] as usize;
+    let mid = x[MID + node] as usize;
+    let before = front(work, masks);
     state::push(n, work, l);
     let code = renew(x, n, work, masks, node, h as usize, sign);
-    touch(x, n, work, masks, node, sign);
+    let best = touch(x, n, work, masks, node, sign, first, mid, before);
     state::number(work, h as usize, code / 8192);
-    next_unit(n, work, masks)
+    next_unit(n, work, masks, best)
 }
 
 // Where the first position of the set forces l, it leaves the set.

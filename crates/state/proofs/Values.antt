@@ -1,11 +1,11 @@
 -- The values of literals: as a literal joins, as it leaves, and where none is held. Assumes nothing.
 use mathlib.Core.Path.{_≡_, refl, ap, _∙_}
 use mathlib.Core.List.{List, [], _∷_}
-use Prim.Native.Nat.{ℕ, _+_, _<_, _≤_}
+use Prim.Native.Nat.{ℕ, _+_, _*_, _/_, _%_, _<_, _≤_}
 use native.Mathlib.Omega.{arith}
 use native.Mathlib.Decide.{ℕ-discrete}
 use lib.ListN.{length, getD, set, length-set}
-use lib.Seq.{getD-set-same, getD-set-other}
+use lib.Seq.{getD-set-same, getD-set-other, set-comm}
 use Rattle.calculus.specs.Expansion.{neg}
 use Rattle.calculus.specs.Order.{mem, undecided, valueOf}
 use Rattle.calculus.proofs.Literals.{value-joined, value-negated, value-other, undecided-neg}
@@ -66,3 +66,18 @@ module _ (w : List ℕ) (l v u : ℕ) (b : l < valuesSize) (size : trailAt + cur
 
   pub set-length : length (valuesSet w l v u) ≡ length w
   set-length = simp length-set
+
+-- where both are the same, it does not matter which comes first
+pub set-either : (w : List ℕ) (l v : ℕ)
+    → set (set w (trailAt + (valuesAt + 2 * (l / 2))) v) (trailAt + (valuesAt + (2 * (l / 2) + 1))) v ≡ valuesSet w l v v
+set-either w l v = go (ℕ-discrete (l % 2) 0)
+  where
+    go : Dec (l % 2 ≡ 0) → set (set w (trailAt + (valuesAt + 2 * (l / 2))) v) (trailAt + (valuesAt + (2 * (l / 2) + 1))) v ≡ valuesSet w l v v
+    go (yes e) =
+        let a : 2 * (l / 2) ≡ l = omega (arith, e) in
+        let b : 2 * (l / 2) + 1 ≡ neg l = omega (arith, e) in
+        rw (b, a)
+    go (no e) =
+        let a : 2 * (l / 2) ≡ neg l = omega (arith, e) in
+        let b : 2 * (l / 2) + 1 ≡ l = omega (arith, e) in
+        rw (b, a) (set-comm w (trailAt + (valuesAt + neg l)) (trailAt + (valuesAt + l)) v v (λ i. omega (arith, i)))

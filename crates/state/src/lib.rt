@@ -126,6 +126,16 @@ fn set_values(work: &mut [u16], l: u16, v: u16, u: u16)
     work[TRAIL + (VALUES + other as usize)] = u;
 }
 
+// Both become 0. They stand side by side, so that it is one store.
+fn clear_values(work: &mut [u16], l: u16)
+    requires { ⌜ (area ≤ length (now work)) × (l < 2 * mostNodes) ⌝ }
+    ensures { λ _. ⌜ now (work .exit) ≡ valuesSet (now (work .entry)) l 0 0 ⌝ }
+{
+    let even = 2 * (l / 2) as usize;
+    work[TRAIL + (VALUES + even)] = 0;
+    work[TRAIL + (VALUES + (even + 1))] = 0;
+}
+
 // A literal is entered at position h, the last.
 fn enter(work: &mut [u16], h: u16, l: u16)
     requires { ⌜ (area ≤ length (now work)) × (l < 2 * mostNodes) × (h < mostNodes) ⌝ }
@@ -166,7 +176,7 @@ pub fn pop(n: usize, work: &mut [u16])
 {
     let h = work[TRAIL] - 1;
     let l = work[TRAIL + (LITERALS + h as usize)];
-    set_values(work, l, 0, 0);
+    clear_values(work, l);
     work[TRAIL + (ENTRIES + (l / 2) as usize)] = 0;
     work[TRAIL] = h;
 }

@@ -2,4 +2,5 @@
 pub mod Bits
 pub mod Sets
 pub mod Firsts
+pub mod Sizes
 pub mod Drains

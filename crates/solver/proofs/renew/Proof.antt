@@ -12,7 +12,7 @@ enter-requires c κs =
 returns : tie.Need-returns
 returns c =
     let p = c .before .before .before .before .before .before .before .before .before .before .before .before .pre in
-    (c .before .before .before .before .enter .ensures, rw (p .1 .1 .1) (c .before .before .before .before .before .before .before .code .ensures))
+    (c .before .before .before .before .enter .ensures .0, rw (p .1 .1 .1) (c .before .before .before .before .before .before .before .code .ensures))
 
 pub renew-spec : {M : Type 1} → statement M
 renew-spec =

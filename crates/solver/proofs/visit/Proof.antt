@@ -1,6 +1,7 @@
 -- `solver::visit` meets its contract. Assumes nothing.
 use Rattle.index.specs.Index.{indexNode}
 use Rattle.solver.proofs.Marks.{visited-none, visited, visited-idle, at-low, at-node, at-coded}
+use Rattle.solver.proofs.Fronts.{onward-same}
 use native.Mathlib.Omega.{arith}
 use borrow.Author.Needs.{needs}
 use Rattle.solver.proofs.visit.Statement.{statement}
@@ -27,7 +28,7 @@ visit-spec =
     tie.close
     (tie.spec
     (λ c κs. search needs) (λ c. search needs) (λ c. search needs)
-    (λ c. search (needs, visited-none))
+    (λ c. search (needs, visited-none, onward-same))
     (λ c. search needs)
     code-of-three-requires
     (λ c. search needs)
@@ -35,4 +36,4 @@ visit-spec =
     (λ c. search needs) (λ c. search needs)
     (λ c. search (needs, visited))
     (λ c. search needs)
-    (λ c. search (needs, visited-idle)))
+    (λ c. search (needs, visited-idle, onward-same)))

@@ -12,7 +12,7 @@ use Rattle.state.proofs.pop.Tie as tie
 returns : tie.Need-returns
 returns c =
     let s = c .before .before .before .before .before .before .before in
-    popped (s .pre .1 .0 .0) (s .pre .0) (s .pre .1 .0 .1) refl (c .before .before .set-values .ensures) refl
+    popped (s .pre .1 .0 .0) (s .pre .0) (s .pre .1 .0 .1) refl (c .before .before .clear-values .ensures) refl
 
 pub pop-spec : {M : Type 1} → statement M
 pop-spec =
@@ -21,6 +21,6 @@ pop-spec =
     (λ c. search needs) (λ c. search needs) (λ c. search needs) (λ c. search needs) (λ c. search needs)
     (λ c. search needs) (λ c. search needs) (λ c κs. search needs) (λ c. search needs)
     (λ c. search needs) (λ c. search needs) (λ c. search needs) (λ c. search needs)
-    (λ c. simp length-set (omega (arith, simp length-set at (ap length (c .before .before .set-values .ensures)))))
+    (λ c. simp length-set (omega (arith, simp length-set at (ap length (c .before .before .clear-values .ensures)))))
     (λ c. search needs)
     returns)

@@ -1,28 +1,20 @@
 -- What stays of the clauses' states as a literal joins. Assumes nothing.
 use mathlib.Core.Path.{_≡_, refl, sym, ap, _∙_}
-use mathlib.Core.Bool.{Bool, true, false, cond, or-true}
+use mathlib.Core.Bool.{Bool, true, or-true}
 use mathlib.Core.Logic.{_⊎_, inl, inr, ⊎-elim}
 use mathlib.Core.List.{List, [], _∷_, map}
-use Prim.Native.Nat.{ℕ, zero, suc, _+_, _*_, _/_, _%_, _<_}
+use Prim.Native.Nat.{ℕ, zero, suc, _/_, _<_}
 use native.Mathlib.Omega.{arith}
 use native.Mathlib.Decide.{ℕ-discrete}
-use lib.Dec.{eqb}
 use lib.ListN.{length, getD, length-map}
-use Rattle.scope.specs.declared.Node.{Node}
-use Rattle.scope.specs.Table.{operands}
-use Rattle.scope.proofs.Operands.{arity-most, operands-length}
-use Rattle.calculus.specs.Expansion.{neg, chosen, expand}
+use Rattle.calculus.specs.Expansion.{neg}
 use Rattle.calculus.specs.Order.{Value, holds, fails, undecided, valueOf, State, met, empty, one, many, joined, stateOf}
 use Rattle.calculus.specs.Order.{literalOf, isEmpty, isOne, some, firstOf, literalAt}
-use Rattle.calculus.specs.Model.{All, Table}
-use Rattle.calculus.proofs.Lists.{all-map, all-imply, getD-map}
+use Rattle.calculus.specs.Model.{All}
+use Rattle.calculus.proofs.Lists.{getD-map}
 use Rattle.calculus.proofs.Literals.{value-joined, value-other, undecided-neg}
 use Rattle.calculus.proofs.Moves.{first-found, empty-state, one-state}
 use Rattle.calculus.proofs.Complete.{joined-met}
-use Rattle.calculus.proofs.Rows.{rowOf, Within, row-within}
-use Rattle.index.specs.Index.{none, opNode}
-use Rattle.clause.specs.Coded.{statesOf}
-use Rattle.solver.specs.Changes.{Pending}
 
 -- the three values differ
 pub holds-fails : holds ≡ fails → ⊥
@@ -190,72 +182,15 @@ module _ (G : List ℕ) (l : ℕ) (f : valueOf G l ≡ undecided) where
 
 -- ---- clauses that do not name l's node keep their states
 
-all-or : {A : Type 0} (P : A → Type 0) (Q : Type 0) (xs : List A) → All (λ x. P x ⊎ Q) xs → All P xs ⊎ Q
+pub all-or : {A : Type 0} (P : A → Type 0) (Q : Type 0) (xs : List A) → All (λ x. P x ⊎ Q) xs → All P xs ⊎ Q
 all-or P Q [] h = inl tt
 all-or P Q (x ∷ xs) (a, h) = ⊎-elim (λ p. ⊎-elim (λ r. inl (p, r)) inr (all-or P Q xs h)) inr a
 
-state-same : (F G c : List ℕ) → All (λ m. valueOf F m ≡ valueOf G m) c → stateOf F c ≡ stateOf G c
+pub state-same : (F G c : List ℕ) → All (λ m. valueOf F m ≡ valueOf G m) c → stateOf F c ≡ stateOf G c
 unfolding stateOf
 state-same F G [] h = refl
 state-same F G (m ∷ c) h = rw (h .0, state-same F G c (h .1))
 
-states-same : (F G : List ℕ) (cs : List (List ℕ)) → All (λ c. stateOf F c ≡ stateOf G c) cs → map (stateOf F) cs ≡ map (stateOf G) cs
+pub states-same : (F G : List ℕ) (cs : List (List ℕ)) → All (λ c. stateOf F c ≡ stateOf G c) cs → map (stateOf F) cs ≡ map (stateOf G) cs
 states-same F G [] h = refl
 states-same F G (c ∷ cs) h = rw (h .0, states-same F G cs (h .1))
-
-module _ (n : ℕ) (t : ℕ → Node) (T : Table n t) (m : ℕ) (b : m < 2 * n) where
-  abbrev p : ℕ
-  p = m / 2
-
-  -- the node of a literal of m's clauses is one that a cell of m's node names
-  cell-names : (c : ℕ) → Within (t p .kind) c → Pending t n (chosen (t p) c / 2) p
-  unfolding opNode chosen
-  cell-names c h = (4 * p + (1 + c / 2), omega (arith, b, h, arity-most (t p .kind)), rw (u, v) named, u)
-    where
-      u : (4 * p + (1 + c / 2)) / 4 ≡ p
-      u = omega (arith, h, arity-most (t p .kind))
-
-      v : (4 * p + (1 + c / 2)) % 4 ≡ suc (c / 2)
-      v = omega (arith, h, arity-most (t p .kind))
-
-      l : ℕ
-      l = getD (operands (t p)) (c / 2) 0
-
-      sign : (q : Bool) → l / 2 ≡ cond q l (neg l) / 2
-      sign true = refl
-      sign false = omega arith
-
-      named : getD (map (_/ 2) (operands (t p))) (c / 2) none ≡ cond (eqb (c % 2) 0) l (neg l) / 2
-      named = getD-map (_/ 2) (operands (t p)) (c / 2) 0 none (omega (arith, h, operands-length (t p))) ∙ sign (eqb (c % 2) 0)
-
-  -- the states of m's clauses stay, or a cell of m's node names l's
-  pub still-or : (G : List ℕ) (l : ℕ) → (statesOf t (l ∷ G) m ≡ statesOf t G m) ⊎ Pending t n (l / 2) p
-  unfolding expand
-  still-or G l =
-      ⊎-elim (λ h. inl (states-same (l ∷ G) G (expand t m) h)) inr
-      (all-or (λ c. stateOf (l ∷ G) c ≡ stateOf G c) Named (expand t m)
-      (all-map Same-or (map (chosen (t p))) (rowOf (t p .kind) (m % 2))
-      (all-imply (All (Within (t p .kind))) (λ c. Same-or (map (chosen (t p)) c)) clause (rowOf (t p .kind) (m % 2))
-      (row-within (t p .kind) (m % 2) (T .kinds p (omega (arith, b)) .1) (omega arith)))))
-    where
-      Named : Type 0
-      Named = Pending t n (l / 2) p
-
-      Same-or : List ℕ → Type 0
-      Same-or c = (stateOf (l ∷ G) c ≡ stateOf G c) ⊎ Named
-
-      Kept-or : ℕ → Type 0
-      Kept-or a = (valueOf (l ∷ G) a ≡ valueOf G a) ⊎ Named
-
-      literal : (c : ℕ) → Within (t p .kind) c → Kept-or (chosen (t p) c)
-      literal c h = at (ℕ-discrete (chosen (t p) c / 2) (l / 2))
-        where
-          at : Dec (chosen (t p) c / 2 ≡ l / 2) → Kept-or (chosen (t p) c)
-          at (yes e) = inr (rw e at (cell-names c h))
-          at (no e) = inl (value-other G l (chosen (t p) c) e)
-
-      clause : (c : List ℕ) → All (Within (t p .kind)) c → Same-or (map (chosen (t p)) c)
-      clause c h =
-          ⊎-elim (λ h. inl (state-same (l ∷ G) G (map (chosen (t p)) c) h)) inr
-          (all-or (λ a. valueOf (l ∷ G) a ≡ valueOf G a) Named (map (chosen (t p)) c)
-          (all-map Kept-or (chosen (t p)) c (all-imply (Within (t p .kind)) (λ a. Kept-or (chosen (t p) a)) literal c h)))
