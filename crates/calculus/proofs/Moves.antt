@@ -6,11 +6,20 @@ use Prim.Native.Nat.{ℕ, suc, _<_}
 use native.Mathlib.Omega.{arith}
 use lib.ListN.{length, getD, length-map}
 use Rattle.scope.proofs.Tests.{or-left, or-right}
-use Rattle.calculus.specs.Order.{State, met, empty, one, many, stateOf, literalOf, isEmpty, isOne, isMany, some, firstOf, literalAt, moveOf, clauses, move}
+use Rattle.calculus.specs.Order.{State, met, empty, one, many, stateOf, literalOf, isEmpty, isOne, isMany, some, firstOf, literalAt, moveOf, clauses, move, bit}
 use Rattle.calculus.specs.Model.{All}
 use Rattle.calculus.specs.declared.Move.{Move}
 use Rattle.calculus.specs.declared.Move.the-variants.{Conflict, Unit as Single, Done, Split}
 use Rattle.calculus.proofs.Lists.{map-all, getD-map}
+
+-- a test as a number
+pub bit-true : (b : Bool) → bit b ≡ 1 → b ≡ true
+bit-true true e = refl
+bit-true false e = absurd (omega arith)
+
+pub bit-false : (b : Bool) → (bit b ≡ 1 → ⊥) → b ≡ false
+bit-false true e = absurd (e refl)
+bit-false false e = refl
 
 -- the first state that passes a test stands in the list and passes
 pub first-found : (p : State → Bool) (ss : List State) → some p ss ≡ true → (firstOf p ss < length ss) × (p (getD ss (firstOf p ss) met) ≡ true)

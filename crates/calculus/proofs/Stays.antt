@@ -50,7 +50,7 @@ joined-one undecided m (one j) k e = inl (cc, cc)
 joined-one undecided m (many j) k e = inl (cc, cc)
 
 -- the literal of a unit is undecided
-one-undecided : (G c : List ℕ) (k : ℕ) → stateOf G c ≡ one k → valueOf G k ≡ undecided
+pub one-undecided : (G c : List ℕ) (k : ℕ) → stateOf G c ≡ one k → valueOf G k ≡ undecided
 unfolding stateOf
 one-undecided G [] k e = cc
 one-undecided G (m ∷ c) k e =
@@ -180,7 +180,7 @@ module _ (G : List ℕ) (l : ℕ) (f : valueOf G l ≡ undecided) where
         let d : met ≡ one l = sym a ∙ sym b ∙ ap (λ (ss : List State). getD ss first met) o ∙ first-state isOne G cs e ∙ first-unit G cs e ∙ ap one k in
         let z : _≡_ {A = ℕ} 0 1 = cc in omega arith
 
--- ---- clauses that do not name l's node keep their states
+-- ---- clauses whose literals keep their values keep their states
 
 pub all-or : {A : Type 0} (P : A → Type 0) (Q : Type 0) (xs : List A) → All (λ x. P x ⊎ Q) xs → All P xs ⊎ Q
 all-or P Q [] h = inl tt

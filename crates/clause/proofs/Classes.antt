@@ -25,7 +25,8 @@ use Rattle.index.specs.Indexed.{Indexed}
 use Rattle.index.proofs.Nodes.{operand-cell}
 use Rattle.clause.specs.Coded.{statesOf, Coded}
 use Rattle.clause.specs.Classed.{keptBy, Says, Classed}
-use Rattle.clause.proofs.Codes.{code-low, pair-right}
+use Rattle.trail.proofs.Codes.{code-low}
+use Rattle.clause.proofs.Codes.{pair-right}
 
 -- ---- what a class says of its code
 

@@ -18,6 +18,7 @@ use Rattle.calculus.proofs.Literals.{fails-neg, undecided-neg, holds-neg}
 use Rattle.calculus.proofs.Rows.{rowOf, row-within}
 use Rattle.calculus.proofs.Sizes.{expand-few}
 use Rattle.trail.specs.Trail.{valueCode}
+use Rattle.trail.proofs.Codes.{code-low}
 use Rattle.index.specs.Codes.{numbered, opposite, choiceValue, stateBy, rowStates, isOpen, firstIf, codeOf, rowCode, pairCodes, codesSize, codeAt}
 use Rattle.index.specs.Index.{codesAt, mostLiterals, indexNode}
 use Rattle.index.specs.Indexed.{Indexed}
@@ -27,11 +28,6 @@ use Rattle.clause.proofs.Rows.{Chooses, of-operand, choice-few}
 use Rattle.clause.proofs.States.{renamed, Right, states-renamed, one-kept, empty-kept, open-kept, one-open, first-most, first-has, some-renamed, first-renamed, literal-renamed, state-has}
 
 -- ---- values
-
-pub code-low : (v : Value) → valueCode v < 3
-code-low undecided = omega arith
-code-low holds = omega arith
-code-low fails = omega arith
 
 numbered-code : (v : Value) → numbered (valueCode v) ≡ v
 numbered-code undecided = refl

@@ -11,7 +11,7 @@ use Rattle.scope.specs.Table.{operands}
 use Rattle.calculus.specs.Expansion.{neg, chosen, expand}
 use Rattle.calculus.specs.Order.{Value, holds, fails, undecided, valueOf, State, met, opened, joined, stateOf, clauses}
 use Rattle.calculus.specs.Model.{All, Below, Table}
-use Rattle.calculus.specs.Jump.{Rests, both, restOf, falseRest, originRest, clauseRest}
+use Rattle.calculus.specs.Jump.{Rests, nothing, both, restOf, falseRest, originRest, clauseRest}
 use Rattle.calculus.proofs.Fresh.{expand-under}
 use Rattle.calculus.proofs.Lists.{all-at, all-imply}
 use Rattle.trail.specs.Trail.{Trail, held}
@@ -19,7 +19,7 @@ use Rattle.trail.proofs.Trails.{trail-length}
 use Rattle.state.specs.Work.{tail, litAt, entryOf, baseOf, gOf, Ready, Numbered}
 use Rattle.state.proofs.Areas.{held-below}
 use Rattle.state.proofs.Clauses.{at-position}
-use Rattle.rests.specs.Words.{restAt, Put, Sets, heldOf}
+use Rattle.rests.specs.Words.{restAt, Put, heldOf}
 use Rattle.rests.proofs.Held.{held-literals}
 use Rattle.grounds.specs.Ground.{operandsIn, over, Room, Unmet, Grounded}
 use Rattle.grounds.proofs.Slots.{before-suc, origin-position, false-slot}
@@ -62,7 +62,7 @@ chosen-node y c = go (eqb (c % 2) 0)
     go true = refl
     go false = omega arith
 
-module _ (n : ℕ) (r : ℕ → ℕ) (m : List ℕ) (h : Trail n r) (s : Sets m) (y : Node) (o : Rests) where
+module _ (n : ℕ) (r : ℕ → ℕ) (m : List ℕ) (h : Trail n r) (s : restAt m 0 ≡ nothing) (y : Node) (o : Rests) where
   false-over : (cs : List ℕ) → Below n (map (chosen y) cs) → Unmet (held r) (map (chosen y) cs)
       → both (falseRest (heldOf m (held r)) (map (chosen y) cs)) o ≡ over m r y o (map (_/ 2) cs)
   unfolding falseRest over
@@ -76,7 +76,7 @@ module _ (n : ℕ) (r : ℕ → ℕ) (m : List ℕ) (h : Trail n r) (s : Sets m)
 
 module _ {t : ℕ → Node} {n q j to : ℕ} {goals w m : List ℕ} (R : Ready n w) (N : Numbered t goals (tail w)) (g : Grounded t goals w m q j to) where
   pub room : Room w m to
-  room = record { sets = g .sets; past = omega (arith, trail-length (tail w 0) (tail w), g .past); there = g .there }
+  room = record { none = g .none; past = omega (arith, trail-length (tail w 0) (tail w), g .past); there = g .there }
 
   abbrev l : ℕ
   l = litAt (tail w) q
@@ -112,7 +112,7 @@ module _ {t : ℕ → Node} {n q j to : ℕ} {goals w m : List ℕ} (R : Ready n
         let cs = choices t l j known (g .column) in
         let e = chosen-clause t l j known (g .column) in
         ap (over m (tail w) (t (l / 2)) (restAt m (q + 1))) (sym (choices-in t l j known (g .column)))
-        ∙ sym (false-over n (tail w) m (R .trail) (g .sets) (t (l / 2)) (restAt m (q + 1)) cs (rw e at below) (rw (clause-is, e) at (g .unmet)))
+        ∙ sym (false-over n (tail w) m (R .trail) (g .none) (t (l / 2)) (restAt m (q + 1)) cs (rw e at below) (rw (clause-is, e) at (g .unmet)))
         ∙ ap₂ both (ap (falseRest (heldOf m (gOf w))) (sym (clause-is ∙ e))
         ∙ ap (λ (G : List ℕ). falseRest (heldOf m (gOf w)) (getD (clauses (expand t) goals G) k [])) (sym (held-literals m (gOf w)))) (sym gave-it)
 

@@ -88,7 +88,7 @@ module _ {x w m : List ℕ} {n to p : ℕ} (I : Indexed x n) (O : Room w m to) (
   all = over m (tail w) (indexNode x p) (restAt m (q + 1)) (upTo (arity (indexNode x p .kind)))
 
   pub put-none : {m′ : List ℕ} → indexNode x p .kind < 3 → Put m to (both (restAt m 0) (restAt m (q + 1))) m′ → Put m to all m′
-  put-none k u = put-as (ap (λ (s : Rests). both s (restAt m (q + 1))) (O .sets .none) ∙ sym (over-none I p h m (tail w) (restAt m (q + 1)) k)) u
+  put-none k u = put-as (ap (λ (s : Rests). both s (restAt m (q + 1))) (O .none) ∙ sym (over-none I p h m (tail w) (restAt m (q + 1)) k)) u
 
   module _ {a b : ℕ} (ea : a ≡ slotOf (tail w) (getD x (4 * p + 1) 0)) (eb : b ≡ slotOf (tail w) (getD x (4 * p + 2) 0)) where
     pub put-pair : {m′ : List ℕ} → 2 < indexNode x p .kind → indexNode x p .kind < 7

@@ -15,7 +15,7 @@ use Rattle.calculus.specs.Jump.{nothing, restOf, originRest}
 use Rattle.calculus.proofs.Literals.{undecided-mem}
 use Rattle.trail.specs.Trail.{litAt, entryOf, trail, held, Trail}
 use Rattle.trail.proofs.Trails.{trail-length}
-use Rattle.rests.specs.Words.{restAt, Sets, heldOf}
+use Rattle.rests.specs.Words.{restAt, heldOf}
 use Rattle.rests.proofs.Held.{held-literals}
 use Rattle.grounds.specs.Ground.{slotOf}
 
@@ -72,7 +72,7 @@ module _ (r : ℕ → ℕ) (m : List ℕ) where
 
 -- ---- a literal that is not true: what its negation rests on, by its node's entry
 
-module _ (n : ℕ) (r : ℕ → ℕ) (m : List ℕ) (h : Trail n r) (s : Sets m) (l : ℕ) (b : l < 2 * n) (u : valueOf (held r) l ≡ holds → ⊥) where
+module _ (n : ℕ) (r : ℕ → ℕ) (m : List ℕ) (h : Trail n r) (s : restAt m 0 ≡ nothing) (l : ℕ) (b : l < 2 * n) (u : valueOf (held r) l ≡ holds → ⊥) where
   pub false-slot : restOf (heldOf m (held r)) (neg l) ≡ restAt m (slotOf r l)
   false-slot = go (ℕ-discrete (entryOf r (l / 2)) 0)
     where
@@ -96,7 +96,7 @@ module _ (n : ℕ) (r : ℕ → ℕ) (m : List ℕ) (h : Trail n r) (s : Sets m)
       go (yes z) =
           let v : valueOf (held r) l ≡ undecided = sym (h .vals l b) ∙ rw (eq-eqb (entryOf r (l / 2)) 0 z) in
           let e : slotOf r l ≡ 0 = omega arith in
-          rest-none m (held r) (neg l) (undecided-mem (held r) l v .1) ∙ rw e (sym (s .none))
+          rest-none m (held r) (neg l) (undecided-mem (held r) l v .1) ∙ rw e (sym s)
       go (no z) =
           let e : slotOf r l ≡ suc q = omega arith in
           rw (other z, e) (rest-position r m (r 0) q (h .place) (there z))

@@ -10,9 +10,9 @@ use Rattle.scope.specs.Table.{arity, operands, listFrom}
 use Rattle.calculus.specs.Expansion.{expand}
 use Rattle.calculus.specs.Order.{holds, valueOf, clauses}
 use Rattle.calculus.specs.Model.{All}
-use Rattle.calculus.specs.Jump.{Rests, both}
+use Rattle.calculus.specs.Jump.{Rests, nothing, both}
 use Rattle.state.specs.Work.{tail, gOf, litAt, entryOf, baseOf}
-use Rattle.rests.specs.Words.{restAt, There, Sets}
+use Rattle.rests.specs.Words.{restAt, There}
 
 -- the slot of a node's literal: 1 + its position, or 0 where neither literal is held
 abbrev pub slotOf : (ℕ → ℕ) → ℕ → ℕ
@@ -40,7 +40,7 @@ over m r y s (i ∷ is) = both (restAt m (slotOf r (getD (operands y) i 0))) (ov
 
 -- `to` is a slot past those of the literals held
 pub record Room (w m : List ℕ) (to : ℕ) : Type 0 where
-  pub sets : Sets m
+  pub none : restAt m 0 ≡ nothing
   pub past : tail w 0 < to
   pub there : There m to
 
@@ -50,7 +50,7 @@ Unmet G c = All (λ l. valueOf G l ≡ holds → ⊥) c
 
 -- position q has a clause j, with no true literal, and `to` is a slot past those of the literals held
 pub record Grounded (t : ℕ → Node) (goals w m : List ℕ) (q j to : ℕ) : Type 0 where
-  pub sets : Sets m
+  pub none : restAt m 0 ≡ nothing
   pub held : q < tail w 0
   pub column : j < length (expand t (litAt (tail w) q))
   pub unmet : Unmet (gOf w) (getD (clauses (expand t) goals (gOf w)) (baseOf (tail w) q + j) [])

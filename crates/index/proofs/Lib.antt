@@ -1,6 +1,6 @@
 -- Laws of the index, for the proofs of the functions and of the crates above. Assumes nothing.
 pub mod Nodes
-pub mod Named
+pub mod Stays
 pub mod Sums
 pub mod Copies
 pub mod Counts

@@ -15,7 +15,7 @@ use Rattle.scope.proofs.Operands.{operands-none, operands-two, operands-three}
 use Rattle.calculus.specs.Model.{All}
 use Rattle.index.specs.Codes.{codesSize, classesSize}
 use Rattle.index.specs.Index.{indexSize, mostNodes, mostEdges, firstAt, midAt, endAt, edgesAt, codesAt, none, opNode, indexNode, Codes}
-use Rattle.index.specs.Edges.{firstOf, midOf, endOf, edgeAt, parentOf, typeOf, otherOf, operandOf, Pair, Triple, Parent, PairAt, ThreeAt, Edges}
+use Rattle.index.specs.Edges.{firstOf, midOf, endOf, edgeAt, parentOf, typeOf, otherOf, operandOf, Pair, Triple, Parent, PairAt, ThreeAt, Edges, Names}
 use Rattle.index.specs.Built.{Same, Early, Agree, sum, pairsIn, threesIn, pairsTo, threesTo, startOf, Counted, Placed, putPair, putThree, putTwo, putAll, putNode, Room, Linked, Loaded, Copied, Classified, Built}
 use Rattle.index.proofs.Nodes.{node-same}
 use Rattle.index.proofs.Sums.{is-own, sum-next, pairs-part, threes-part, brings-none, brings-two, brings-three, early-known}
@@ -101,13 +101,9 @@ module _ {t : ℕ → Node} {n b : ℕ} {x : List ℕ} (few : n ≤ mostNodes) (
 
 -- ---- filling, node by node
 
--- an operand of one of the first b nodes, q, is a literal of node m
-abbrev pub Named : (ℕ → Node) → ℕ → ℕ → ℕ → Type 0
-Named t b m q = (s : ℕ) × (s < 4 * b) × (opNode t s ≡ m) × (s / 4 ≡ q)
-
 -- the edges from the first b nodes stand
 abbrev pub FilledTo : (ℕ → Node) → ℕ → (ℕ → ℕ) → ℕ → List ℕ → Type 0
-FilledTo t n S b x = Filled t n S (pairsTo t b) (threesTo t b) (Named t b) x
+FilledTo t n S b x = Filled t n S (pairsTo t b) (threesTo t b) (Names t b) x
 
 pub filled-none : {t : ℕ → Node} {n head : ℕ} {x : List ℕ} → Placed t n head x → FilledTo t n (midOf x) 0 x
 unfolding sum
@@ -130,9 +126,9 @@ cell-at : (t : ℕ → Node) (s p : ℕ) (ls : List ℕ) → s / 4 ≡ p → ope
 unfolding opNode
 cell-at t s p ls e o = rw (e, o)
 
-module _ (t : ℕ → Node) (n p : ℕ) (few : n ≤ mostNodes) (m q : ℕ) (h : m < n) (E : Type 0) (old : Named t p m q → E) (ls : List ℕ) (o : operands (t p) ≡ ls)
+module _ (t : ℕ → Node) (n p : ℕ) (few : n ≤ mostNodes) (m q : ℕ) (h : m < n) (E : Type 0) (old : Names t p m q → E) (ls : List ℕ) (o : operands (t p) ≡ ls)
     (new : (i : ℕ) → i < 4 → q ≡ p → getD (none ∷ map (_/ 2) ls) i none ≡ m → E) where
-  named-more : Named t (p + 1) m q → E
+  named-more : Names t (p + 1) m q → E
   named-more (s, l, a, b) = go (decLt s (4 * p))
     where
       go : Dec (s < 4 * p) → E
@@ -160,13 +156,13 @@ module _ {t : ℕ → Node} {n p : ℕ} {S : ℕ → ℕ} {x : List ℕ} (few : 
 
   -- what is put is what the node brings
   after-as : {u v : ℕ → ℕ} {D : ℕ → ℕ → Type 0} {x′ : List ℕ} → ((m : ℕ) → u m ≡ pairsTo t p m + pairsIn (t p) m)
-      → ((m : ℕ) → v m ≡ threesTo t p m + threesIn (t p) m) → ((m q : ℕ) → m < n → Named t (p + 1) m q → D m q) → Filled t n S u v D x′ → After x′
+      → ((m : ℕ) → v m ≡ threesTo t p m + threesIn (t p) m) → ((m q : ℕ) → m < n → Names t (p + 1) m q → D m q) → Filled t n S u v D x′ → After x′
   after-as e f g = filled-as (λ m. e m ∙ sym (sum-next (λ q. pairsIn (t q) m) p)) (λ m. f m ∙ sym (sum-next (λ q. threesIn (t q) m) p)) g
 
   pub after-none : t p .kind < 3 → After x
   after-none k =
       after-as (λ m. omega (arith, brings-none (t p) m k .0)) (λ m. omega (arith, brings-none (t p) m k .1))
-      (λ m q b. named-more t n p few m q b (Named t p m q) (λ d. d) [] (operands-none (t p) k) (λ i l c e. absurd (omega (arith, sym (bare i) ∙ e, b, few)))) F
+      (λ m q b. named-more t n p few m q b (Names t p m q) (λ d. d) [] (operands-none (t p) k) (λ i l c e. absurd (omega (arith, sym (bare i) ∙ e, b, few)))) F
     where
       bare : (i : ℕ) → getD (none ∷ []) i none ≡ none
       bare zero = refl
@@ -221,7 +217,7 @@ module _ {t : ℕ → Node} {n p : ℕ} {S : ℕ → ℕ} {x : List ℕ} (few : 
         p (t p .b) b-low (t p .a) (3 * (t p .kind + 1)) (omega (arith, pairs-part t n p (t p .b / 2) h, brings-two (t p) (t p .b / 2) k k′ .0, is-own (t p .b))) h second-pair)
       where
         cases : (m q : ℕ) → m < n → (i : ℕ) → i < 4 → q ≡ p → getD (none ∷ t p .a / 2 ∷ t p .b / 2 ∷ []) i none ≡ m
-            → (Named t p m q ⊎ ((m ≡ t p .a / 2) × (q ≡ p))) ⊎ ((m ≡ t p .b / 2) × (q ≡ p))
+            → (Names t p m q ⊎ ((m ≡ t p .a / 2) × (q ≡ p))) ⊎ ((m ≡ t p .b / 2) × (q ≡ p))
         cases m q l zero c d e = absurd (omega (arith, e, l, few))
         cases m q l (suc zero) c d e = inl (inr (sym e, d))
         cases m q l (suc (suc zero)) c d e = inr (sym e, d)
@@ -257,7 +253,7 @@ module _ {t : ℕ → Node} {n p : ℕ} {S : ℕ → ℕ} {x : List ℕ} (few : 
         p (t p .c) low-c (omega (arith, threes-part t n p (t p .c / 2) h, brings-three (t p) (t p .c / 2) k .1, is-own (t p .c))) new)
       where
         cases : (m q : ℕ) → m < n → (i : ℕ) → i < 4 → q ≡ p → getD (none ∷ t p .a / 2 ∷ t p .b / 2 ∷ t p .c / 2 ∷ []) i none ≡ m
-            → ((Named t p m q ⊎ ((m ≡ t p .a / 2) × (q ≡ p))) ⊎ ((m ≡ t p .b / 2) × (q ≡ p))) ⊎ ((m ≡ t p .c / 2) × (q ≡ p))
+            → ((Names t p m q ⊎ ((m ≡ t p .a / 2) × (q ≡ p))) ⊎ ((m ≡ t p .b / 2) × (q ≡ p))) ⊎ ((m ≡ t p .c / 2) × (q ≡ p))
         cases m q l zero c d e = absurd (omega (arith, e, l, few))
         cases m q l (suc zero) c d e = inl (inl (inr (sym e, d)))
         cases m q l (suc (suc zero)) c d e = inl (inr (sym e, d))

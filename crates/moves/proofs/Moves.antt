@@ -10,13 +10,14 @@ use lib.Seq.{getD-set-same, getD-set-other}
 use borrow.Author.Tests.{lt-ltb, le-ltb}
 use Rattle.scope.specs.declared.Node.{Node}
 use Rattle.calculus.specs.Expansion.{chosen, expand}
-use Rattle.calculus.specs.Order.{Value, holds, fails, undecided, State, met, empty, joined, valueOf, stateOf, literalOf, literalAt, isEmpty, isOne, some, firstOf, bit, moveOf, move}
+use Rattle.calculus.specs.Order.{State, met, empty, joined, valueOf, stateOf, literalOf, literalAt, isEmpty, isOne, some, firstOf, moveOf, move}
 use Rattle.calculus.specs.Model.{Goals}
 use Rattle.calculus.specs.declared.Move.{Move}
 use Rattle.calculus.specs.declared.Move.the-variants.{Conflict, Unit as Single, Done, Split}
 use Rattle.calculus.proofs.Literals.{is-false}
 use Rattle.calculus.proofs.Sizes.{expand-few}
 use Rattle.trail.proofs.Trails.{trail-length}
+use Rattle.trail.proofs.Codes.{code-fails}
 use Rattle.scope.specs.Table.{operands}
 use Rattle.index.specs.Index.{mostNodes}
 use Rattle.units.specs.Units.{member, Empty, First, positions}
@@ -31,10 +32,6 @@ use Rattle.moves.proofs.Tests.{move-conflict, move-unit, move-split, mo
 
 single-same : {a b c d : ℕ} → a ≡ b → c ≡ d → Single a c ≡ Single b d
 single-same p q = cc
-
-pub bit-true : (b : Bool) → bit b ≡ 1 → b ≡ true
-bit-true true e = refl
-bit-true false e = absurd (omega arith)
 
 -- a property of those before k, and of k
 pub step : {P : ℕ → Type 0} {k : ℕ} (i : ℕ) → i < k + 1 → Dec (i ≡ k) → P k → ((j : ℕ) → j < k → P j) → P i
@@ -51,11 +48,6 @@ undenied {goals} {G} f = record {
   before = λ k i e. f k i (code-fails (valueOf G (getD goals k 0)) e);
   here = λ i. absurd (omega arith);
 }
-  where
-    code-fails : (v : Value) → valueCode v ≡ 2 → v ≡ fails
-    code-fails holds e = absurd (omega arith)
-    code-fails fails e = refl
-    code-fails undecided e = absurd (omega arith)
 
 -- ---- a cell is set
 

@@ -14,6 +14,7 @@ use Rattle.scope.specs.declared.Node.{Node}
 use Rattle.scope.proofs.Lists.{length-listFrom, getD-listFrom}
 use Rattle.scope.proofs.Tests.{and-left, and-right}
 use Rattle.calculus.specs.Expansion.{expand}
+use Rattle.trail.proofs.Codes.{code-undecided}
 use Rattle.calculus.specs.Order.{Value, holds, fails, undecided, valueOf, mem, stateOf}
 use Rattle.calculus.specs.Model.{Table, Fresh}
 use Rattle.calculus.proofs.Lists.{all-at}
@@ -41,11 +42,6 @@ is-fails : (v : Value) → isFails v ≡ eqb (valueCode v) 2
 is-fails holds = refl
 is-fails fails = refl
 is-fails undecided = refl
-
-code-undecided : (v : Value) → valueCode v ≡ 0 → v ≡ undecided
-code-undecided holds e = absurd (omega (arith, e))
-code-undecided fails e = absurd (omega (arith, e))
-code-undecided undecided e = refl
 
 pub free-is : (n l : ℕ) (G : List ℕ) {v : ℕ} → l < 2 * n → v ≡ valueCode (valueOf G l) → v ≡ 0 → Fresh n G l
 free-is n l G b e z = (b, code-undecided (valueOf G l) (sym e ∙ z))

@@ -11,7 +11,7 @@ use borrow.Author.Tests.{lt-ltb, le-ltb}
 use Rattle.calculus.specs.Jump.{Rests, nothing, Held, hold, literals}
 use Rattle.units.specs.Units.{bit}
 use Rattle.units.proofs.Bits.{bit-none}
-use Rattle.rests.specs.Words.{restAt, Put, Cleared, Sets, setsSize, conflictSlot, SameTo, heldOf}
+use Rattle.rests.specs.Words.{restAt, Put, Cleared, Sets, setsSize, Slots, SameTo, heldOf}
 
 pub held-literals : (m G : List ℕ) → literals (heldOf m G) ≡ G
 unfolding heldOf
@@ -28,8 +28,8 @@ held-same m m′ (l ∷ G) h =
 pub put-same : {m m′ : List ℕ} {p : ℕ} {s : Rests} → Put m p s m′ → (k : ℕ) → k < p → SameTo k m m′
 put-same u k h q b = u .other q (λ e. omega arith)
 
-pub put-sets : {m m′ : List ℕ} {p : ℕ} {s : Rests} → Sets m → Put m p s m′ → 0 < p → Sets m′
-put-sets h u b = record { size = u .size ∙ h .size; none = u .other 0 (λ e. omega arith) ∙ h .none }
+pub put-slots : {n : ℕ} {m m′ : List ℕ} {p : ℕ} {s : Rests} → Slots n m → Put m p s m′ → 0 < p → Slots n m′
+put-slots h u b = record { size = omega (arith, u .size, h .size); none = u .other 0 (λ e. omega arith) ∙ h .none }
 
 -- a literal joins, with the set that was put at its slot
 pub held-joined : {m m′ : List ℕ} {s : Rests} (G : List ℕ) (l : ℕ) → Put m (suc (length G)) s m′ → heldOf m′ (l ∷ G) ≡ hold l s ∷ heldOf m G
@@ -50,15 +50,25 @@ rests-zero m q z = fun-ext none
         go (no h) = rw (le-ltb i 128 (omega (arith, h)))
 
 -- no set has anything yet
-pub rests-blank : (q : ℕ) → q ≤ conflictSlot → restAt (replicate setsSize 0) q ≡ nothing
+pub rests-blank : (q : ℕ) → 2 * q + 1 < setsSize → restAt (replicate setsSize 0) q ≡ nothing
 rests-blank q b = rests-zero (replicate setsSize 0) q (λ j h. getD-replicate {A = ℕ} setsSize (2 * q + j) 0 0 (omega (arith, b, h)))
 
 pub sets-blank : Sets (replicate setsSize 0)
 sets-blank = record { size = length-replicate {A = ℕ} setsSize 0; none = rests-blank 0 (omega arith) }
 
+-- as many words as are asked for, each 0
+pub slots-zero : (n k : ℕ) → 2 * n + 4 ≤ k → Slots n (replicate k 0)
+slots-zero n k b = record { size = omega (arith, length-replicate {A = ℕ} k 0, b); none = rests-zero (replicate k 0) 0 (λ j h. getD-replicate {A = ℕ} k (2 * 0 + j) 0 0 (omega (arith, b, h))) }
+
+pub sets-slots : {n : ℕ} {m : List ℕ} → 2 * n + 4 ≤ setsSize → Sets m → Slots n m
+sets-slots b s = record { size = omega (arith, s .size, b); none = s .none }
+
+pub slots-sets : {n : ℕ} {m m′ : List ℕ} → length m′ ≡ length m → Sets m → Slots n m′ → Sets m′
+slots-sets e s k = record { size = e ∙ s .size; none = k .none }
+
 -- where the sets of the slots up to k are cleared, they are as if no set had anything yet
-pub cleared-same : {m m′ : List ℕ} (k : ℕ) → k ≤ conflictSlot → Cleared m k m′ → SameTo k (replicate setsSize 0) m′
+pub cleared-same : {m m′ : List ℕ} (k : ℕ) → 2 * k + 1 < setsSize → Cleared m k m′ → SameTo k (replicate setsSize 0) m′
 cleared-same k h c q b = c .none q b ∙ sym (rests-blank q (omega (arith, h, b)))
 
-pub cleared-sets : {m m′ : List ℕ} (k : ℕ) → Sets m → Cleared m k m′ → Sets m′
-cleared-sets k s c = record { size = c .size ∙ s .size; none = c .none 0 (omega arith) }
+pub cleared-slots : {n : ℕ} {m m′ : List ℕ} (k : ℕ) → Slots n m → Cleared m k m′ → Slots n m′
+cleared-slots k s c = record { size = omega (arith, c .size, s .size); none = c .none 0 (omega arith) }

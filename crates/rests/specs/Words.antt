@@ -27,15 +27,18 @@ pub record Cleared (m : List ℕ) (k : ℕ) (m′ : List ℕ) : Type 0 where
   pub size : length m′ ≡ length m
   pub none : (q : ℕ) → q ≤ k → restAt m′ q ≡ nothing
 
--- the slots: 0 the empty set, 1 + q that of the literal at position q, and one for the last conflict's
-abbrev pub conflictSlot : ℕ
-conflictSlot = 2017
-
+-- the slots: 0 the empty set, 1 + q that of the literal at position q; behind the literals held, the last conflict's. As many words as any
+-- table needs
 abbrev pub setsSize : ℕ
 setsSize = 4036
 
 pub record Sets (m : List ℕ) : Type 0 where
   pub size : length m ≡ setsSize
+  pub none : restAt m 0 ≡ nothing
+
+-- at least as many as n nodes need
+pub record Slots (n : ℕ) (m : List ℕ) : Type 0 where
+  pub size : 2 * n + 4 ≤ length m
   pub none : restAt m 0 ≡ nothing
 
 -- word k of the set that has split d alone

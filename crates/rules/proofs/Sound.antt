@@ -17,6 +17,7 @@ use Rattle.calculus.specs.Expansion.{neg, expand}
 use Rattle.calculus.specs.Order.{Value, holds, fails, undecided, valueOf, mem, State, met, empty, one, many, isEmpty as allFalse, joined, stateOf, clauses}
 use Rattle.calculus.specs.Model.{All, Table, litTrue, Model, AllTrue, Below}
 use Rattle.calculus.proofs.Lists.{all-append, all-at, all-imply, all-zip, all-map}
+use Rattle.calculus.proofs.Stays.{one-undecided}
 use Rattle.calculus.proofs.Literals.{neg-below, mem-other, mem-later, all-member, fails-mem, undecided-mem, undecided-neg}
 use Rattle.calculus.proofs.Fresh.{expand-under}
 use Rattle.calculus.proofs.Truth.{clauseTrue, neg-true, expand-true}
@@ -72,23 +73,6 @@ module _ (True : ℕ → Type 0) where
   state-true G [] f a = a
   state-true G (l ∷ c) f (inl a) = saying-joined (valueOf G l) l (stateOf G c) (f l) a
   state-true G (l ∷ c) f (inr a) = saying-later (valueOf G l) l (stateOf G c) (state-true G c f a)
-
--- the one that is left is undecided
-one-undecided : (G c : List ℕ) (l : ℕ) → stateOf G c ≡ one l → valueOf G l ≡ undecided
-unfolding stateOf
-one-undecided G [] l e = absurd (let z : _≡_ {A = ℕ} 0 1 = cc in omega arith)
-one-undecided G (m ∷ c) l e = go (valueOf G m) refl (stateOf G c) refl e (one-undecided G c l)
-  where
-    go : (w : Value) → valueOf G m ≡ w → (s : State) → stateOf G c ≡ s → joined w m s ≡ one l
-        → (stateOf G c ≡ one l → valueOf G l ≡ undecided) → valueOf G l ≡ undecided
-    go holds q s r e again = absurd (let z : _≡_ {A = ℕ} 0 1 = cc in omega arith)
-    go fails q s r e again = again (r ∙ e)
-    go undecided q met r e again = absurd (let z : _≡_ {A = ℕ} 0 1 = cc in omega arith)
-    go undecided q empty r e again =
-        let z : m ≡ l = cc in
-        subst (λ (x : ℕ). valueOf G x ≡ undecided) z q
-    go undecided q (one k) r e again = absurd (let z : _≡_ {A = ℕ} 0 1 = cc in omega arith)
-    go undecided q (many k) r e again = absurd (let z : _≡_ {A = ℕ} 0 1 = cc in omega arith)
 
 -- ---- version one: what is struck is false under G, so its conditions are those of version two
 

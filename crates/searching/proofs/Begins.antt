@@ -24,9 +24,10 @@ use Rattle.rests.specs.Words.{heldOf}
 use Rattle.solver.specs.Changes.{Stands, Shuts, Enlisted}
 use Rattle.calculus.proofs.Stays.{holds-fails, holds-undecided, fails-undecided, value-stays}
 use Rattle.solver.proofs.Settles.{waiting-over}
-use Rattle.solver.proofs.Goals.{code-fails, free-first, as-many, shuts-goal}
+use Rattle.trail.proofs.Codes.{code-fails}
+use Rattle.solver.proofs.Goals.{free-first, as-many, shuts-goal}
 use Rattle.searching.specs.Jumps.{jumpedFrom, blank, Begun}
-use Rattle.searching.proofs.Jumps.{from-conflict, from-unit, put-blank, held-low}
+use Rattle.searching.proofs.Jumps.{from-conflict, from-unit, put-blank, held-most}
 
 -- ---- a goal is false, or none is
 
@@ -114,7 +115,7 @@ module _ {t : ℕ → Node} {n k : ℕ} {goals w₀ m₀ w m : List ℕ} (few : 
         go (inr (c, d)) o = inr (c, stays d)
         go (inl e) (inl d) = inr (way-shuts t n goals (gOf w) (inl e) (shuts-goal t goals w (d .0) (d .1) (d .2)), stays d)
         go (inl e) (inr f) =
-            let put = put-blank (expand t) goals (gOf w) (omega (arith, held-low H few)) k (suc (length (gOf w))) (omega (arith, held-low H few)) in
+            let put = put-blank (expand t) goals (gOf w) (omega (arith, held-most H, few)) k (suc (length (gOf w))) (omega (arith, held-most H, few)) in
             inl (sym (from-unit t n goals 0 blank (gOf w) (room n (gOf w) l (H .ready .trail .good) fresh) (next f) put) ∙ e)
 
   -- a turn is done

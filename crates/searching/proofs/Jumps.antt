@@ -1,12 +1,12 @@
 -- What the contracts of the search that jumps come to at each return, over the literals held with their sets. Assumes nothing.
-use mathlib.Core.Path.{_≡_, refl, sym, ap, ap₂, _∙_, subst}
+use mathlib.Core.Path.{_≡_, refl, sym, ap, ap₂, _∙_}
 use mathlib.Core.List.{List, [], _∷_}
 use mathlib.Core.Bool.{Bool, true, false, cond, not, _&&_}
 use Prim.Native.Nat.{ℕ, suc, _+_, _-_, _*_, _/_, _%_, _<_, _≤_}
 use native.Mathlib.Omega.{arith}
 use lib.Dec.{eqb, ltb}
 use lib.ListN.{length, getD}
-use borrow.Author.Tests.{eq-eqb, ne-eqb, lt-ltb}
+use borrow.Author.Tests.{lt-ltb}
 use native.Mathlib.Decide.{ℕ-discrete}
 use Rattle.scope.specs.declared.Node.{Node}
 use Rattle.calculus.specs.Expansion.{neg, expand}
@@ -26,18 +26,22 @@ use Rattle.state.specs.Holds.{Holds}
 use Rattle.state.specs.Picked.{noUnit, Picks}
 use Rattle.moves.specs.Place.{On}
 use Rattle.moves.proofs.Moves.{on-few, unit-on}
-use Rattle.rests.specs.Words.{restAt, There, Put, Sets, conflictSlot, SameTo, heldOf}
-use Rattle.rests.proofs.Held.{held-literals, held-same, put-same, put-sets, held-joined, rests-blank}
-use Rattle.grounds.specs.Ground.{Grounded}
+use Rattle.rests.specs.Words.{restAt, There, Put, Slots, setsSize, SameTo, heldOf}
+use Rattle.rests.proofs.Held.{held-literals, held-same, put-same, put-slots, held-joined, rests-blank}
+use Rattle.grounds.specs.Ground.{Unmet, Grounded}
 use Rattle.grounds.proofs.Grounds.{unmet}
 use Rattle.searching.specs.Search.{Extends, foundOf, Solved}
-use Rattle.searching.specs.Jumps.{blank, Aimed, slotFor, Concluded, Stepped, jumpedFrom, Propagated, endOf, madeBy, foundBy, withLeft, Jumps, Counted, Opened}
+use Rattle.searching.specs.Jumps.{blank, Aimed, behind, Concluded, Stepped, jumpedFrom, Propagated, endOf, madeBy, foundBy, withLeft, Jumps, Counted, Opened}
 use Rattle.searching.specs.declared.Stop.{Stop}
 use Rattle.searching.specs.declared.Stop.the-variants.{Closed as Shut, Model as Open, Fork}
 use Rattle.searching.specs.declared.Found.{Found}
 use Rattle.searching.specs.declared.Ended.{Ended}
 use Rattle.searching.specs.declared.Ended.the-variants.{Model, Closed}
 use Rattle.searching.proofs.Searches.{Run, run-starts, run-looked, run-room, run-unit, Forked, fork-room, fork-grows, shut-open, shut-fork, open-fork}
+
+-- no more literals are held than there are nodes
+pub held-most : {t : ℕ → Node} {n : ℕ} {goals w k : List ℕ} → Holds t n goals w k → length (gOf w) ≤ n
+held-most {n = n} {w = w} h = at-most n (gOf w) (h .ready .trail .good)
 
 -- ---- sets that stay
 
@@ -85,7 +89,7 @@ from-put t n goals {m} {m′} u G h d = ap (jump 128 (expand t) goals (n - lengt
 -- ---- before the first split nothing rests on anything
 
 module _ (expand : ℕ → List (List ℕ)) (goals : List ℕ) where
-  rest-blank : (G : List ℕ) → length G < conflictSlot → (l : ℕ) → restOf (heldOf blank G) l ≡ nothing
+  rest-blank : (G : List ℕ) → 2 * length G + 3 < setsSize → (l : ℕ) → restOf (heldOf blank G) l ≡ nothing
   unfolding heldOf restOf
   rest-blank [] b l = refl
   rest-blank (x ∷ G) b l = rw (rests-blank (suc (length G)) (omega arith), rest-blank G (omega arith) l) (go (eqb l x))
@@ -94,12 +98,12 @@ module _ (expand : ℕ → List (List ℕ)) (goals : List ℕ) where
       go true = refl
       go false = refl
 
-  false-blank : (G : List ℕ) → length G < conflictSlot → (c : List ℕ) → falseRest (heldOf blank G) c ≡ nothing
+  false-blank : (G : List ℕ) → 2 * length G + 3 < setsSize → (c : List ℕ) → falseRest (heldOf blank G) c ≡ nothing
   unfolding falseRest
   false-blank G b [] = refl
   false-blank G b (l ∷ c) = rw (rest-blank G b (neg l), false-blank G b c)
 
-  origin-blank : (G : List ℕ) → length G < conflictSlot → (k : ℕ) → originRest expand goals (heldOf blank G) k ≡ nothing
+  origin-blank : (G : List ℕ) → 2 * length G + 3 < setsSize → (k : ℕ) → originRest expand goals (heldOf blank G) k ≡ nothing
   unfolding heldOf originRest
   origin-blank [] b k = refl
   origin-blank (x ∷ G) b k =
@@ -109,7 +113,7 @@ module _ (expand : ℕ → List (List ℕ)) (goals : List ℕ) where
       go true = refl
       go false = refl
 
-  pub put-blank : (G : List ℕ) → length G < conflictSlot → (k p : ℕ) → p ≤ conflictSlot → Put blank p (clauseRest expand goals (heldOf blank G) k) blank
+  pub put-blank : (G : List ℕ) → 2 * length G + 3 < setsSize → (k p : ℕ) → 2 * p + 1 < setsSize → Put blank p (clauseRest expand goals (heldOf blank G) k) blank
   put-blank G b k p i = record {
     size = refl;
     here = rests-blank p i ∙ sym (ap₂ both (false-blank G b (getD (clauses expand goals (literals (heldOf blank G))) k [])) (origin-blank G b k));
@@ -144,12 +148,12 @@ module _ {t : ℕ → Node} {goals w : List ℕ} where
 -- what holds before each turn
 pub record Rested (t : ℕ → Node) (n : ℕ) (goals w k m w′ k′ m′ : List ℕ) : Type 0 where
   pub run : Run t n goals w k w′ k′
-  pub sets : Sets m′
+  pub sets : Slots n m′
   pub words : length m′ ≡ length m
   pub kept : SameTo (length (gOf w)) m m′
   pub same : (d : ℕ) → jumpedFrom t n goals d m′ (gOf w′) ≡ jumpedFrom t n goals d m (gOf w)
 
-pub rested-starts : {t : ℕ → Node} {n : ℕ} {goals w k m : List ℕ} → Holds t n goals w k → Sets m → Rested t n goals w k m w k m
+pub rested-starts : {t : ℕ → Node} {n : ℕ} {goals w k m : List ℕ} → Holds t n goals w k → Slots n m → Rested t n goals w k m w k m
 rested-starts {w = w} {m = m} h s = record { run = run-starts h; sets = s; words = refl; kept = same-self (length (gOf w)) m; same = λ d. refl }
 
 pub rested-looked : {t : ℕ → Node} {n : ℕ} {goals w k m w′ k′ m′ w″ : List ℕ} → Rested t n goals w k m w′ k′ m′ → Holds t n goals w″ k′ → gOf w″ ≡ gOf w′
@@ -190,62 +194,55 @@ module _ {t : ℕ → Node} {n : ℕ} {goals w k m w′ k′ m′ : List ℕ} (r
     put-from d = from-put t n goals u (gOf w′) h d ∙ r .same d
 
   module _ (few : n ≤ mostNodes) where
-    past-all : length (gOf w′) < conflictSlot
-    past-all = omega (arith, at-most n (gOf w′) (r .run .holds .ready .trail .good))
-
     -- the clause of a conflict
     pub rested-conflict : {c : ℕ} {m″ : List ℕ} → move (expand t) goals (gOf w′) ≡ Conflict c
-        → Put m′ conflictSlot (clauseRest (expand t) goals (heldOf m′ (gOf w′)) c) m″ → Propagated t n goals w m w′ k′ m″ Shut
+        → Put m′ (behind (gOf w′)) (clauseRest (expand t) goals (heldOf m′ (gOf w′)) c) m″ → Propagated t n goals w m w′ k′ m″ Shut
     rested-conflict e u = record {
       holds = r .run .holds;
       grows = r .run .grows;
-      sets = put-sets (r .sets) u (omega arith);
-      kept = put-kept u past-all;
-      same = put-from u past-all;
-      closes = λ _ d. from-put t n goals u (gOf w′) past-all d ∙ from-conflict t n goals d m′ (gOf w′) e ∙ ap (λ (s : Rests). stop (closed s)) (sym (u .here));
+      sets = put-slots (r .sets) u (omega arith);
+      kept = put-kept u (omega arith);
+      same = put-from u (omega arith);
+      closes = λ _ d. from-put t n goals u (gOf w′) (omega arith) d ∙ from-conflict t n goals d m′ (gOf w′) e ∙ ap (λ (s : Rests). stop (closed s)) (sym (u .here));
       ends = λ q. shut-open q;
       forks = λ l q. shut-fork q;
     }
 
-    module _ {q j : ℕ} where
-      pub conflict-grounded : On t goals w′ q j (Conflict (baseOf (tail w′) q + j)) → Grounded t goals w′ m′ q j conflictSlot
-      conflict-grounded o = record {
-        sets = r .sets;
+    -- the clause of what comes next: a conflict's, or a unit's, with no true literal
+    module _ {q j h : ℕ} (z : h ≡ behind (gOf w′)) where
+      grounded : {v : Move} → On t goals w′ q j v → Unmet (gOf w′) (getD (clauses (expand t) goals (gOf w′)) (baseOf (tail w′) q + j) []) → Grounded t goals w′ m′ q j h
+      grounded o y = record {
+        none = r .sets .none;
         held = o .held;
         column = o .column;
-        unmet = unmet (gOf w′) (getD (clauses (expand t) goals (gOf w′)) (baseOf (tail w′) q + j) [])
-            (λ z. absurd (let y = conflict-clause (expand t) goals (gOf w′) (baseOf (tail w′) q + j) (o .next) .1 in let x : _≡_ {A = ℕ} 0 1 = cc in omega arith));
-        past = past-all;
-        there = omega (arith, r .sets .size);
+        unmet = y;
+        past = omega (arith, z);
+        there = omega (arith, z, r .sets .size, held-most (r .run .holds));
       }
 
-      -- that of a unit
-      pub unit-grounded : Table n t → Below n goals → {l h : ℕ} → On t goals w′ q j (Single (baseOf (tail w′) q + j) l) → h ≡ suc (length (gOf w′))
-          → Grounded t goals w′ m′ q j h
-      unit-grounded T B {l} o z = record {
-        sets = r .sets;
-        held = o .held;
-        column = o .column;
-        unmet = unmet (gOf w′) (getD (clauses (expand t) goals (gOf w′)) (baseOf (tail w′) q + j) [])
-            (λ y. absurd (let v = unit-clause (expand t) goals (gOf w′) (baseOf (tail w′) q + j) l (o .next) .1 in let x : _≡_ {A = ℕ} 0 1 = cc in omega arith));
-        past = omega arith;
-        there = omega (arith, r .sets .size, run-room (r .run) T B (o .next));
-      }
+      pub conflict-grounded : On t goals w′ q j (Conflict (baseOf (tail w′) q + j)) → Grounded t goals w′ m′ q j h
+      conflict-grounded o =
+          grounded o (unmet (gOf w′) (getD (clauses (expand t) goals (gOf w′)) (baseOf (tail w′) q + j) [])
+          (λ z. absurd (let y = conflict-clause (expand t) goals (gOf w′) (baseOf (tail w′) q + j) (o .next) .1 in let x : _≡_ {A = ℕ} 0 1 = cc in omega arith)))
 
-    -- the clause of what comes next
-    module _ (T : Table n t) (B : Below n goals) (gs : Goals n goals) {u v h : ℕ} (L : Picks w′ k′ u) (A : Aimed t goals w′ u v) (z : v ≡ noUnit → ⊥) where
-      pub aimed-grounded : h ≡ slotFor u (gOf w′) → Grounded t goals w′ m′ (v / 65536) (v / 4096 % 16) h
-      aimed-grounded e = go (ℕ-discrete u noUnit)
+      pub unit-grounded : {l : ℕ} → On t goals w′ q j (Single (baseOf (tail w′) q + j) l) → Grounded t goals w′ m′ q j h
+      unit-grounded {l} o =
+          grounded o (unmet (gOf w′) (getD (clauses (expand t) goals (gOf w′)) (baseOf (tail w′) q + j) [])
+          (λ y. absurd (let v = unit-clause (expand t) goals (gOf w′) (baseOf (tail w′) q + j) l (o .next) .1 in let x : _≡_ {A = ℕ} 0 1 = cc in omega arith)))
+
+    module _ (gs : Goals n goals) {u v h : ℕ} (L : Picks w′ k′ u) (A : Aimed t goals w′ u v) (z : v ≡ noUnit → ⊥) (e : h ≡ behind (gOf w′)) where
+      pub aimed-grounded : Grounded t goals w′ m′ (v / 65536) (v / 4096 % 16) h
+      aimed-grounded = go (ℕ-discrete u noUnit)
         where
           go : Dec (u ≡ noUnit) → Grounded t goals w′ m′ (v / 65536) (v / 4096 % 16) h
-          go (yes y) = subst (Grounded t goals w′ m′ (v / 65536) (v / 4096 % 16)) (sym (e ∙ simp (eq-eqb u noUnit y))) (conflict-grounded (A .conflict y z))
-          go (no y) = rw (A .unit y) (unit-grounded T B (unit-on few gs (r .run .holds) (L y)) (e ∙ simp (ne-eqb u noUnit y)))
+          go (yes y) = conflict-grounded e (A .conflict y z)
+          go (no y) = rw (A .unit y) (unit-grounded e (unit-on few gs (r .run .holds) (L y)))
 
-      module _ (e : h ≡ slotFor u (gOf w′)) {m″ : List ℕ}
+      module _ {m″ : List ℕ}
           (p : Put m′ h (clauseRest (expand t) goals (heldOf m′ (gOf w′)) (baseOf (tail w′) (v / 65536) + v / 4096 % 16)) m″) where
         -- a conflict
         pub aimed-closed : u ≡ noUnit → Propagated t n goals w m w′ k′ m″ Shut
-        aimed-closed y = rested-conflict (A .conflict y z .next) (rw (e, eq-eqb u noUnit y) at p)
+        aimed-closed y = rested-conflict (A .conflict y z .next) (rw e at p)
 
         -- a unit, which joins
         pub aimed-stepped : (u ≡ noUnit → ⊥) → {w″ k″ : List ℕ} → Holds t n goals w″ k″ → gOf w″ ≡ u % 4096 ∷ gOf w′ → Stepped t n (u % 4096) goals w′ m′ w″ k″ m″
@@ -254,7 +251,7 @@ module _ {t : ℕ → Node} {n : ℕ} {goals w k m w′ k′ m′ : List ℕ} (r
           next = unit-on few gs (r .run .holds) (L y) .next;
           holds = a;
           list = b;
-          put = rw (e, ne-eqb u noUnit y, A .unit y) at p;
+          put = rw (e, A .unit y) at p;
         }
 
     -- a unit has joined
@@ -262,7 +259,7 @@ module _ {t : ℕ → Node} {n : ℕ} {goals w k m w′ k′ m′ : List ℕ} (r
         → length k″ ≡ length k′ → Rested t n goals w k m w″ k″ m″
     rested-stepped T B S x y = record {
       run = run-unit (r .run) T B (S .next) (S .holds) (S .list) x y;
-      sets = put-sets (r .sets) (S .put) (omega arith);
+      sets = put-slots (r .sets) (S .put) (omega arith);
       words = S .put .size ∙ r .words;
       kept = put-kept (S .put) (omega arith);
       same = λ d. rw (S .list) (sym (from-unit t n goals d m′ (gOf w′) (run-room (r .run) T B (S .next)) (S .next) (S .put)) ∙ r .same d);
@@ -276,8 +273,8 @@ rested-concluded r Open C z = rested-done (rested-looked r (C .holds) (C .list) 
 rested-concluded r (Fork l) C z = rested-split (rested-looked r (C .holds) (C .list) z) (C .ending)
 
 module _ {t : ℕ → Node} {n : ℕ} {goals w k : List ℕ} (few : n ≤ mostNodes) (h : Holds t n goals w k) where
-  past-held : length (gOf w) < conflictSlot
-  past-held = omega (arith, at-most n (gOf w) (h .ready .trail .good))
+  past-held : 2 * length (gOf w) + 3 < setsSize
+  past-held = omega (arith, held-most h, few)
 
   -- where each set is empty
   pub stepped-blank : {c l : ℕ} {w″ k″ : List ℕ} → move (expand t) goals (gOf w) ≡ Single c l → Holds t n goals w″ k″ → gOf w″ ≡ l ∷ gOf w
@@ -287,11 +284,11 @@ module _ {t : ℕ → Node} {n : ℕ} {goals w k : List ℕ} (few : n ≤ mostNo
     next = e;
     holds = a;
     list = q;
-    put = put-blank (expand t) goals (gOf w) past-held c (suc (length (gOf w))) (omega (arith, past-held));
+    put = put-blank (expand t) goals (gOf w) past-held c (behind (gOf w)) (omega (arith, past-held));
   }
 
-  pub conflict-blank : (c : ℕ) → Put blank conflictSlot (clauseRest (expand t) goals (heldOf blank (gOf w)) c) blank
-  conflict-blank c = put-blank (expand t) goals (gOf w) past-held c conflictSlot (omega arith)
+  pub conflict-blank : (c : ℕ) → Put blank (behind (gOf w)) (clauseRest (expand t) goals (heldOf blank (gOf w)) c) blank
+  conflict-blank c = put-blank (expand t) goals (gOf w) past-held c (behind (gOf w)) (omega (arith, past-held))
 
 -- ---- both sides of a split
 
@@ -316,8 +313,12 @@ module _ (d : ℕ) (left : Jumped) (right : Rests → Jumped) where
     sides-turns q = (rw (e, q), rw (e, q))
 
 -- the slot of the literal that joins at a split
-pub slot-there : {t : ℕ → Node} {n : ℕ} {goals G G₁ m : List ℕ} {l h : ℕ} → Forked t n goals G G₁ l → n ≤ mostNodes → Sets m → h ≡ suc (length G₁) → There m h
+pub slot-there : {t : ℕ → Node} {n : ℕ} {goals G G₁ m : List ℕ} {l h : ℕ} → Forked t n goals G G₁ l → n ≤ mostNodes → Slots n m → h ≡ suc (length G₁) → There m h
 slot-there f few s e = omega (arith, s .size, fork-room f)
+
+-- that of the last conflict
+pub closed-there : {t : ℕ → Node} {n d : ℕ} {goals w m w′ k′ m′ : List ℕ} {r : Ended} {k : ℕ} → Jumps t n goals d w m w′ k′ m′ r → k ≡ behind (gOf w′) → There m′ k
+closed-there J e = omega (arith, J .sets .size, e, held-most (J .holds))
 
 -- where a split that counts is not passed over, its left conflict rests on it
 pub rests-on : (d : ℕ) (x : Bool) → (ltb d 128 && not x) ≡ false → d < 128 → x ≡ true
@@ -359,8 +360,8 @@ module _ {t : ℕ → Node} {n : ℕ} {goals w m w₁ k₁ m₁ : List ℕ} {r :
     left-put : Put m₁ (suc (length (gOf w₁))) (only 128 d) m₂
     left-put = rw slot at u
 
-    pub left-sets : Sets m₂
-    left-sets = put-sets (P .sets) left-put (omega arith)
+    pub left-sets : Slots n m₂
+    left-sets = put-slots (P .sets) left-put (omega arith)
 
     -- the search of the right side, by what the left conflict rests on
     abbrev rightOf : Rests → Jumped
@@ -383,7 +384,7 @@ module _ {t : ℕ → Node} {n : ℕ} {goals w m w₁ k₁ m₁ : List ℕ} {r :
       left-kept : SameTo (length (gOf w)) m m₃
       left-kept = same-on (length (gOf w)) (length (gOf w₁)) m m₁ m₃ (f .grows .more) (P .kept) split-kept
 
-      left-end : jumpedFrom t n goals (suc d) m₂ (l ∷ gOf w₁) .end ≡ endOf left (gOf w₃) (restAt m₃ conflictSlot)
+      left-end : jumpedFrom t n goals (suc d) m₂ (l ∷ gOf w₁) .end ≡ endOf left (gOf w₃) (restAt m₃ (behind (gOf w₃)))
       left-end = rw (next, q) at (A .ended)
 
       left-made : madeBy left ≡ stopped (jumpedFrom t n goals (suc d) m₂ (l ∷ gOf w₁) .splits)
@@ -397,7 +398,7 @@ module _ {t : ℕ → Node} {n : ℕ} {goals w m w₁ k₁ m₁ : List ℕ} {r :
 
       pub left-found : {s c : ℕ} → left ≡ Model s → c ≡ stopped (suc (s + 0)) → Jumps t n goals d w m w₃ k₃ m₃ (Model c)
       left-found x y =
-          let b = sides-model d (jumpedFrom t n goals (suc d) m₂ (l ∷ gOf w₁)) rightOf (left-end ∙ ap (λ (r : Ended). endOf r (gOf w₃) (restAt m₃ conflictSlot)) x) in
+          let b = sides-model d (jumpedFrom t n goals (suc d) m₂ (l ∷ gOf w₁)) rightOf (left-end ∙ ap (λ (r : Ended). endOf r (gOf w₃) (restAt m₃ (behind (gOf w₃)))) x) in
           record {
             holds = A .holds;
             grows = left-grows;
@@ -407,11 +408,12 @@ module _ {t : ℕ → Node} {n : ℕ} {goals w m w₁ k₁ m₁ : List ℕ} {r :
             counted = alone (ap madeBy x) y (ap (λ (j : Jumped). j .splits) whole ∙ b .1);
           }
 
-      module _ {s : ℕ} (x : left ≡ Closed s) where
-        closed-left : jumpedFrom t n goals (suc d) m₂ (l ∷ gOf w₁) .end ≡ closed (restAt m₃ conflictSlot)
-        closed-left = left-end ∙ ap (λ (r : Ended). endOf r (gOf w₃) (restAt m₃ conflictSlot)) x
+      -- k is the slot of the last conflict
+      module _ {s k : ℕ} (x : left ≡ Closed s) (slot₃ : k ≡ behind (gOf w₃)) where
+        closed-left : jumpedFrom t n goals (suc d) m₂ (l ∷ gOf w₁) .end ≡ closed (restAt m₃ k)
+        closed-left = left-end ∙ ap (λ (r : Ended). endOf r (gOf w₃) (restAt m₃ (behind (gOf w₃)))) x ∙ ap (λ (i : ℕ). closed (restAt m₃ i)) (sym slot₃)
 
-        pub left-skips : {c : ℕ} → (ltb d 128 && not (restAt m₃ conflictSlot d)) ≡ true → c ≡ stopped (suc (s + 0)) → Jumps t n goals d w m w₃ k₃ m₃ (Closed c)
+        pub left-skips : {c : ℕ} → (ltb d 128 && not (restAt m₃ k d)) ≡ true → c ≡ stopped (suc (s + 0)) → Jumps t n goals d w m w₃ k₃ m₃ (Closed c)
         left-skips g y =
             let b = sides-skips d (jumpedFrom t n goals (suc d) m₂ (l ∷ gOf w₁)) rightOf closed-left g in
             record {
@@ -419,31 +421,31 @@ module _ {t : ℕ → Node} {n : ℕ} {goals w m w₁ k₁ m₁ : List ℕ} {r :
               grows = left-grows;
               sets = A .sets;
               kept = left-kept;
-              ended = ap (λ (j : Jumped). j .end) whole ∙ b .0;
+              ended = ap (λ (j : Jumped). j .end) whole ∙ b .0 ∙ ap (λ (i : ℕ). closed (restAt m₃ i)) slot₃;
               counted = alone (ap madeBy x) y (ap (λ (j : Jumped). j .splits) whole ∙ b .1);
             }
 
         -- the right literal rests on what the left conflict does, less the split
-        module _ (g : (ltb d 128 && not (restAt m₃ conflictSlot d)) ≡ false) {m₄ : List ℕ} (v : Put m₃ h (less d (restAt m₃ conflictSlot)) m₄) where
-          right-put : Put m₃ (suc (length (gOf w₁))) (less d (restAt m₃ conflictSlot)) m₄
+        module _ (g : (ltb d 128 && not (restAt m₃ k d)) ≡ false) {m₄ : List ℕ} (v : Put m₃ h (less d (restAt m₃ k)) m₄) where
+          right-put : Put m₃ (suc (length (gOf w₁))) (less d (restAt m₃ k)) m₄
           right-put = rw slot at v
 
-          right-held : heldOf m₄ (neg l ∷ gOf w₁) ≡ hold (neg l) (less d (restAt m₃ conflictSlot)) ∷ heldOf m₁ (gOf w₁)
+          right-held : heldOf m₄ (neg l ∷ gOf w₁) ≡ hold (neg l) (less d (restAt m₃ k)) ∷ heldOf m₁ (gOf w₁)
           right-held =
               held-joined (gOf w₁) (neg l) right-put
-              ∙ ap (hold (neg l) (less d (restAt m₃ conflictSlot)) ∷_) (held-same m₁ m₃ (gOf w₁) split-kept)
+              ∙ ap (hold (neg l) (less d (restAt m₃ k)) ∷_) (held-same m₁ m₃ (gOf w₁) split-kept)
 
-          pub right-sets : Sets m₄
-          right-sets = put-sets (A .sets) right-put (omega arith)
+          pub right-sets : Slots n m₄
+          right-sets = put-slots (A .sets) right-put (omega arith)
 
           module _ {w₅ w₆ k₆ m₆ : List ℕ} {right : Ended} (p : gOf w₅ ≡ neg l ∷ gOf w₁) (B : Jumps t n goals e w₅ m₄ w₆ k₆ m₆ right) where
-            right-from : jumpedFrom t n goals (suc d) m₄ (neg l ∷ gOf w₁) ≡ rightOf (restAt m₃ conflictSlot)
+            right-from : jumpedFrom t n goals (suc d) m₄ (neg l ∷ gOf w₁) ≡ rightOf (restAt m₃ k)
             right-from = ap (jump 128 (expand t) goals (n - suc (length (gOf w₁))) (suc d)) right-held
 
-            right-end : rightOf (restAt m₃ conflictSlot) .end ≡ endOf right (gOf w₆) (restAt m₆ conflictSlot)
+            right-end : rightOf (restAt m₃ k) .end ≡ endOf right (gOf w₆) (restAt m₆ (behind (gOf w₆)))
             right-end = ap (λ (j : Jumped). j .end) (sym right-from) ∙ rw (next, p) at (B .ended)
 
-            right-made : madeBy right ≡ stopped (rightOf (restAt m₃ conflictSlot) .splits)
+            right-made : madeBy right ≡ stopped (rightOf (restAt m₃ k) .splits)
             right-made = rw (next, p) at (B .counted) ∙ ap (λ (j : Jumped). stopped (j .splits)) right-from
 
             pub right-jumps : Jumps t n goals d w m w₆ k₆ m₆ (withLeft s right)
@@ -456,14 +458,11 @@ module _ {t : ℕ → Node} {n : ℕ} {goals w m w₁ k₁ m₁ : List ℕ} {r :
                   sets = B .sets;
                   kept = same-on (length (gOf w)) (length (gOf w₁)) m m₃ m₆ (f .grows .more) left-kept
                       (same-on (length (gOf w₁)) (length (gOf w₅)) m₃ m₄ m₆ (omega (arith, ap length p)) (put-same right-put (length (gOf w₁)) (omega arith)) (B .kept));
-                  ended = ap (λ (j : Jumped). j .end) whole ∙ b .0 ∙ right-end ∙ sym (with-end s right (gOf w₆) (restAt m₆ conflictSlot));
+                  ended = ap (λ (j : Jumped). j .end) whole ∙ b .0 ∙ right-end ∙ sym (with-end s right (gOf w₆) (restAt m₆ (behind (gOf w₆))));
                   counted =
                       with-made s right ∙ ap₂ (λ (i j : ℕ). stopped (suc (i + j))) (sym (ap madeBy x) ∙ left-made) right-made
-                      ∙ stopped-both (L .splits) (rightOf (restAt m₃ conflictSlot) .splits) ∙ ap stopped (sym (ap (λ (j : Jumped). j .splits) whole ∙ b .1));
+                      ∙ stopped-both (L .splits) (rightOf (restAt m₃ k) .splits) ∙ ap stopped (sym (ap (λ (j : Jumped). j .splits) whole ∙ b .1));
                 }
-
-pub held-low : {t : ℕ → Node} {n : ℕ} {goals w k : List ℕ} → Holds t n goals w k → n ≤ mostNodes → length (gOf w) ≤ mostNodes
-held-low {n = n} {w = w} h b = omega (arith, at-most n (gOf w) (h .ready .trail .good), b)
 
 -- the sets of the literals held are all that a search starts from
 pub jumps-from : {t : ℕ → Node} {n d : ℕ} {goals w m m₁ w₂ k₂ m₂ : List ℕ} {e : Ended} → SameTo (length (gOf w)) m m₁ → Jumps t n goals d w m₁ w₂ k₂ m₂ e
@@ -494,7 +493,7 @@ module _ {t : ℕ → Node} {n : ℕ} {goals : List ℕ} where
       let e = z ∙ from-nothing t n goals m in
       record {
         ready = J .holds .ready;
-        answered = ended r (gOf w′) (restAt m′ conflictSlot) ∙ ap endAnswer (sym (J .ended) ∙ ap (λ (j : Jumped). j .end) e);
+        answered = ended r (gOf w′) (restAt m′ (behind (gOf w′))) ∙ ap endAnswer (sym (J .ended) ∙ ap (λ (j : Jumped). j .end) e);
         counted = J .counted ∙ ap (λ (j : Jumped). stopped (j .splits)) e;
       }
     where

@@ -1,10 +1,9 @@
 -- What the search that jumps leaves of the work area and its sets: what the definition of the jumping search ends on, from the literals
 -- held with what each rests on. Assumes nothing.
 use mathlib.Core.Path.{_≡_}
-use mathlib.Core.Bool.{Bool, true, false, cond}
+use mathlib.Core.Bool.{Bool, true, false}
 use mathlib.Core.List.{List, [], _∷_}
 use Prim.Native.Nat.{ℕ, suc, _+_, _-_, _/_, _%_, _≤_}
-use lib.Dec.{eqb}
 use lib.ListN.{length, replicate}
 use Rattle.scope.specs.declared.Node.{Node}
 use Rattle.calculus.specs.Expansion.{expand}
@@ -17,7 +16,7 @@ use Rattle.state.specs.Work.{tail, baseOf, gOf, conflictOf, Ready}
 use Rattle.state.specs.Holds.{Holds, Splits}
 use Rattle.state.specs.Picked.{noUnit}
 use Rattle.moves.specs.Place.{On}
-use Rattle.rests.specs.Words.{restAt, Put, Sets, setsSize, conflictSlot, SameTo, heldOf}
+use Rattle.rests.specs.Words.{restAt, Put, Slots, setsSize, SameTo, heldOf}
 use Rattle.searching.specs.Search.{Extends, foundOf}
 use Rattle.searching.specs.declared.Stop.{Stop}
 use Rattle.searching.specs.declared.Stop.the-variants.{Closed as Shut, Model as Open, Fork}
@@ -40,9 +39,9 @@ pub record Aimed (t : ℕ → Node) (goals w : List ℕ) (u r : ℕ) : Type 0 wh
   pub conflict : u ≡ noUnit → (r ≡ noUnit → ⊥) → On t goals w (r / 65536) (r / 4096 % 16) (Conflict (baseOf (tail w) (r / 65536) + r / 4096 % 16))
   pub free : u ≡ noUnit → r ≡ noUnit → mostNodes ≤ conflictOf w
 
--- the slot of what it rests on
-abbrev pub slotFor : ℕ → List ℕ → ℕ
-slotFor u G = cond (eqb u noUnit) conflictSlot (suc (length G))
+-- the slot behind the literals held: of what a literal that joins rests on, or the last conflict
+abbrev pub behind : List ℕ → ℕ
+behind G = suc (length G)
 
 -- the move of what the units end at, where that is no conflict
 abbrev pub Ending : Stop → Move → Type 0
@@ -62,7 +61,7 @@ pub record Stepped (t : ℕ → Node) (n l : ℕ) (goals w m w′ k′ m′ : Li
   pub next : move (expand t) goals (gOf w) ≡ Single clause l
   pub holds : Holds t n goals w′ k′
   pub list : gOf w′ ≡ l ∷ gOf w
-  pub put : Put m (suc (length (gOf w))) (clauseRest (expand t) goals (heldOf m (gOf w)) clause) m′
+  pub put : Put m (behind (gOf w)) (clauseRest (expand t) goals (heldOf m (gOf w)) clause) m′
 
 -- the goals have joined: the search from here is that from the start; or that closes, with no split
 pub record Begun (t : ℕ → Node) (n : ℕ) (goals w′ k′ : List ℕ) (r : Bool) : Type 0 where
@@ -85,10 +84,10 @@ LeftOff t n goals w = (k : List ℕ) × Paused t n goals w k
 pub record Propagated (t : ℕ → Node) (n : ℕ) (goals w m w′ k′ m′ : List ℕ) (r : Stop) : Type 0 where
   pub holds : Holds t n goals w′ k′
   pub grows : Extends (gOf w) (gOf w′)
-  pub sets : Sets m′
+  pub sets : Slots n m′
   pub kept : SameTo (length (gOf w)) m m′
   pub same : (d : ℕ) → jumpedFrom t n goals d m′ (gOf w′) ≡ jumpedFrom t n goals d m (gOf w)
-  pub closes : r ≡ Shut → (d : ℕ) → jumpedFrom t n goals d m′ (gOf w′) ≡ stop (closed (restAt m′ conflictSlot))
+  pub closes : r ≡ Shut → (d : ℕ) → jumpedFrom t n goals d m′ (gOf w′) ≡ stop (closed (restAt m′ (behind (gOf w′))))
   pub ends : r ≡ Open → (d : ℕ) → jumpedFrom t n goals d m′ (gOf w′) ≡ stop (found (gOf w′))
   pub forks : (l : ℕ) → r ≡ Fork l → move (expand t) goals (gOf w′) ≡ Split l
 
@@ -117,9 +116,9 @@ withLeft s (Closed r) = Closed (stopped (suc (s + r)))
 pub record Jumps (t : ℕ → Node) (n : ℕ) (goals : List ℕ) (d : ℕ) (w m w′ k′ m′ : List ℕ) (r : Ended) : Type 0 where
   pub holds : Holds t n goals w′ k′
   pub grows : Extends (gOf w) (gOf w′)
-  pub sets : Sets m′
+  pub sets : Slots n m′
   pub kept : SameTo (length (gOf w)) m m′
-  pub ended : jumpedFrom t n goals d m (gOf w) .end ≡ endOf r (gOf w′) (restAt m′ conflictSlot)
+  pub ended : jumpedFrom t n goals d m (gOf w) .end ≡ endOf r (gOf w′) (restAt m′ (behind (gOf w′)))
   pub counted : madeBy r ≡ stopped (jumpedFrom t n goals d m (gOf w) .splits)
 
 -- the goals were put from the start, with nothing held: the answer and the splits of the jumping search

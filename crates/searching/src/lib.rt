@@ -12,12 +12,12 @@ ghost use Rattle.calculus.specs.Jump.{stopped};
 ghost use Rattle.index.specs.Index.{mostNodes, indexNode};
 ghost use Rattle.units.specs.Units.{Empty};
 ghost use Rattle.index.specs.Indexed.{Indexed};
-ghost use Rattle.state.specs.Work.{area, gOf, conflictOf, waitingOf, Ready};
+ghost use Rattle.state.specs.Work.{gOf, conflictOf, waitingOf, Ready};
 ghost use Rattle.state.specs.Holds.{Holds};
 ghost use Rattle.state.specs.Picked.{Leads};
-ghost use Rattle.rests.specs.Words.{Sets};
+ghost use Rattle.rests.specs.Words.{Sets, Slots};
 ghost use Rattle.searching.specs.Search.{Solved};
-ghost use Rattle.searching.specs.Jumps.{blank, Aimed, slotFor, Concluded, Begun, LeftOff, Propagated, withLeft, Jumps, foundBy, Counted, Opened};
+ghost use Rattle.searching.specs.Jumps.{blank, Aimed, Concluded, Begun, LeftOff, Propagated, withLeft, Jumps, foundBy, Counted, Opened};
 
 // Where goals and units end: at a conflict or a false goal, at a model, or at a split on a literal.
 pub enum Stop {
@@ -38,8 +38,8 @@ pub enum Ended {
     Closed(u32),
 }
 
-// The slot of what the last conflict rests on.
-const CONFLICT_SLOT: usize = 2017;
+// Up to so many nodes, those of eight blocks, 1,012 words do for the sets.
+const FEW: usize = 504;
 
 // No position.
 const NONE: usize = 2016;
@@ -69,17 +69,6 @@ fn aim(x: &[u16], n: usize, goals: &[u16], work: &[u16], masks: &[u64], u: u32) 
     65536 * c as u32 + 4096 * j as u32
 }
 
-// The slot of what comes next: of the unit that joins, or of a conflict.
-fn slot_for(work: &[u16], u: u32) -> usize
-    requires { ⌜ area ≤ length (now work) ⌝ }
-    ensures { λ r. ⌜ r ≡ slotFor u (gOf (now (work .entry))) ⌝ }
-{
-    if u == NO_UNIT {
-        return CONFLICT_SLOT;
-    }
-    state::count(work) as usize + 1
-}
-
 // No conflict and no unit is left: a model, or a split.
 fn conclude(x: &[u16], n: usize, goals: &[u16], work: &mut [u16], masks: &[u64]) -> Stop
     requires { ⌜ Indexed (now x) n ⌝ }
@@ -103,13 +92,13 @@ fn propagate(
     goals: &[u16],
     work: &mut [u16],
     masks: &mut [u64; 33],
-    rests: &mut [u64; 4036],
+    rests: &mut [u64],
     first: u32,
 ) -> Stop
     requires { ⌜ Indexed (now x) n ⌝ }
     requires { ⌜ Goals n (now goals) ⌝ }
     requires { ⌜ Holds (indexNode (now x)) n (now goals) (now work) (now masks) ⌝ }
-    requires { ⌜ Sets (now rests) × Leads (now work) (now masks) first ⌝ }
+    requires { ⌜ Slots n (now rests) × Leads (now work) (now masks) first ⌝ }
     ensures { λ r. ⌜ Propagated (indexNode (now (x .entry))) n (now (goals .entry)) (now (work .entry)) (now (rests .entry)) (now (work .exit)) (now (masks .exit)) (now (rests .exit)) r ⌝ }
 {
     let mut u = first;
@@ -120,7 +109,7 @@ fn propagate(
         }
         let q = (on / 65536) as usize;
         let j = ((on / 4096) % 16) as usize;
-        let to = slot_for(work, u);
+        let to = state::count(work) as usize + 1;
         grounds::put_clause(x, n, goals, work, rests, to, q, j);
         if u == NO_UNIT {
             return Stop::Closed;
@@ -200,23 +189,23 @@ fn with_left(left: u32, right: Ended) -> Ended
     }
 }
 
-// The search from the literals held, which stay held, with d splits on the branch: a model, or every branch closes, and the last
-// conflict's slot has what that rests on. What joined is taken back only before a right branch. Every goal is true; u is the unit that is
-// the next move, or NO_UNIT.
+// The search from the literals held, which stay held, with d splits on the branch: a model, or every branch closes, and the slot behind the
+// literals held then has what the last conflict rests on. What joined is taken back only before a right branch. Every goal is true; u is the
+// unit that is the next move, or NO_UNIT.
 fn search(
     x: &[u16; 22626],
     n: usize,
     goals: &[u16],
     work: &mut [u16],
     masks: &mut [u64; 33],
-    rests: &mut [u64; 4036],
+    rests: &mut [u64],
     d: usize,
     u: u32,
 ) -> Ended
     requires { ⌜ Indexed (now x) n ⌝ }
     requires { ⌜ Goals n (now goals) ⌝ }
     requires { ⌜ Holds (indexNode (now x)) n (now goals) (now work) (now masks) ⌝ }
-    requires { ⌜ Sets (now rests) × (d ≤ length (gOf (now work))) × Leads (now work) (now masks) u ⌝ }
+    requires { ⌜ Slots n (now rests) × (d ≤ length (gOf (now work))) × Leads (now work) (now masks) u ⌝ }
     ensures { λ r. ⌜ Jumps (indexNode (now (x .entry))) n (now (goals .entry)) d (now (work .entry)) (now (rests .entry)) (now (work .exit)) (now (masks .exit)) (now (rests .exit)) r ⌝ }
 {
     let stop = propagate(x, n, goals, work, masks, rests, u);
@@ -232,11 +221,12 @@ fn search(
             match left {
                 Ended::Model(s) => Ended::Model(one_more(s, 0)),
                 Ended::Closed(s) => {
-                    if rests::without(rests, CONFLICT_SLOT, d) {
+                    let closed = state::count(work) as usize + 1;
+                    if rests::without(rests, closed, d) {
                         return Ended::Closed(one_more(s, 0));
                     }
                     solver::undo_to(x, n, goals, work, masks, held);
-                    rests::put_less(rests, slot, CONFLICT_SLOT, d);
+                    rests::put_less(rests, slot, closed, d);
                     let second = solver::fork(x, n, goals, work, masks, clause::negated(l));
                     let right = search(x, n, goals, work, masks, rests, d + 1, second);
                     with_left(s, right)
@@ -272,18 +262,12 @@ fn put(x: &[u16], n: usize, goals: &[u16], work: &mut [u16]) -> Stop
 }
 
 // A question that was left at its first split is searched on. Sets are lent, so that one call's questions share them.
-fn go_on(
-    x: &[u16; 22626],
-    n: usize,
-    goals: &[u16],
-    work: &mut [u16],
-    rests: &mut [u64; 4036],
-) -> Ended
+fn go_on(x: &[u16; 22626], n: usize, goals: &[u16], work: &mut [u16], rests: &mut [u64]) -> Ended
     requires { ⌜ Indexed (now x) n ⌝ }
     requires { ⌜ Goals n (now goals) ⌝ }
-    requires { ⌜ LeftOff (indexNode (now x)) n (now goals) (now work) × Sets (now rests) ⌝ }
+    requires { ⌜ LeftOff (indexNode (now x)) n (now goals) (now work) × Slots n (now rests) ⌝ }
     ensures { λ r. ⌜ Counted (indexNode (now (x .entry))) n (now (goals .entry)) (now (work .exit)) r ⌝ }
-    ensures { λ _. ⌜ Sets (now (rests .exit)) ⌝ }
+    ensures { λ _. ⌜ Slots n (now (rests .exit)) ⌝ }
 {
     let mut masks = [0u64; 33];
     let held = state::count(work) as usize;
@@ -298,6 +282,10 @@ fn alone(x: &[u16; 22626], n: usize, goals: &[u16], work: &mut [u16]) -> Ended
     requires { ⌜ LeftOff (indexNode (now x)) n (now goals) (now work) ⌝ }
     ensures { λ r. ⌜ Counted (indexNode (now (x .entry))) n (now (goals .entry)) (now (work .exit)) r ⌝ }
 {
+    if n <= FEW {
+        let mut rests = [0u64; 1012];
+        return go_on(x, n, goals, work, &mut rests);
+    }
     let mut rests = [0u64; 4036];
     go_on(x, n, goals, work, &mut rests)
 }

@@ -19,7 +19,7 @@ use Rattle.trail.proofs.Trails.{trail-length, trail-same}
 use Rattle.index.specs.Index.{indexNode, mostNodes}
 use Rattle.index.specs.Edges.{Names}
 use Rattle.index.specs.Indexed.{Indexed}
-use Rattle.index.proofs.Named.{still-or}
+use Rattle.index.proofs.Stays.{still-or}
 use Rattle.units.specs.Units.{member, positions, Units, Putted}
 use Rattle.clause.specs.Coded.{statesOf, Coded}
 use Rattle.state.specs.Work.{tail, litAt, baseOf, cursorAt, codeAt, cursorOf, conflictOf, waitingOf, gOf, trail, Ready, Numbered, trailAt, literalsAt, basesAt, valuesAt, cursorsAt, codesAt, area}

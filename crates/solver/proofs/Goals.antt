@@ -17,7 +17,7 @@ use Rattle.calculus.proofs.Sizes.{clauses-more}
 use Rattle.trail.proofs.Trails.{trail-length}
 use Rattle.index.specs.Index.{indexNode, mostNodes}
 use Rattle.index.specs.Indexed.{Indexed}
-use Rattle.state.specs.Work.{area, tail, gOf, valueCode, conflictOf, waitingOf, Ready, trailAt, valuesAt}
+use Rattle.state.specs.Work.{area, tail, gOf, conflictOf, waitingOf, Ready, trailAt, valuesAt}
 use Rattle.state.specs.Holds.{Waiting, Holds, deniedOf, NoneDenied}
 use Rattle.state.proofs.Areas.{ready-same}
 use Rattle.state.proofs.Clauses.{sofar, none-at, none-goals, none-position, goal-state, goals-length}
@@ -25,16 +25,6 @@ use Rattle.solver.specs.Changes.{Taken, Attached, Apart, Awaited, Stands
 use Rattle.calculus.proofs.Stays.{holds-fails, holds-undecided, fails-undecided, value-stays}
 use Rattle.solver.proofs.Settles.{waiting-over, awaited-apart}
 use Rattle.solver.proofs.Assumes.{ready-attached, list-now, holds-attached, list-attached, taken-none}
-
-pub code-fails : (v : Value) → valueCode v ≡ 2 → v ≡ fails
-code-fails holds e = absurd (omega arith)
-code-fails fails e = refl
-code-fails undecided e = absurd (omega arith)
-
-pub code-else : (v : Value) {r : ℕ} → r ≡ valueCode v → (r ≡ 1 → ⊥) → (r ≡ 2 → ⊥) → v ≡ undecided
-code-else holds e a b = absurd (a e)
-code-else fails e a b = absurd (b e)
-code-else undecided e a b = refl
 
 -- where nothing is held there is no conflict
 pub free-first : {t : ℕ → Node} {n : ℕ} {goals w m : List ℕ} → Holds t n goals w m → gOf w ≡ [] → mostNodes ≤ conflictOf w

@@ -4,17 +4,13 @@ use mathlib.Core.List.{List}
 use Prim.Native.Nat.{ℕ, _+_, _*_, _/_, _%_, _<_, _≤_}
 use native.Mathlib.Omega.{arith}
 use native.Mathlib.Decide.{decLt, ℕ-discrete}
-use Rattle.calculus.specs.Order.{Value, holds, fails, undecided, valueOf}
+use Rattle.calculus.specs.Order.{undecided, valueOf}
+use Rattle.trail.proofs.Codes.{code-undecided}
 use Rattle.units.specs.Units.{positions, member, Units, Empty, Putted, First}
 use Rattle.index.specs.Index.{mostNodes}
 use Rattle.state.specs.Work.{tail, codeAt, conflictOf, gOf, valueCode}
 use Rattle.state.specs.Picked.{noUnit}
 use Rattle.solver.specs.Changes.{Dropped, Foremost, Fronts, Forcing, Lived, Tidied}
-
-pub code-undecided : (v : Value) → valueCode v ≡ 0 → v ≡ undecided
-code-undecided undecided e = refl
-code-undecided holds e = absurd (omega (arith, e))
-code-undecided fails e = absurd (omega (arith, e))
 
 -- ---- the first unit
 
@@ -35,7 +31,7 @@ front-none e = record { some = λ y. absurd (y refl); none = λ y. e }
 pub dropped-starts : {w m : List ℕ} → Units m → Dropped w m m
 dropped-starts u = record { units = u; less = λ q i e. e; from = λ q i e. e; kept = λ q i e y. e }
 
--- what a set forces is a literal of the nodes
+-- a position of the set is one of a literal
 pub forced-at : (n : ℕ) {w m₀ m : List ℕ} → Forcing n w m₀ → Dropped w m₀ m → (q : ℕ) → q < positions → member m q ≡ 1 → q < mostNodes
 forced-at n F d q i y = F q i (d .from q i y) .0
 
@@ -91,14 +87,15 @@ module _ {w m₀ m : List ℕ} {u : ℕ} (d : Dropped w m₀ m) (F : Fronts w m 
     first = λ j g.
         ap (λ (o : ℕ). valueOf (gOf w) (codeAt (tail w) o % 4096)) (first-only j g) ∙ ap (valueOf (gOf w)) literal
         ∙ code-undecided (valueOf (gOf w) (u % 4096)) (sym e ∙ z);
-    next = F .some;
-    none = λ y. absurd (some y);
+    front = F;
   }
 
 pub lived-none : {w m₀ m : List ℕ} {u : ℕ} → Dropped w m₀ m → Fronts w m u → u ≡ noUnit → Lived w m₀ m noUnit
-lived-none {m = m} d F z =
-    let e : Empty m = F .none z in
-    record { dropped = d; first = λ q f. absurd (omega (arith, f .here, e q (f .low))); next = λ y. absurd (y refl); none = λ y. e }
+lived-none d F z = record {
+  dropped = d;
+  first = λ q f. absurd (omega (arith, f .here, F .none z q (f .low)));
+  front = record { some = λ y. absurd (y refl); none = λ y. F .none z };
+}
 
 -- ---- behind a conflict nothing is dropped
 
@@ -106,4 +103,4 @@ pub tidied-conflict : {w m : List ℕ} → Units m → conflictOf w < mostNodes 
 tidied-conflict u c = record { dropped = dropped-starts u; first = λ f. absurd (omega (arith, f, c)); next = λ y. absurd (y refl); none = λ y f. absurd (omega (arith, f, c)) }
 
 pub tidied-lived : {w m m′ : List ℕ} {u : ℕ} → mostNodes ≤ conflictOf w → Lived w m m′ u → Tidied w m m′ u
-tidied-lived c k = record { dropped = k .dropped; first = λ f. k .first; next = λ y. (c, k .next y .0, k .next y .1); none = λ y f. k .none y }
+tidied-lived c k = record { dropped = k .dropped; first = λ f. k .first; next = λ y. (c, k .front .some y .0, k .front .some y .1); none = λ y f. k .front .none y }

@@ -1,6 +1,6 @@
 -- A position is entered by its code. Assumes nothing.
 use mathlib.Core.Path.{_≡_, refl, sym, ap, _∙_, subst}
-use mathlib.Core.Bool.{Bool, true, false, false≢true}
+use mathlib.Core.Bool.{true, false, false≢true}
 use mathlib.Core.Logic.{_⊎_, inl, inr}
 use mathlib.Core.List.{List}
 use Prim.Native.Nat.{ℕ, _+_, _-_, _*_, _/_, _%_, _<_, _≤_}
@@ -11,11 +11,12 @@ use lib.Seq.{getD-set-same, getD-set-other}
 use Rattle.scope.specs.declared.Node.{Node}
 use Rattle.scope.specs.Table.{operands}
 use Rattle.calculus.specs.Expansion.{chosen}
-use Rattle.calculus.specs.Order.{State, isEmpty, isOne, some, bit}
+use Rattle.calculus.specs.Order.{State, isEmpty, isOne, some}
 use Rattle.calculus.specs.Model.{Table}
 use Rattle.calculus.proofs.Lists.{all-imply}
 use Rattle.calculus.proofs.Literals.{neg-below}
 use Rattle.calculus.proofs.Fresh.{chosen-all}
+use Rattle.calculus.proofs.Moves.{bit-true, bit-false}
 use Rattle.index.specs.Index.{mostNodes}
 use Rattle.units.specs.Units.{member, Units}
 use Rattle.clause.specs.Coded.{statesOf, Coded}
@@ -23,14 +24,6 @@ use Rattle.state.specs.Work.{tail, litAt, entryOf, codeAt, gOf, conflictOf, Rea
 use Rattle.state.specs.Holds.{statesAt, Forces, Entered, Late, Closed}
 use Rattle.state.proofs.Areas.{count-most, held-still, ready-same}
 use Rattle.solver.specs.Changes.{Beside, Lowered, Flagged, Renewed, Visited}
-
-bit-true : (b : Bool) → bit b ≡ 1 → b ≡ true
-bit-true true e = refl
-bit-true false e = absurd (omega arith)
-
-bit-false : (b : Bool) → (bit b ≡ 1 → ⊥) → b ≡ false
-bit-false true e = absurd (e refl)
-bit-false false e = refl
 
 pub beside-same : (w : List ℕ) → Beside w w
 beside-same w = record { size = refl; other = λ i e k. refl }
@@ -144,18 +137,15 @@ module _ (t : ℕ → Node) {n : ℕ} {w : List ℕ} {q : ℕ} (few : n ≤ most
         closed-still t (gOf w) (gOf w′) r (tail w′) (conflictOf w′) (still-at few h beside 0 (omega arith)) (still-states few h beside t)
         (subst (Closed t (gOf w) r) (sym same) o);
     here = record {
-      unit = λ d o. (g .putted .here, subst (λ (s : List State). Forces s (codeAt (tail w′) q)) (sym still) (subst (Forces ss) (sym stored) f));
+      unit = λ d o. (g .putted .here, subst (λ (s : List State). Forces s (codeAt (tail w′) q)) (sym still) (subst (Forces ss) (sym (flagged-stored few h b g)) f));
       conflict = λ o. absurd (false≢true (sym none ∙ sym (ap (some isEmpty) still) ∙ o));
     };
-    late = λ e. record { low = λ o. rw stored i; live = λ d o v. ap (some isOne) still ∙ y };
+    late = λ e. record { low = λ o. rw (flagged-stored few h b g) i; live = λ d o v. ap (some isOne) still ∙ y };
     else = λ j o d. (g .putted .other j o d, other (trailAt + (codesAt + j)) (λ e. d (omega (arith, e))));
   }
     where
       other : (j : ℕ) → (j ≡ trailAt + (codesAt + q) → ⊥) → getD w′ j 0 ≡ getD w j 0
       other = flagged-other few h b g
-
-      stored : codeAt (tail w′) q ≡ k
-      stored = flagged-stored few h b g
 
       beside : Beside w w′
       beside = record { size = rw (g .stored) (length-set w (trailAt + (codesAt + q)) k); other = λ j d o. other j (λ e. omega (arith, e, o)) }

@@ -12,7 +12,8 @@ use borrow.Author.Count.{below-more}
 use lib.Seq.{getD-set-same, getD-set-other}
 use Rattle.scope.specs.declared.Node.{Node}
 use Rattle.calculus.specs.Expansion.{neg}
-use Rattle.calculus.specs.Order.{Value, holds, fails, undecided, valueOf, isEmpty, isOne, some}
+use Rattle.trail.proofs.Codes.{code-holds}
+use Rattle.calculus.specs.Order.{holds, valueOf, isEmpty, isOne, some}
 use Rattle.calculus.specs.Model.{Goals}
 use Rattle.calculus.proofs.Lists.{all-at}
 use Rattle.units.specs.Units.{Units, Empty}
@@ -25,11 +26,6 @@ use Rattle.state.proofs.Areas.{count-most, held-below, ready-same}
 use Rattle.solver.specs.Changes.{Served, Apart, Awaited, Settled, Left}
 
 -- ---- whether a goal waits
-
-pub code-holds : (v : Value) → valueCode v ≡ 1 → v ≡ holds
-code-holds holds e = refl
-code-holds fails e = absurd (omega arith)
-code-holds undecided e = absurd (omega arith)
 
 pub waiting-on : {goals G : List ℕ} (k v : ℕ) → k < length goals → ((i : ℕ) → i < k → valueOf G (getD goals i 0) ≡ holds)
     → v ≡ valueCode (valueOf G (getD goals k 0)) → (v ≡ 1 → ⊥) → Waiting goals G (length goals - k)

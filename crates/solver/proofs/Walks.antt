@@ -17,8 +17,7 @@ use Rattle.state.specs.Work.{tail, litAt, entryOf, gOf, conflictOf, Ready}
 use Rattle.state.specs.Holds.{statesAt, Entered}
 use Rattle.state.proofs.Areas.{count-most, held-below}
 use Rattle.solver.specs.Changes.{Beside, Lowered, Flagged, Visited, PairFrom, ThreeFrom, Walk, Touchable, Touched}
-use Rattle.solver.proofs.Settles.{code-holds}
-use Rattle.solver.proofs.Lives.{code-undecided}
+use Rattle.trail.proofs.Codes.{code-holds, code-undecided}
 use Rattle.solver.proofs.Marks.{beside-same, still-at, still-ready, still-literal, still-states, entered-still, held-low}
 use Rattle.solver.proofs.Marks.{renewed-empty, renewed-unit, renewed-same, at-low, at-node, visited-same, visited}
 

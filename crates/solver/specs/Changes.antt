@@ -94,20 +94,21 @@ pub record Dropped (w m m′ : List ℕ) : Type 0 where
   pub from : (q : ℕ) → q < positions → member m′ q ≡ 1 → member m q ≡ 1
   pub kept : (q : ℕ) → q < positions → member m q ≡ 1 → valueOf (gOf w) (codeAt (tail w) q % 4096) ≡ undecided → member m′ q ≡ 1
 
--- u is the unit at the first position of the set, with what is kept of it, or `noUnit`; and it is that only where the set is empty
+-- u is the unit at the first position of the set, with what is kept of it, or `noUnit`
 abbrev pub Foremost : List ℕ → List ℕ → ℕ → Type 0
 Foremost w m u = (u ≡ noUnit → ⊥) → First m (u / 65536) × (codeAt (tail w) (u / 65536) ≡ u % 65536)
 
+-- and it is `noUnit` only where the set is empty
 pub record Fronts (w m : List ℕ) (u : ℕ) : Type 0 where
   pub some : Foremost w m u
   pub none : u ≡ noUnit → Empty m
 
--- the same, but that the position of the newest literal is not looked at where it is `noUnit`
+-- or where no position before that of the newest literal is in it
 pub record Ahead (w m : List ℕ) (u : ℕ) : Type 0 where
   pub some : Foremost w m u
   pub none : u ≡ noUnit → (q : ℕ) → suc q < tail w 0 → member m q ≡ 0
 
--- r is the earlier of the unit b and that of position q, of which k is kept
+-- r is the earlier of the unit b and that of position q, of which k is kept; where b is of q too, it is the latter
 abbrev pub Earlier : ℕ → ℕ → ℕ → ℕ → Type 0
 Earlier b q k r = (q ≤ b / 65536 → r ≡ 65536 * q + k) × (b / 65536 < q → r ≡ b)
 
@@ -123,8 +124,7 @@ Forcing n w m = (q : ℕ) → q < positions → member m q ≡ 1 → (q < mostNo
 pub record Lived (w m m′ : List ℕ) (u : ℕ) : Type 0 where
   pub dropped : Dropped w m m′
   pub first : (q : ℕ) → First m′ q → valueOf (gOf w) (codeAt (tail w) q % 4096) ≡ undecided
-  pub next : Foremost w m′ u
-  pub none : u ≡ noUnit → Empty m′
+  pub front : Fronts w m′ u
 
 -- the same where there is no conflict; behind one u is `noUnit`
 pub record Tidied (w m m′ : List ℕ) (u : ℕ) : Type 0 where

@@ -71,7 +71,8 @@ fn front(work: &[u16], masks: &[u64]) -> u32
     NO_UNIT
 }
 
-// Of the unit best and that of position q, of which `kept` is kept, the one whose position is the first; if it is the same, that of q.
+// Of the unit best, or NO_UNIT, and that of position q, of which `kept` is kept, the one whose position comes first; where both are of q, the
+// latter.
 fn earlier(best: u32, q: usize, kept: u16) -> u32
     requires { ⌜ q < mostNodes ⌝ }
     ensures { λ r. ⌜ Earlier best q kept r ⌝ }
@@ -92,8 +93,8 @@ fn unit(work: &mut [u16], masks: &mut [u64], q: usize, kept: u16)
     units::add(masks, q);
 }
 
-// What the clauses of node p's literal, at position q, come to is entered, by its code. Of the first unit, best, the answer is the first
-// then.
+// What the clauses of node p's literal, at position q, come to is entered, by its code. best is the first unit so far, or NO_UNIT, and the
+// answer is the first one now; so it is in all that follows up to `touch`, but for `renew`.
 fn enter(
     x: &[u16],
     n: usize,
@@ -124,7 +125,8 @@ fn enter(
     best
 }
 
-// So are they worked out and entered; the answer is the code.
+// So are they worked out and entered for the literal that joins. Its position is the last, so its unit is not compared with others; the
+// answer is the code.
 fn renew(
     x: &[u16],
     n: usize,
@@ -145,7 +147,7 @@ fn renew(
     code
 }
 
-// The same for node p, which has three operands, if its literal is held. Most looks end at the test: no clause is a unit or all false.
+// So are they for node p, which has three operands, if its literal is held. Most looks end at the test: no clause is a unit or all false.
 fn visit(x: &[u16], n: usize, work: &mut [u16], masks: &mut [u64], p: usize, best: u32) -> u32
     requires { ⌜ Indexed (now x) n ⌝ }
     requires { ⌜ Ready n (now work) × Units (now masks) ⌝ }
@@ -339,14 +341,15 @@ fn wait(n: usize, goals: &[u16], work: &mut [u16], l: u16)
     }
 }
 
-// The first unit of the set that forces an undecided literal; positions before it leave the set. `first` is the first unit of all.
-fn live(n: usize, work: &[u16], masks: &mut [u64], first: u32) -> u32
+// The first unit of the set that forces an undecided literal, or NO_UNIT; positions before it leave the set. `foremost` is the first
+// unit of all.
+fn live(n: usize, work: &[u16], masks: &mut [u64], foremost: u32) -> u32
     requires { ⌜ Ready n (now work) × (n ≤ mostNodes) ⌝ }
     requires { ⌜ Units (now masks) × Forcing n (now work) (now masks) ⌝ }
-    requires { ⌜ Fronts (now work) (now masks) first ⌝ }
+    requires { ⌜ Fronts (now work) (now masks) foremost ⌝ }
     ensures { λ r. ⌜ Lived (now (work .entry)) (now (masks .entry)) (now (masks .exit)) r ⌝ }
 {
-    let mut u = first;
+    let mut u = foremost;
     while u != NO_UNIT {
         if state::value(n, work, (u % 4096) as u16) == 0 {
             return u;
@@ -357,7 +360,7 @@ fn live(n: usize, work: &[u16], masks: &mut [u64], first: u32) -> u32
     NO_UNIT
 }
 
-// The first unit of the set, where best is that or NO_UNIT.
+// The first unit of the set, or NO_UNIT where it is empty; best is that, or NO_UNIT where it is not known.
 fn known(work: &[u16], masks: &[u64], best: u32) -> u32
     requires { ⌜ area ≤ length (now work) ⌝ }
     requires { ⌜ Units (now masks) × ((q : ℕ) → q < positions → member (now masks) q ≡ 1 → q < mostNodes) ⌝ }
@@ -370,7 +373,8 @@ fn known(work: &[u16], masks: &[u64], best: u32) -> u32
     front(work, masks)
 }
 
-// The first unit of the set that forces an undecided literal where there is no conflict; best is the first of all, or NO_UNIT.
+// The first unit of the set that forces an undecided literal, or NO_UNIT where there is none or a conflict; best is the first of all, or
+// NO_UNIT where it is not known.
 fn next_unit(n: usize, work: &[u16], masks: &mut [u64], best: u32) -> u32
     requires { ⌜ Ready n (now work) × (n ≤ mostNodes) ⌝ }
     requires { ⌜ Units (now masks) × Forcing n (now work) (now masks) ⌝ }
@@ -380,13 +384,13 @@ fn next_unit(n: usize, work: &[u16], masks: &mut [u64], best: u32) -> u32
     if work[CONFLICT] < NONE {
         return NO_UNIT;
     }
-    let first = known(work, masks, best);
-    live(n, work, masks, first)
+    let foremost = known(work, masks, best);
+    live(n, work, masks, foremost)
 }
 
 // A literal, which is undecided, joins those held; which goals wait is not looked at. The answer is the next unit of the set, or NO_UNIT.
-// Where its edges are and the first unit are read before anything is stored, so that no store is waited for; then each unit found is
-// compared with the first, and the set is looked into only where none was found.
+// Where its edges begin and the first unit are read before anything is stored, so that they do not wait for the stores; then each unit that
+// an edge finds is compared with the first, and the set is looked into again only where there is none, or its literal has a value.
 fn attach(x: &[u16], n: usize, work: &mut [u16], masks: &mut [u64], l: u16) -> u32
     requires { ⌜ Indexed (now x) n ⌝ }
     requires { ⌜ Held (indexNode (now x)) n (now work) l (now masks) ⌝ }

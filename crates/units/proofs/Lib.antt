@@ -1,4 +1,4 @@
--- Laws of the set, for the proofs of the functions. Assumes nothing.
+-- Laws of the set, for the proofs of the functions and of the crates above. Assumes nothing.
 pub mod Bits
 pub mod Sets
 pub mod Firsts

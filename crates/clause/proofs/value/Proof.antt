@@ -2,7 +2,7 @@
 use Prim.Native.Nat.{_<_}
 use Rattle.calculus.specs.Order.{valueOf}
 use Rattle.clause.specs.Coded.{tail, valueAt, gOf}
-use Rattle.clause.proofs.Codes.{code-low}
+use Rattle.trail.proofs.Codes.{code-low}
 use native.Mathlib.Omega.{arith}
 use borrow.Author.Needs.{needs}
 use Rattle.clause.proofs.value.Statement.{statement}

@@ -3,13 +3,16 @@ use Prim.Native.Nat.{_+_, _*_, _/_, _<_}
 use lib.ListN.{getD}
 use Rattle.index.specs.Index.{indexNode}
 use Rattle.grounds.proofs.Puts.{held-there, slot-there, cell-below, literal-node, literal-kind, column-few, single-low, put-single, put-others}
+use Rattle.state.proofs.Areas.{count-most}
 use native.Mathlib.Omega.{arith}
 use borrow.Author.Needs.{needs}
 use Rattle.grounds.proofs.put_position.Statement.{statement}
 use Rattle.grounds.proofs.put_position.Tie as tie
 
 literal-requires : tie.Need-literal-requires
-literal-requires c κs = search needs
+literal-requires c κs =
+    let p = c .before .before .before .pre in
+    (p .1 .0 .size, omega (arith, p .1 .1 .1 .0, count-most (p .1 .0), p .0 .few))
 
 cast-node : tie.Need-cast-node
 cast-node c = search needs

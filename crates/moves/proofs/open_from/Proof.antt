@@ -10,7 +10,8 @@ use Rattle.clause.specs.Coded.{isOpen}
 use Rattle.state.specs.Work.{tail, gOf, cursorOf}
 use Rattle.state.specs.Holds.{statesAt}
 use Rattle.state.proofs.Areas.{count-most}
-use Rattle.moves.proofs.Moves.{bit-true, step, open-at}
+use Rattle.calculus.proofs.Moves.{bit-true}
+use Rattle.moves.proofs.Moves.{step, open-at}
 use native.Mathlib.Omega.{arith}
 use borrow.Author.Needs.{needs}
 use Rattle.moves.proofs.open_from.Statement.{statement}

@@ -3,7 +3,8 @@ use Rattle.searching.specs.Jumps.{blank}
 use Rattle.searching.proofs.Jumps.{Rested, rested-starts, rested-looked, rested-conflict, stepped-blank, rested-stepped, conflict-blank, rested-done, rested-split}
 use Rattle.searching.proofs.Searches.{looked, run-fresh, run-room}
 use Rattle.moves.proofs.Moves.{picked-next}
-use Rattle.rests.proofs.Held.{sets-blank}
+use Rattle.rests.specs.Words.{setsSize}
+use Rattle.rests.proofs.Held.{slots-zero}
 use Rattle.state.specs.Work.{gOf}
 use Rattle.state.specs.Picked.{Picks}
 use Rattle.index.specs.Index.{indexNode}
@@ -27,7 +28,9 @@ pick-requires c κs =
     (H .ready .size, H .units)
 
 loop-holds : tie.Need-loop-holds Inv-loop μ-loop
-loop-holds c = (rested-starts (c .before .before .before .before .before .before .before .pre .1 .1) sets-blank, c .pick .ensures .0)
+loop-holds c =
+    let p = c .before .before .before .before .before .before .before .pre in
+    (rested-starts (p .1 .1) (slots-zero _ setsSize (omega (arith, p .0 .few))), c .pick .ensures .0)
 
 join-requires : tie.Need-join-requires Inv-loop μ-loop
 join-requires c κs =

@@ -1,7 +1,7 @@
 -- `searching::go_on` meets its contract: the sets of the literals held are empty, and so is a new set of units. Assumes nothing.
 use Rattle.searching.specs.Jumps.{blank}
-use Rattle.searching.proofs.Jumps.{jumps-from, held-low, counted-whole}
-use Rattle.rests.proofs.Held.{cleared-same, cleared-sets}
+use Rattle.searching.proofs.Jumps.{jumps-from, held-most, counted-whole}
+use Rattle.rests.proofs.Held.{cleared-same, cleared-slots}
 use Rattle.state.proofs.Idle.{split-idle}
 use Rattle.solver.proofs.Undoes.{split-anew}
 use Rattle.units.specs.Units.{words}
@@ -13,46 +13,39 @@ use borrow.Author.Needs.{needs}
 use Rattle.searching.proofs.go_on.Statement.{statement}
 use Rattle.searching.proofs.go_on.Tie as tie
 
-count-requires : tie.Need-count-requires
-count-requires c κs = search needs
-
-cast-held : tie.Need-cast-held
-cast-held c = search needs
-
 clear-requires : tie.Need-clear-requires
 clear-requires c κs =
-    let p = c .before .before .before .before .before .pre in
-    omega (arith, held-low (p .1 .1 .0 .1 .holds) (p .0 .few), c .before .count .ensures, p .1 .1 .1 .size)
+    let p = c .before .before .before .before .before .before .pre in
+    omega (arith, held-most (p .1 .1 .0 .1 .holds), c .before .count .ensures, p .1 .1 .1 .size)
 
 search-requires : tie.Need-search-requires
 search-requires c κs =
-    let p = c .before .before .before .before .before .before .before .before .before .pre in
+    let p = c .before .before .before .before .before .before .before .before .before .before .before .before .pre in
     let q = p .1 .1 .0 .1 in
     let H = split-anew (p .0 .few) (q .holds) (q .splits) in
     let none = cleared (replicate words 0) refl (λ i b. getD-replicate words i 0 0 b) .1 in
-    let sets = cleared-sets (c .before .before .before .before .before .count .result) (p .1 .1 .1) (c .before .before .before .clear .ensures) in
+    let sets = cleared-slots (c .before .before .before .before .before .before .before .count .result) (p .1 .1 .1) (c .before .before .before .before .before .clear .ensures) in
     (p .0, (p .1 .0, (H, (sets, omega arith, record { idle = split-idle H (q .splits); picks = λ e. absurd (e refl); none = λ _ _. none }))))
 
-same-length : tie.Need-same-length
-same-length c = search needs
+same-length-2 : tie.Need-same-length-2
+same-length-2 c = omega (arith, c .before .before .before .before .search .kept .1 .1 .1 .1 .1 .0, c .before .before .before .before .before .before .before .before .before .before .clear .ensures .size)
 
 returns : tie.Need-returns
 returns c =
-    let p = c .before .before .before .before .before .before .before .before .before .before .before .before .pre in
+    let p = c .before .before .before .before .before .before .before .before .before .before .before .before .before .before .before .before .before .pre in
     let q = p .1 .1 .0 .1 in
-    let n = c .before .before .before .before .before .before .before .before .count in
-    let low = held-low (q .holds) (p .0 .few) in
-    let none = cleared-same (n .result) (omega (arith, low, n .ensures)) (c .before .before .before .before .before .before .clear .ensures) in
-    let done = c .before .before .search .ensures in
-    (counted-whole {m = blank} (q .same) (jumps-from {m = blank} (λ i h. none i (omega (arith, h, n .ensures))) done), done .sets)
+    let low = held-most (q .holds) in
+    let none = cleared-same (c .before .before .before .before .before .before .before .before .before .before .before .before .count .result) (omega (arith, low, p .0 .few, c .before .before .before .before .before .before .before .before .before .before .before .before .count .ensures)) (c .before .before .before .before .before .before .before .before .before .before .clear .ensures) in
+    let done = c .before .before .before .before .search .ensures in
+    (counted-whole {m = blank} (q .same) (jumps-from {m = blank} (λ i h. none i (omega (arith, h, c .before .before .before .before .before .before .before .before .before .before .before .before .count .ensures))) done), done .sets)
 
 pub go-on-spec : {M : Type 1} → statement M
 go-on-spec =
     tie.close
     (tie.spec
-    count-requires
-    cast-held
+    (λ c κs. search needs) (λ c. search needs)
     clear-requires
     search-requires
-    same-length
+    (λ c. search needs)
+    same-length-2
     returns)

@@ -1,5 +1,7 @@
 -- `searching::solve` meets its contract: the search that jumps answers as the plain order does. Assumes nothing.
+use Rattle.rests.proofs.Held.{sets-slots, slots-sets}
 use Rattle.searching.proofs.Jumps.{solved-plain}
+use native.Mathlib.Omega.{arith}
 use mathlib.Core.Path.{refl}
 use borrow.Author.Needs.{needs}
 use Rattle.searching.proofs.solve.Statement.{statement}
@@ -22,7 +24,7 @@ enum-told-3 c = search needs
 go-on-requires : tie.Need-go-on-requires
 go-on-requires c κs =
     let p = c .before .before .before .before .before .before .before .before .before .before .before .pre in
-    (p .0, (p .1 .0, ((rw (c .before .before .enum-told3 .given .1) at (c .before .before .before .before .before .before .put .ensures)) .0, p .1 .1 .1)))
+    (p .0, (p .1 .0, ((rw (c .before .before .enum-told3 .given .1) at (c .before .before .before .before .before .before .put .ensures)) .0, sets-slots (omega (arith, p .0 .few)) (p .1 .1 .1))))
 
 verdict-requires : tie.Need-verdict-requires
 verdict-requires c κs = search needs
@@ -49,7 +51,8 @@ same-length-3 c = search needs
 returns-3 : tie.Need-returns-3
 returns-3 c =
     let p = c .before .before .before .before .before .before .before .before .before .before .before .before .before .before .before .pre in
-    (solved-plain (p .0 .table) (p .1 .0 .below) (c .before .before .before .go-on .ensures .0) (c .verdict .ensures), c .before .before .before .go-on .ensures .1)
+    let g = c .before .before .before in
+    (solved-plain (p .0 .table) (p .1 .0 .below) (g .go-on .ensures .0) (c .verdict .ensures), slots-sets (g .go-on .kept .1 .1 .1 .1 .0) (p .1 .1 .1) (g .go-on .ensures .1))
 
 pub solve-spec : {M : Type 1} → statement M
 solve-spec =

@@ -11,57 +11,79 @@ use Rattle.solver.proofs.attach.Tie as tie
 
 renew-requires : tie.Need-renew-requires
 renew-requires c κs =
-    let s = c .before .before .before .before .before .before .before .before .before .before .before .before .before .before .before .before in
+    let at-push = c .before .before .before .before in
+    let at-count = at-push .before .before .before .before .before .before .before in
+    let s = at-count .before .before .before .before .before in
     let (goals, m, gs, H, N) = s .pre .1 .0 in
     let f = s .pre .1 .1 in
-    let e = c .before .before .before .before .before .before .before .before .before .before .before .count .ensures in
-    let k = c .before .before .before .before .push .ensures in
+    let e = at-count .count .ensures in
+    let k = at-push .push .ensures in
     (s .pre .0, ((k .ready, N .units), (own-low (s .pre .0) H N f e k, own-literal (s .pre .0) H N f e k, node-low (s .pre .0) H N f, omega arith)))
 
 touch-requires : tie.Need-touch-requires
 touch-requires c κs =
-    let s = c .before .before .before .before .before .before .before .before .before .before .before .before .before .before .before .before .before .before .before .before .before .before .before in
+    let at-renew = c .before .before .before .before .before .before in
+    let at-push = at-renew .before .before .before .before .before in
+    let at-count = at-push .before .before .before .before .before .before .before in
+    let s = at-count .before .before .before .before .before in
     let I = s .pre .0 in
     let (goals, m, gs, H, N) = s .pre .1 .0 in
     let f = s .pre .1 .1 in
-    let e = c .before .before .before .before .before .before .before .before .before .before .before .before .before .before .before .before .before .before .count .ensures in
-    let k = c .before .before .before .before .before .before .before .before .before .before .before .push .ensures in
-    let o = c .before .before .before .before .before .before .renew .ensures .0 in
+    let e = at-count .count .ensures in
+    let k = at-push .push .ensures in
+    let o = at-renew .renew .ensures .0 in
     (I, (ready₂ I H N f e k o, (touch-asked I H N f e k o, ((node-low I H N f, omega arith, own-true I H N f e k o), (refl, refl)))))
 
 number-requires : tie.Need-number-requires
 number-requires c κs =
-    let s = c .before .before .before .before .before .before .before .before .before .before .before .before .before .before .before .before .before .before .before .before .before .before .before .before .before .before .before .before .before in
+    let at-touch = c .before .before .before .before .before in
+    let at-renew = at-touch .before .before .before .before .before .before .before in
+    let at-push = at-renew .before .before .before .before .before in
+    let at-count = at-push .before .before .before .before .before .before .before in
+    let s = at-count .before .before .before .before .before in
     let (goals, m, gs, H, N) = s .pre .1 .0 in
-    let more = c .before .before .before .before .before .before .before .before .before .before .before .before .renew .result / 8192 in
-    number-asked (s .pre .0) H N (s .pre .1 .1) (c .before .before .before .before .before .before .before .before .before .before .before .before .before .before .before .before .before .before .before .before .before .before .before .before .count .ensures) (c .before .before .before .before .before .before .before .before .before .before .before .before .before .before .before .before .before .push .ensures) (c .before .before .before .before .before .before .before .before .before .before .before .before .renew .ensures .0) (c .before .before .before .before .before .touch .ensures .0) gs more (omega arith)
+    let more = at-renew .renew .result / 8192 in
+    number-asked (s .pre .0) H N (s .pre .1 .1) (at-count .count .ensures) (at-push .push .ensures) (at-renew .renew .ensures .0) (at-touch .touch .ensures .0) gs more
+    (omega arith)
 
 next-unit-requires : tie.Need-next-unit-requires
 next-unit-requires c κs =
-    let s = c .before .before .before .before .before .before .before .before .before .before .before .before .before .before .before .before .before .before .before .before .before .before .before .before .before .before .before .before .before .before .before .before .before .before in
+    let at-number = c .before .before .before .before in
+    let at-touch = at-number .before .before .before .before .before .before in
+    let at-renew = at-touch .before .before .before .before .before .before .before in
+    let at-push = at-renew .before .before .before .before .before in
+    let at-front = at-push .before .before in
+    let at-count = at-front .before .before .before .before .before in
+    let s = at-count .before .before .before .before .before in
     let I = s .pre .0 in
     let (goals, m, gs, H, N) = s .pre .1 .0 in
     let f = s .pre .1 .1 in
-    let e = c .before .before .before .before .before .before .before .before .before .before .before .before .before .before .before .before .before .before .before .before .before .before .before .before .before .before .before .before .before .count .ensures in
-    let k = c .before .before .before .before .before .before .before .before .before .before .before .before .before .before .before .before .before .before .before .before .before .before .push .ensures in
-    let o = c .before .before .before .before .before .before .before .before .before .before .before .before .before .before .before .before .before .renew .ensures .0 in
-    let K = c .before .before .before .before .before .before .before .before .before .before .touch .ensures .0 in
-    let more = c .before .before .before .before .before .before .before .before .before .before .before .before .before .before .before .before .before .renew .result / 8192 in
-    let B = c .before .before .before .before .number .ensures in
-    let first = c .before .before .before .before .before .before .before .before .before .before .touch .ensures .1 (ahead₂ I H N f e k o (c .before .before .before .before .before .before .before .before .before .before .before .before .before .before .before .before .before .before .before .before .before .before .before .before .front .ensures)) .some in
+    let e = at-count .count .ensures in
+    let k = at-push .push .ensures in
+    let o = at-renew .renew .ensures .0 in
+    let (K, onward) = at-touch .touch .ensures in
+    let more = at-renew .renew .result / 8192 in
+    let B = at-number .number .ensures in
+    let first = onward (ahead₂ I H N f e k o (at-front .front .ensures)) .some in
     ((ready₄ I H N f e k o K more B, I .few), ((K .units, forcing₄ I H N f e k o K more B), foremost₄ I H N f e k o K more B first))
 
 returns : tie.Need-returns
 returns c =
-    let s = c .before .before .before .before .before .before .before .before .before .before .before .before .before .before .before .before .before .before .before .before .before .before .before .before .before .before .before .before .before .before .before .before .before .before .before .before .before in
+    let at-next-unit = c .before .before in
+    let at-number = at-next-unit .before .before .before .before .before in
+    let at-touch = at-number .before .before .before .before .before .before in
+    let at-renew = at-touch .before .before .before .before .before .before .before in
+    let at-push = at-renew .before .before .before .before .before in
+    let at-count = at-push .before .before .before .before .before .before .before in
+    let s = at-count .before .before .before .before .before in
     let I = s .pre .0 in
     let (goals, m, gs, H, N) = s .pre .1 .0 in
     let f = s .pre .1 .1 in
-    let e = c .before .before .before .before .before .before .before .before .before .before .before .before .before .before .before .before .before .before .before .before .before .before .before .before .before .before .before .before .before .before .before .before .count .ensures in
-    let k = c .before .before .before .before .before .before .before .before .before .before .before .before .before .before .before .before .before .before .before .before .before .before .before .before .before .push .ensures in
-    let o = c .before .before .before .before .before .before .before .before .before .before .before .before .before .before .before .before .before .before .before .before .renew .ensures .0 in
-    let K = c .before .before .before .before .before .before .before .before .before .before .before .before .before .touch .ensures .0 in
-    let more = c .before .before .before .before .before .before .before .before .before .before .before .before .before .before .before .before .before .before .before .before .renew .result / 8192 in
+    let e = at-count .count .ensures in
+    let k = at-push .push .ensures in
+    let o = at-renew .renew .ensures .0 in
+    let K = at-touch .touch .ensures .0 in
+    let more = at-renew .renew .result / 8192 in
     record {
       w₁ = _;
       w₂ = _;
@@ -72,9 +94,9 @@ returns c =
       pushed = k;
       own = R I H N f e k o;
       parents = K;
-      clauses = own-clauses I H N f e k (c .before .before .before .before .before .before .before .before .before .before .before .before .before .before .before .before .before .before .before .before .renew .ensures .1);
-      based = based-own I H N f e k o K more (c .before .before .before .before .before .before .before .number .ensures);
-      tidied = c .before .before .next-unit .ensures;
+      clauses = own-clauses I H N f e k (at-renew .renew .ensures .1);
+      based = based-own I H N f e k o K more (at-number .number .ensures);
+      tidied = at-next-unit .next-unit .ensures;
     }
 
 shared-slice-read-first : tie.Need-shared-slice-read-first

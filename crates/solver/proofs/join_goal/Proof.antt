@@ -3,8 +3,8 @@ use mathlib.Core.Path.{sym, _∙_}
 use Prim.Native.Nat.{_*_, _<_}
 use lib.ListN.{getD}
 use Rattle.calculus.proofs.Lists.{all-at}
-use Rattle.solver.proofs.Settles.{code-holds}
-use Rattle.solver.proofs.Goals.{code-fails, code-else, enlisted-true, enlisted-false, enlisted-joined, enlisted-shut}
+use Rattle.trail.proofs.Codes.{code-holds, code-fails, code-else}
+use Rattle.solver.proofs.Goals.{enlisted-true, enlisted-false, enlisted-joined, enlisted-shut}
 use native.Mathlib.Omega.{arith}
 use borrow.Author.Needs.{needs}
 use Rattle.solver.proofs.join_goal.Statement.{statement}

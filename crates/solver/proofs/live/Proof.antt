@@ -11,10 +11,10 @@ use Rattle.solver.proofs.live.Statement.{statement}
 use Rattle.solver.proofs.live.Tie as tie
 
 abbrev Inv-loop : tie.InvT-loop
-Inv-loop n work masks₀ first u₀ masks u = Dropped work masks₀ masks × Fronts work masks u × (u ≤ noUnit)
+Inv-loop n work masks₀ foremost u₀ masks u = Dropped work masks₀ masks × Fronts work masks u × (u ≤ noUnit)
 
 abbrev μ-loop : tie.MeasureT-loop
-μ-loop n work masks₀ first u₀ masks u = sizeBelow masks positions
+μ-loop n work masks₀ foremost u₀ masks u = sizeBelow masks positions
 
 leave-requires : tie.Need-leave-requires Inv-loop μ-loop
 leave-requires c κs =

@@ -10,12 +10,24 @@ use Rattle.solver.proofs.look.Tie as tie
 
 returns-3 : tie.Need-returns-3
 returns-3 c =
-    let p = c .before .before .before .before .before .before .before .before .before .before .before .before .before .before .before .before .before .before .before .before .pre in
-    let d = c .before .before .before .before .before .before .before .before .before .before .before .before .before .before .if1 .left in
-    let g = c .before .before .before .before .before .unit .ensures in
-    let s : c .before .before .before .before .before .before .before .before .kept .result < 65536 = omega arith in (
-      looked-unit (p .0 .few) (p .1 .0 .0) (c .before .before .before .before .before .before .before .before .before .before .before .before .before .before .before .class .ensures) (c .before .before .before .before .before .before .before .before .before .before .before .before .before .parent .ensures) (c .before .before .before .before .before .before .before .before .before .before .before .entry .ensures) d (c .before .before .before .before .before .before .before .before .before .other .ensures .0) (c .before .before .before .before .before .before .before .before .before .before .if2 .left) (c .before .before .before .before .before .before .before .before .kept .ensures) g,
-      onward-flagged (p .0 .few) (p .1 .0 .0) (looked-held (p .0 .few) (p .1 .0 .0) (c .before .before .before .before .before .before .before .before .before .before .before .before .before .before .before .class .ensures) (c .before .before .before .before .before .before .before .before .before .before .before .before .before .parent .ensures) (c .before .before .before .before .before .before .before .before .before .before .before .entry .ensures) d) g s (c .earlier .ensures),
+    let at-earlier = c in
+    let at-unit = at-earlier .before .before .before .before .before in
+    let at-kept = at-unit .before .before .before in
+    let at-other = at-kept .before in
+    let at-if2 = at-other .before in
+    let at-entry = at-if2 .before in
+    let at-parent = at-entry .before .before in
+    let at-if1 = at-parent .before in
+    let at-class = at-if1 .before in
+    let p = at-class .before .before .before .before .before .pre in
+    let C = at-class .class .ensures in
+    let r = at-parent .parent .ensures in
+    let e = at-entry .entry .ensures in
+    let d = at-if1 .if1 .left in
+    let g = at-unit .unit .ensures in
+    let s : at-kept .kept .result < 65536 = omega arith in (
+      looked-unit (p .0 .few) (p .1 .0 .0) C r e d (at-other .other .ensures .0) (at-if2 .if2 .left) (at-kept .kept .ensures) g,
+      onward-flagged (p .0 .few) (p .1 .0 .0) (looked-held (p .0 .few) (p .1 .0 .0) C r e d) g s (at-earlier .earlier .ensures),
     )
 
 pub look-spec : {M : Type 1} → statement M

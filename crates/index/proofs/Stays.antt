@@ -51,19 +51,19 @@ module _ (n : ℕ) (t : ℕ → Node) (T : Table n t) (m : ℕ) (b : m < 2 * n) 
   unfolding expand
   still-or G l =
       ⊎-elim (λ h. inl (states-same (l ∷ G) G (expand t m) h)) inr
-      (all-or (λ c. stateOf (l ∷ G) c ≡ stateOf G c) Named (expand t m)
+      (all-or (λ c. stateOf (l ∷ G) c ≡ stateOf G c) By-cell (expand t m)
       (all-map Same-or (map (chosen (t p))) (rowOf (t p .kind) (m % 2))
       (all-imply (All (Within (t p .kind))) (λ c. Same-or (map (chosen (t p)) c)) clause (rowOf (t p .kind) (m % 2))
       (row-within (t p .kind) (m % 2) (T .kinds p (omega (arith, b)) .1) (omega arith)))))
     where
-      Named : Type 0
-      Named = Names t n (l / 2) p
+      By-cell : Type 0
+      By-cell = Names t n (l / 2) p
 
       Same-or : List ℕ → Type 0
-      Same-or c = (stateOf (l ∷ G) c ≡ stateOf G c) ⊎ Named
+      Same-or c = (stateOf (l ∷ G) c ≡ stateOf G c) ⊎ By-cell
 
       Kept-or : ℕ → Type 0
-      Kept-or a = (valueOf (l ∷ G) a ≡ valueOf G a) ⊎ Named
+      Kept-or a = (valueOf (l ∷ G) a ≡ valueOf G a) ⊎ By-cell
 
       literal : (c : ℕ) → Within (t p .kind) c → Kept-or (chosen (t p) c)
       literal c h = at (ℕ-discrete (chosen (t p) c / 2) (l / 2))
@@ -75,5 +75,5 @@ module _ (n : ℕ) (t : ℕ → Node) (T : Table n t) (m : ℕ) (b : m < 2 * n) 
       clause : (c : List ℕ) → All (Within (t p .kind)) c → Same-or (map (chosen (t p)) c)
       clause c h =
           ⊎-elim (λ h. inl (state-same (l ∷ G) G (map (chosen (t p)) c) h)) inr
-          (all-or (λ a. valueOf (l ∷ G) a ≡ valueOf G a) Named (map (chosen (t p)) c)
+          (all-or (λ a. valueOf (l ∷ G) a ≡ valueOf G a) By-cell (map (chosen (t p)) c)
           (all-map Kept-or (chosen (t p)) c (all-imply (Within (t p .kind)) (λ a. Kept-or (chosen (t p) a)) literal c h)))
