@@ -193,77 +193,76 @@ module _ {t : ℕ → Node} {n : ℕ} {goals w k m w′ k′ m′ : List ℕ} (r
     put-from : (d : ℕ) → jumpedFrom t n goals d m″ (gOf w′) ≡ jumpedFrom t n goals d m (gOf w)
     put-from d = from-put t n goals u (gOf w′) h d ∙ r .same d
 
-  module _ (few : n ≤ mostNodes) where
-    -- the clause of a conflict
-    pub rested-conflict : {c : ℕ} {m″ : List ℕ} → move (expand t) goals (gOf w′) ≡ Conflict c
-        → Put m′ (behind (gOf w′)) (clauseRest (expand t) goals (heldOf m′ (gOf w′)) c) m″ → Propagated t n goals w m w′ k′ m″ Shut
-    rested-conflict e u = record {
-      holds = r .run .holds;
-      grows = r .run .grows;
-      sets = put-slots (r .sets) u (omega arith);
-      kept = put-kept u (omega arith);
-      same = put-from u (omega arith);
-      closes = λ _ d. from-put t n goals u (gOf w′) (omega arith) d ∙ from-conflict t n goals d m′ (gOf w′) e ∙ ap (λ (s : Rests). stop (closed s)) (sym (u .here));
-      ends = λ q. shut-open q;
-      forks = λ l q. shut-fork q;
+  -- the clause of a conflict
+  pub rested-conflict : {c : ℕ} {m″ : List ℕ} → move (expand t) goals (gOf w′) ≡ Conflict c
+      → Put m′ (behind (gOf w′)) (clauseRest (expand t) goals (heldOf m′ (gOf w′)) c) m″ → Propagated t n goals w m w′ k′ m″ Shut
+  rested-conflict e u = record {
+    holds = r .run .holds;
+    grows = r .run .grows;
+    sets = put-slots (r .sets) u (omega arith);
+    kept = put-kept u (omega arith);
+    same = put-from u (omega arith);
+    closes = λ _ d. from-put t n goals u (gOf w′) (omega arith) d ∙ from-conflict t n goals d m′ (gOf w′) e ∙ ap (λ (s : Rests). stop (closed s)) (sym (u .here));
+    ends = λ q. shut-open q;
+    forks = λ l q. shut-fork q;
+  }
+
+  -- the clause of what comes next: a conflict's, or a unit's, with no true literal
+  module _ {q j h : ℕ} (z : h ≡ behind (gOf w′)) where
+    grounded : {v : Move} → On t goals w′ q j v → Unmet (gOf w′) (getD (clauses (expand t) goals (gOf w′)) (baseOf (tail w′) q + j) []) → Grounded t goals w′ m′ q j h
+    grounded o y = record {
+      none = r .sets .none;
+      held = o .held;
+      column = o .column;
+      unmet = y;
+      past = omega (arith, z);
+      there = omega (arith, z, r .sets .size, held-most (r .run .holds));
     }
 
-    -- the clause of what comes next: a conflict's, or a unit's, with no true literal
-    module _ {q j h : ℕ} (z : h ≡ behind (gOf w′)) where
-      grounded : {v : Move} → On t goals w′ q j v → Unmet (gOf w′) (getD (clauses (expand t) goals (gOf w′)) (baseOf (tail w′) q + j) []) → Grounded t goals w′ m′ q j h
-      grounded o y = record {
-        none = r .sets .none;
-        held = o .held;
-        column = o .column;
-        unmet = y;
-        past = omega (arith, z);
-        there = omega (arith, z, r .sets .size, held-most (r .run .holds));
+    conflict-grounded : On t goals w′ q j (Conflict (baseOf (tail w′) q + j)) → Grounded t goals w′ m′ q j h
+    conflict-grounded o =
+        grounded o (unmet (gOf w′) (getD (clauses (expand t) goals (gOf w′)) (baseOf (tail w′) q + j) [])
+        (λ z. absurd (let y = conflict-clause (expand t) goals (gOf w′) (baseOf (tail w′) q + j) (o .next) .1 in let x : _≡_ {A = ℕ} 0 1 = cc in omega arith)))
+
+    unit-grounded : {l : ℕ} → On t goals w′ q j (Single (baseOf (tail w′) q + j) l) → Grounded t goals w′ m′ q j h
+    unit-grounded {l} o =
+        grounded o (unmet (gOf w′) (getD (clauses (expand t) goals (gOf w′)) (baseOf (tail w′) q + j) [])
+        (λ y. absurd (let v = unit-clause (expand t) goals (gOf w′) (baseOf (tail w′) q + j) l (o .next) .1 in let x : _≡_ {A = ℕ} 0 1 = cc in omega arith)))
+
+  module _ (few : n ≤ mostNodes) (gs : Goals n goals) {u v h : ℕ} (L : Picks w′ k′ u) (A : Aimed t goals w′ u v) (z : v ≡ noUnit → ⊥) (e : h ≡ behind (gOf w′)) where
+    pub aimed-grounded : Grounded t goals w′ m′ (v / 65536) (v / 4096 % 16) h
+    aimed-grounded = go (ℕ-discrete u noUnit)
+      where
+        go : Dec (u ≡ noUnit) → Grounded t goals w′ m′ (v / 65536) (v / 4096 % 16) h
+        go (yes y) = conflict-grounded e (A .conflict y z)
+        go (no y) = rw (A .unit y) (unit-grounded e (unit-on few gs (r .run .holds) (L y)))
+
+    module _ {m″ : List ℕ}
+        (p : Put m′ h (clauseRest (expand t) goals (heldOf m′ (gOf w′)) (baseOf (tail w′) (v / 65536) + v / 4096 % 16)) m″) where
+      -- a conflict
+      pub aimed-closed : u ≡ noUnit → Propagated t n goals w m w′ k′ m″ Shut
+      aimed-closed y = rested-conflict (A .conflict y z .next) (rw e at p)
+
+      -- a unit, which joins
+      pub aimed-stepped : (u ≡ noUnit → ⊥) → {w″ k″ : List ℕ} → Holds t n goals w″ k″ → gOf w″ ≡ u % 4096 ∷ gOf w′ → Stepped t n (u % 4096) goals w′ m′ w″ k″ m″
+      aimed-stepped y a b = record {
+        clause = baseOf (tail w′) (u / 65536) + u / 4096 % 16;
+        next = unit-on few gs (r .run .holds) (L y) .next;
+        holds = a;
+        list = b;
+        put = rw (e, A .unit y) at p;
       }
 
-      pub conflict-grounded : On t goals w′ q j (Conflict (baseOf (tail w′) q + j)) → Grounded t goals w′ m′ q j h
-      conflict-grounded o =
-          grounded o (unmet (gOf w′) (getD (clauses (expand t) goals (gOf w′)) (baseOf (tail w′) q + j) [])
-          (λ z. absurd (let y = conflict-clause (expand t) goals (gOf w′) (baseOf (tail w′) q + j) (o .next) .1 in let x : _≡_ {A = ℕ} 0 1 = cc in omega arith)))
-
-      pub unit-grounded : {l : ℕ} → On t goals w′ q j (Single (baseOf (tail w′) q + j) l) → Grounded t goals w′ m′ q j h
-      unit-grounded {l} o =
-          grounded o (unmet (gOf w′) (getD (clauses (expand t) goals (gOf w′)) (baseOf (tail w′) q + j) [])
-          (λ y. absurd (let v = unit-clause (expand t) goals (gOf w′) (baseOf (tail w′) q + j) l (o .next) .1 in let x : _≡_ {A = ℕ} 0 1 = cc in omega arith)))
-
-    module _ (gs : Goals n goals) {u v h : ℕ} (L : Picks w′ k′ u) (A : Aimed t goals w′ u v) (z : v ≡ noUnit → ⊥) (e : h ≡ behind (gOf w′)) where
-      pub aimed-grounded : Grounded t goals w′ m′ (v / 65536) (v / 4096 % 16) h
-      aimed-grounded = go (ℕ-discrete u noUnit)
-        where
-          go : Dec (u ≡ noUnit) → Grounded t goals w′ m′ (v / 65536) (v / 4096 % 16) h
-          go (yes y) = conflict-grounded e (A .conflict y z)
-          go (no y) = rw (A .unit y) (unit-grounded e (unit-on few gs (r .run .holds) (L y)))
-
-      module _ {m″ : List ℕ}
-          (p : Put m′ h (clauseRest (expand t) goals (heldOf m′ (gOf w′)) (baseOf (tail w′) (v / 65536) + v / 4096 % 16)) m″) where
-        -- a conflict
-        pub aimed-closed : u ≡ noUnit → Propagated t n goals w m w′ k′ m″ Shut
-        aimed-closed y = rested-conflict (A .conflict y z .next) (rw e at p)
-
-        -- a unit, which joins
-        pub aimed-stepped : (u ≡ noUnit → ⊥) → {w″ k″ : List ℕ} → Holds t n goals w″ k″ → gOf w″ ≡ u % 4096 ∷ gOf w′ → Stepped t n (u % 4096) goals w′ m′ w″ k″ m″
-        aimed-stepped y a b = record {
-          clause = baseOf (tail w′) (u / 65536) + u / 4096 % 16;
-          next = unit-on few gs (r .run .holds) (L y) .next;
-          holds = a;
-          list = b;
-          put = rw (e, A .unit y) at p;
-        }
-
-    -- a unit has joined
-    pub rested-stepped : Table n t → Below n goals → {l : ℕ} {w″ k″ m″ : List ℕ} → Stepped t n l goals w′ m′ w″ k″ m″ → length w″ ≡ length w′
-        → length k″ ≡ length k′ → Rested t n goals w k m w″ k″ m″
-    rested-stepped T B S x y = record {
-      run = run-unit (r .run) T B (S .next) (S .holds) (S .list) x y;
-      sets = put-slots (r .sets) (S .put) (omega arith);
-      words = S .put .size ∙ r .words;
-      kept = put-kept (S .put) (omega arith);
-      same = λ d. rw (S .list) (sym (from-unit t n goals d m′ (gOf w′) (run-room (r .run) T B (S .next)) (S .next) (S .put)) ∙ r .same d);
-    }
+  -- a unit has joined
+  pub rested-stepped : Table n t → Below n goals → {l : ℕ} {w″ k″ m″ : List ℕ} → Stepped t n l goals w′ m′ w″ k″ m″ → length w″ ≡ length w′
+      → length k″ ≡ length k′ → Rested t n goals w k m w″ k″ m″
+  rested-stepped T B S x y = record {
+    run = run-unit (r .run) T B (S .next) (S .holds) (S .list) x y;
+    sets = put-slots (r .sets) (S .put) (omega arith);
+    words = S .put .size ∙ r .words;
+    kept = put-kept (S .put) (omega arith);
+    same = λ d. rw (S .list) (sym (from-unit t n goals d m′ (gOf w′) (run-room (r .run) T B (S .next)) (S .next) (S .put)) ∙ r .same d);
+  }
 
 -- the units end with no conflict
 pub rested-concluded : {t : ℕ → Node} {n : ℕ} {goals w k m w′ k′ m′ w″ : List ℕ} → Rested t n goals w k m w′ k′ m′ → (v : Stop) → Concluded t n goals w′ w″ k′ v
@@ -313,8 +312,8 @@ module _ (d : ℕ) (left : Jumped) (right : Rests → Jumped) where
     sides-turns q = (rw (e, q), rw (e, q))
 
 -- the slot of the literal that joins at a split
-pub slot-there : {t : ℕ → Node} {n : ℕ} {goals G G₁ m : List ℕ} {l h : ℕ} → Forked t n goals G G₁ l → n ≤ mostNodes → Slots n m → h ≡ suc (length G₁) → There m h
-slot-there f few s e = omega (arith, s .size, fork-room f)
+pub slot-there : {t : ℕ → Node} {n : ℕ} {goals G G₁ m : List ℕ} {l h : ℕ} → Forked t n goals G G₁ l → Slots n m → h ≡ suc (length G₁) → There m h
+slot-there f s e = omega (arith, s .size, fork-room f)
 
 -- that of the last conflict
 pub closed-there : {t : ℕ → Node} {n d : ℕ} {goals w m w′ k′ m′ : List ℕ} {r : Ended} {k : ℕ} → Jumps t n goals d w m w′ k′ m′ r → k ≡ behind (gOf w′) → There m′ k

@@ -98,7 +98,7 @@ search-put-only-requires t c κs =
     let p = s .pre .1 in
     let f = jump-forked (at-propagate .propagate .ensures) (s .args .d) (p .0 .table) (p .1 .0 .below) (at-stop .stop .given .1) in
     let h = add-one (at-count .count .result) ∙ ap suc (at-count .count .ensures) in
-    slot-there f (p .0 .few) (at-propagate .propagate .ensures .sets) h
+    slot-there f (at-propagate .propagate .ensures .sets) h
 
 search-fork-requires : (t : ℕ) → search-lts.Need-fork-requires (search-claims t) (search-at t) search′.Post
 search-fork-requires t c κs =
@@ -225,7 +225,7 @@ search-put-less-requires t c κs =
     let h = add-one (at-count .count .result) ∙ ap suc (at-count .count .ensures) in
     let h₃ = add-one (at-count2 .count2 .result) ∙ ap suc (at-count2 .count2 .ensures) in
     let a = at-search .search .ensures in
-    ((slot-there f (p .0 .few) (a .sets) h, closed-there a h₃), rests-on (s .args .d) _ (sym (at-without .without .ensures) ∙ c .before .before .before .before .before .before .before .if1 .left))
+    ((slot-there f (a .sets) h, closed-there a h₃), rests-on (s .args .d) _ (sym (at-without .without .ensures) ∙ c .before .before .before .before .before .before .before .if1 .left))
 
 search-negated-requires : (t : ℕ) → search-lts.Need-negated-requires (search-claims t) (search-at t) search′.Post
 search-negated-requires t c κs =

@@ -51,7 +51,7 @@ loop-again c =
     let e = picked-next (p .0 .few) (p .1 .0) (r .run .holds) (c .before .before .before .before .before .before .before .before .loop .inv .1 (c .before .before .before .before .before .before .before .if1 .taken)) .1 in
     let a = c .before .before .before .before .join in
     let S = stepped-blank (p .0 .few) (r .run .holds) e (a .ensures .0) (a .ensures .1 .0) in
-    (rested-stepped r (p .0 .few) (p .0 .table) (p .1 .0 .below) S (a .kept .1 .1 .1 .0) (a .kept .1 .1 .1 .1 .0), a .ensures .1 .1 .picks)
+    (rested-stepped r (p .0 .table) (p .1 .0 .below) S (a .kept .1 .1 .1 .0) (a .kept .1 .1 .1 .1 .0), a .ensures .1 .1 .picks)
 
 next-move-requires : tie.Need-next-move-requires Inv-loop μ-loop
 next-move-requires c κs =
@@ -73,7 +73,7 @@ returns c =
     let v = c .before .before .before .before .next-move in
     let r = rested-looked (c .before .before .before .before .before .before .before .before .loop .inv .0) (v .ensures .1 .0) (v .ensures .1 .1 .0) (v .kept .1 .1 .1 .0) in
     let e = looked (r .run .holds) (v .ensures .0) (v .ensures .1 .1 .0) (c .enum-told .given .1) in
-    rested-conflict r (p .0 .few) e (conflict-blank (p .0 .few) (r .run .holds) _)
+    rested-conflict r e (conflict-blank (p .0 .few) (r .run .holds) _)
 
 enum-known-m : tie.Need-enum-known-m Inv-loop μ-loop
 enum-known-m c = search needs
@@ -110,7 +110,7 @@ loop-again-2 c =
     let e = looked (r .run .holds) (v .ensures .0) (v .ensures .1 .1 .0) g in
     let a = c .before .before .before .before .before .before .before .assume in
     let S = stepped-blank (p .0 .few) (r .run .holds) e (a .ensures .0) (a .ensures .1) in
-    (rested-stepped r (p .0 .few) (p .0 .table) (p .1 .0 .below) S (a .kept .1 .1 .1 .0) (a .kept .1 .1 .1 .1 .0), c .pick2 .ensures .0)
+    (rested-stepped r (p .0 .table) (p .1 .0 .below) S (a .kept .1 .1 .1 .0) (a .kept .1 .1 .1 .1 .0), c .pick2 .ensures .0)
 
 enum-told-2 : tie.Need-enum-told-2 Inv-loop μ-loop
 enum-told-2 c = search needs

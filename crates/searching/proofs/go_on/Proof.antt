@@ -32,12 +32,15 @@ same-length-2 c = omega (arith, c .before .before .before .before .search .kept 
 
 returns : tie.Need-returns
 returns c =
-    let p = c .before .before .before .before .before .before .before .before .before .before .before .before .before .before .before .before .before .pre in
+    let at-search = c .before .before .before .before in
+    let at-clear = at-search .before .before .before .before .before .before in
+    let at-count = at-clear .before .before in
+    let p = at-count .before .before .before .before .before .pre in
     let q = p .1 .1 .0 .1 in
-    let low = held-most (q .holds) in
-    let none = cleared-same (c .before .before .before .before .before .before .before .before .before .before .before .before .count .result) (omega (arith, low, p .0 .few, c .before .before .before .before .before .before .before .before .before .before .before .before .count .ensures)) (c .before .before .before .before .before .before .before .before .before .before .clear .ensures) in
-    let done = c .before .before .before .before .search .ensures in
-    (counted-whole {m = blank} (q .same) (jumps-from {m = blank} (λ i h. none i (omega (arith, h, c .before .before .before .before .before .before .before .before .before .before .before .before .count .ensures))) done), done .sets)
+    let n = at-count .count in
+    let none = cleared-same (n .result) (omega (arith, held-most (q .holds), p .0 .few, n .ensures)) (at-clear .clear .ensures) in
+    let done = at-search .search .ensures in
+    (counted-whole {m = blank} (q .same) (jumps-from {m = blank} (λ i h. none i (omega (arith, h, n .ensures))) done), done .sets)
 
 pub go-on-spec : {M : Type 1} → statement M
 go-on-spec =

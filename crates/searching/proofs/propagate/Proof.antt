@@ -119,7 +119,7 @@ loop-again c =
     let to = add-one (at-count .count .result) ∙ ap suc (at-count .count .ensures) in
     let S = aimed-stepped r (p .0 .few) (p .1 .0) (L .picks) (at-aim .aim .ensures) (at-if1 .if1 .left) to (at-put-clause .put-clause .ensures)
     (at-if2 .if2 .left) (a .ensures .0) (a .ensures .1 .0) in
-    (rested-stepped r (p .0 .few) (p .0 .table) (p .1 .0 .below) S (a .kept .1 .1 .1 .0) (a .kept .1 .1 .1 .1 .0), a .ensures .1 .1)
+    (rested-stepped r (p .0 .table) (p .1 .0 .below) S (a .kept .1 .1 .1 .0) (a .kept .1 .1 .1 .1 .0), a .ensures .1 .1)
 
 pub propagate-spec : {M : Type 1} → statement M
 propagate-spec =
