@@ -2,7 +2,7 @@
 use mathlib.Core.Path.{_≡_, sym, ap, _∙_}
 use mathlib.Core.Logic.{_⊎_, inl, inr}
 use mathlib.Core.List.{List, []}
-use Prim.Native.Nat.{ℕ, _+_, _*_, _/_, _<_, _≤_}
+use Prim.Native.Nat.{ℕ, _*_, _/_, _<_, _≤_}
 use native.Mathlib.Nat.{zero-add}
 use native.Mathlib.Omega.{arith}
 use lib.ListN.{length}
@@ -15,7 +15,6 @@ use Rattle.scope.proofs.Operands.{operands-none}
 use Rattle.scope.proofs.Lists.{length-listFrom, getD-listFrom}
 use Rattle.codec.specs.Valid.{Bytes}
 use Rattle.codec.proofs.Tables.{few-records}
-use Rattle.record.specs.Place.{placeOf}
 use Rattle.table.proofs.Rows.{counted, record-within}
 use Rattle.calculus.specs.Expansion.{expand}
 use Rattle.calculus.specs.Order.{tree, possible, answerOf, settingOf}
@@ -29,7 +28,7 @@ use Rattle.calculus.proofs.Search.{grown-whole}
 use Rattle.calculus.proofs.Asked.{list-met, by-fine}
 use Rattle.index.specs.Index.{indexSize, mostNodes, mostLiterals, indexNode, Codes, Classes}
 use Rattle.index.specs.Edges.{Edges}
-use Rattle.index.specs.Built.{Early, Built}
+use Rattle.index.specs.Built.{Early, Records, Built}
 use Rattle.index.specs.Marks.{bare, Pruned}
 use Rattle.index.specs.Indexed.{Indexed}
 use Rattle.asking.specs.Asks.{Prepared}
@@ -66,16 +65,16 @@ module _ (t : List ℕ) {nodes : ℕ} (e : tableCount t ≡ answer nodes) where
     whole = rw (size-in t nodes) at (table-of t (nodesIn t nodes) all nodes-read)
 
     -- an index of the first m nodes may be built
-    pub buildable-few : (m : ℕ) → m ≤ nodes → (m ≤ mostNodes) × ((i : ℕ) → i < m → placeOf i + 8 ≤ length t) × Early (nodeAt t) m
+    pub buildable-few : (m : ℕ) → m ≤ nodes → (m ≤ mostNodes) × Records t m × Early (nodeAt t) m
     buildable-few m l =
         let c = counted t e in (
           omega (arith, few),
-          λ i h. record-within t all (c .0) i (omega (arith, c .1)),
+          λ i h. (record-within t all (c .0) i (omega (arith, c .1)), (rw (node-of i (omega arith)) at (whole .kinds i (omega arith))) .0),
           λ i h. rw (node-of i (omega arith)) at (whole .earlier i (omega arith)),
         )
 
     -- .. and of all
-    pub buildable : (nodes ≤ mostNodes) × ((m : ℕ) → m < nodes → placeOf m + 8 ≤ length t) × Early (nodeAt t) nodes
+    pub buildable : (nodes ≤ mostNodes) × Records t nodes × Early (nodeAt t) nodes
     buildable = buildable-few nodes (omega arith)
 
     -- an index that has a node or a TRUE in its place

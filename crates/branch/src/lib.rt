@@ -30,7 +30,7 @@ fn row_of(x: &[u16], n: usize, l: u16) -> usize
     requires { ⌜ l < 2 * n ⌝ }
     ensures { λ r. ⌜ (r ≡ 2 * indexNode (now (x .entry)) (l / 2) .kind + l % 2) × (r < 18) ⌝ }
 {
-    let kind = x[4 * ((l / 2) as usize)];
+    let kind = x[4 * ((l / 2) as usize)] + 1;
     (2 * kind + l % 2) as usize
 }
 

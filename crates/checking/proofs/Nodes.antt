@@ -1,12 +1,11 @@
 -- The nodes of a table that was counted, as they are loaded, and what the rules then work on. Assumes nothing.
 use mathlib.Core.Path.{_≡_, sym, ap, _∙_}
 use mathlib.Core.List.{List}
-use Prim.Native.Nat.{ℕ, _+_, _*_, _/_, _%_, _<_}
+use Prim.Native.Nat.{ℕ, _+_, _/_, _%_, _<_}
 use native.Mathlib.Nat.{zero-add}
 use native.Mathlib.Omega.{arith}
 use native.Mathlib.Decide.{decLt}
-use lib.ListN.{length, getD, set, length-set}
-use lib.Seq.{getD-set-same, getD-set-other}
+use lib.ListN.{length, length-set}
 use borrow.Author.Count.{below-more}
 use Rattle.scope.specs.declared.Node.{Node}
 use Rattle.scope.specs.Outcome.{answer}
@@ -19,7 +18,8 @@ use Rattle.calculus.specs.Model.{Goals}
 use Rattle.calculus.specs.Decide.{nodesOf, listRow, asked, Admitted}
 use Rattle.calculus.proofs.Same.{table-same}
 use Rattle.calculus.proofs.Asked.{list-met, by-fine}
-use Rattle.index.specs.Index.{mostNodes, indexNode}
+use Rattle.index.specs.Index.{mostNodes, indexNode, stored}
+use Rattle.index.proofs.Nodes.{node-same, stored-other, stored-node}
 use Rattle.branch.specs.Holds.{nodeCells, Indexed}
 use Rattle.asking.proofs.Nodes.{nodesIn, size-in, nodes-read, few}
 use Rattle.asking.proofs.Models.{table-of}
@@ -38,63 +38,18 @@ next-block m at p q =
     last (yes h) = absurd (omega (arith, p, q, h))
     last (no h) = omega (arith, p, q, h)
 
--- ---- node m is written
+-- ---- node m is stored
 
-abbrev withA : List ℕ → ℕ → Node → List ℕ
-withA x m y = set (set x (4 * m) (y .kind)) (4 * m + 1) (y .a)
-
-abbrev withB : List ℕ → ℕ → Node → List ℕ
-withB x m y = set (withA x m y) (4 * m + 2) (y .b)
-
-abbrev written : List ℕ → ℕ → Node → List ℕ
-written x m y = set (withB x m y) (4 * m + 3) (y .c)
-
-module _ (x : List ℕ) (m : ℕ) (y : Node) (h : m < mostNodes) (z : length x ≡ nodeCells) where
-  -- a place before the node's
-  written-before : (i : ℕ) → i < 4 * m → getD (written x m y) i 0 ≡ getD x i 0
-  written-before i l =
-      getD-set-other (withB x m y) (4 * m + 3) i (y .c) 0 (λ q. omega (arith, q))
-      ∙ getD-set-other (withA x m y) (4 * m + 2) i (y .b) 0 (λ q. omega (arith, q))
-      ∙ getD-set-other (set x (4 * m) (y .kind)) (4 * m + 1) i (y .a) 0 (λ q. omega (arith, q))
-      ∙ getD-set-other x (4 * m) i (y .kind) 0 (λ q. omega (arith, q))
-
-  written-kind : getD (written x m y) (4 * m) 0 ≡ y .kind
-  written-kind =
-      getD-set-other (withB x m y) (4 * m + 3) (4 * m) (y .c) 0 (λ q. omega (arith, q))
-      ∙ getD-set-other (withA x m y) (4 * m + 2) (4 * m) (y .b) 0 (λ q. omega (arith, q))
-      ∙ getD-set-other (set x (4 * m) (y .kind)) (4 * m + 1) (4 * m) (y .a) 0 (λ q. omega (arith, q))
-      ∙ getD-set-same x (4 * m) (y .kind) 0 (omega arith)
-
-  written-a : getD (written x m y) (4 * m + 1) 0 ≡ y .a
-  written-a =
-      getD-set-other (withB x m y) (4 * m + 3) (4 * m + 1) (y .c) 0 (λ q. omega (arith, q))
-      ∙ getD-set-other (withA x m y) (4 * m + 2) (4 * m + 1) (y .b) 0 (λ q. omega (arith, q))
-      ∙ getD-set-same (set x (4 * m) (y .kind)) (4 * m + 1) (y .a) 0 (simp length-set (omega arith))
-
-  written-b : getD (written x m y) (4 * m + 2) 0 ≡ y .b
-  written-b =
-      getD-set-other (withB x m y) (4 * m + 3) (4 * m + 2) (y .c) 0 (λ q. omega (arith, q))
-      ∙ getD-set-same (withA x m y) (4 * m + 2) (y .b) 0 (simp length-set (omega arith))
-
-  written-c : getD (written x m y) (4 * m + 3) 0 ≡ y .c
-  written-c = getD-set-same (withB x m y) (4 * m + 3) (y .c) 0 (simp length-set (omega arith))
-
-  written-node : indexNode (written x m y) m ≡ y
-  unfolding indexNode
-  written-node = rw (written-kind, written-a, written-b, written-c)
-
-  written-old : (k : ℕ) → k < m → indexNode (written x m y) k ≡ indexNode x k
-  unfolding indexNode
-  written-old k l =
-      rw (written-before (4 * k) (omega arith), written-before (4 * k + 1) (omega arith), written-before (4 * k + 2) (omega arith), written-before (4 * k + 3) (omega arith))
+stored-old : (x : List ℕ) (m : ℕ) (y : Node) (k : ℕ) → k < m → indexNode (stored x m y) k ≡ indexNode x k
+stored-old x m y k l = node-same x (stored x m y) m k (λ i h. stored-other x m y i (λ a b. omega (arith, a, h))) l
 
 pub loaded-none : (t x : List ℕ) → length x ≡ nodeCells → Loaded t 0 x
 loaded-none t x z = record { size = z; nodes = λ m h. absurd (omega (arith, h)) }
 
-pub loaded-more : (t x : List ℕ) (m : ℕ) (y : Node) → m < mostNodes → y ≡ nodeAt t m → Loaded t m x → Loaded t (m + 1) (written x m y)
-loaded-more t x m y h e L = record {
+pub loaded-more : (t x : List ℕ) (m : ℕ) (y : Node) → m < mostNodes → 0 < y .kind → y ≡ nodeAt t m → Loaded t m x → Loaded t (m + 1) (stored x m y)
+loaded-more t x m y h p e L = record {
   size = simp length-set (L .size);
-  nodes = below-more _ m (λ k l. written-old x m y h (L .size) k l ∙ L .nodes k l) (written-node x m y h (L .size) ∙ e);
+  nodes = below-more _ m (λ k l. stored-old x m y k l ∙ L .nodes k l) (stored-node x m y (omega (arith, h, L .size)) p ∙ e);
 }
 
 -- ---- goals that no row refuses, and the nodes of their table

@@ -9,6 +9,7 @@ ghost use mathlib.Core.Path.{_≡_};
 ghost use Prim.Native.Nat.{ℕ, _+_, _<_, _≤_};
 ghost use lib.ListN.{length};
 ghost use Rattle.index.specs.Index.{mostNodes, indexNode};
+ghost use Rattle.index.specs.Built.{Recorded, Records};
 ghost use Rattle.area.specs.Area.{areaSize};
 ghost use Rattle.branch.specs.Holds.{nodeCells, Indexed, Goals};
 ghost use Rattle.steps.specs.Opened.{placeOf};
@@ -17,7 +18,7 @@ ghost use Rattle.rules.specs.Rules.{accepts};
 ghost use Rattle.scope.specs.Table.{listFrom};
 ghost use Rattle.calculus.specs.Expansion.{expand};
 ghost use Rattle.checking.specs.Checks.{checkedOf, Replayed, Checks};
-ghost use Rattle.checking.specs.Nodes.{Placed, Inside, Loaded};
+ghost use Rattle.checking.specs.Nodes.{Placed, Loaded};
 
 // What check answers.
 pub enum Checked {
@@ -63,14 +64,14 @@ fn replayed(x: &[u16], n: usize, goals: &[u16], work: &mut [u16], d: &[u8]) -> C
 
 // Node m is read from its record, which is at a place of the table.
 fn load_node(t: &[u8], x: &mut [u16], m: usize, at: usize)
-    requires { ⌜ (m < mostNodes) × Placed m at × (at + 8 ≤ length (now t)) ⌝ }
+    requires { ⌜ (m < mostNodes) × Placed m at × Recorded (now t) m ⌝ }
     requires { ⌜ Loaded (now t) m (now x) ⌝ }
     ensures { λ _. ⌜ Loaded (now (t .entry)) (m + 1) (now (x .exit)) ⌝ }
 {
     let end = at + 8;
     let node = record::fields(&t[at..end]);
     let s = 4 * m;
-    x[s] = node.kind as u16;
+    x[s] = node.kind as u16 - 1;
     x[s + 1] = node.a;
     x[s + 2] = node.b;
     x[s + 3] = node.c;
@@ -90,7 +91,7 @@ fn place_after(m: usize, at: usize) -> usize
 
 // The nodes are read from the table: the rules need no edges between them.
 fn load(t: &[u8], nodes: usize, x: &mut [u16])
-    requires { ⌜ (nodes ≤ mostNodes) × Inside (now t) nodes × (length (now x) ≡ nodeCells) ⌝ }
+    requires { ⌜ (nodes ≤ mostNodes) × Records (now t) nodes × (length (now x) ≡ nodeCells) ⌝ }
     ensures { λ _. ⌜ Loaded (now (t .entry)) nodes (now (x .exit)) ⌝ }
 {
     let mut m = 0;

@@ -23,7 +23,7 @@ use Rattle.index.specs.Codes.{numbered, opposite, choiceValue, stateBy, rowStat
 use Rattle.index.specs.Index.{codesAt, mostLiterals, indexNode}
 use Rattle.index.specs.Indexed.{Indexed}
 use Rattle.index.proofs.Nodes.{operand-cell, operand-low}
-use Rattle.clause.specs.Coded.{rowPlace, statesOf, Choice, Coded}
+use Rattle.clause.specs.Coded.{kindsAt, rowPlace, statesOf, Choice, Coded}
 use Rattle.clause.proofs.Rows.{Chooses, of-operand, choice-few}
 use Rattle.clause.proofs.States.{renamed, Right, states-renamed, one-kept, empty-kept, open-kept, one-open, first-most, first-has, some-renamed, first-renamed, literal-renamed, state-has}
 
@@ -261,25 +261,36 @@ module _ {x : List ℕ} {n : ℕ} (I : Indexed x n) (G : List ℕ) (good : Good 
   pub third-few : 6 < own .kind → getD x (4 * m + 3) 0 < mostLiterals
   third-few k = omega (arith, operand-low x n m 2 (I .table) (h .0) (omega (arith, arity-three (own .kind) k)), h .0, I .few)
 
-  -- the same at the place that the values lead to
+  -- the same at the place that the values lead to, where the row is counted from TRUE's on
   module _ {i : ℕ} (e : i ≡ rowPlace own sign G) where
-    low-a : valueCode (valueOf G (own .a)) < 3
-    low-a = code-low (valueOf G (own .a))
+    lows : (valueCode (valueOf G (own .a)) < 3) × (valueCode (valueOf G (own .b)) < 3)
+    lows = (code-low (valueOf G (own .a)), code-low (valueOf G (own .b)))
 
-    low-b : valueCode (valueOf G (own .b)) < 3
-    low-b = code-low (valueOf G (own .b))
+    place : 9 * (2 * own .kind + sign) + (3 * valueCode (valueOf G (own .a)) + valueCode (valueOf G (own .b))) ≡ 18 + i
+    place = omega (arith, e, I .table .kinds m (h .0) .0)
 
-    pub place-two : i < pairCodes → Reads i
+    -- what is read behind the codes of kind 0
+    abbrev From : ℕ → Type 0
+    From i = Coded own (statesOf (indexNode x) G (2 * m + sign)) (getD x (kindsAt + i) 0)
+
+    from : (i : ℕ) → Reads (18 + i) → From i
+    from i r =
+        let q : codesAt + (18 + i) ≡ kindsAt + i = omega arith in
+        rw q at r
+
+    pub place-two : i < 108 → From i
     unfolding indexNode
-    place-two k = rw e (pair-right refl (refl, low-a) (refl, low-b) (omega (arith, k, e)))
+    place-two k = from i (rw place at (pair-right refl (refl, lows .0) (refl, lows .1) (omega (arith, k, place))))
 
-    pub place-kind : pairCodes ≤ i → 6 < own .kind
-    place-kind k = omega (arith, k, e, h .1, low-a, low-b)
+    pub place-kind : 108 ≤ i → 6 < own .kind
+    place-kind k = omega (arith, k, place, h .1, lows)
 
     module _ (k : 6 < own .kind) where
-      pub place-within : (pairCodes ≤ i) × (i < 162)
-      place-within = (omega (arith, k, e), omega (arith, known, h .1, e, low-a, low-b))
+      pub place-within : (108 ≤ i) × (i < 144)
+      place-within = (omega (arith, k, place), omega (arith, known, h .1, place, lows))
 
-      pub place-three : (c : ℕ) → (c ≡ valueIn 2) × (c < 3) → Reads (3 * i + c - 2 * pairCodes)
+      pub place-three : (c : ℕ) → (c ≡ valueIn 2) × (c < 3) → From (3 * i + c - 216)
       unfolding indexNode
-      place-three c ec = rw e (three-right refl (refl, low-a) (refl, low-b) k c ec)
+      place-three c ec =
+          let q : 3 * (18 + i) + c - 2 * pairCodes ≡ 18 + (3 * i + c - 216) = omega (arith, place-within) in
+          from (3 * i + c - 216) (rw (place, q) at (three-right refl (refl, lows .0) (refl, lows .1) k c ec))

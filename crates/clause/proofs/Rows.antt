@@ -112,8 +112,11 @@ module _ {x : List ℕ} {n l j : ℕ} (I : Indexed x n) (p : (l < 2 * n) × (j <
   literals-are : (k : ℕ) → length choices ≡ k → map (chosen node) (listFrom (at choices) 0 k) ≡ getD (expand t l) j []
   literals-are k e = sym (chosen-clause ∙ ap (map (chosen node)) (list-is choices ∙ ap (listFrom (at choices) 0) e))
 
+  kinds : (0 < node .kind) × (node .kind < 9)
+  kinds = I .table .kinds (l / 2) (omega arith)
+
   chooses : All (Chooses node) choices
-  chooses = all-getD (All (Chooses node)) row-of j [] tt (row-within (node .kind) (l % 2) (I .table .kinds (l / 2) (omega arith) .1) (omega arith))
+  chooses = all-getD (All (Chooses node)) row-of j [] tt (row-within (node .kind) (l % 2) (kinds .1) (omega arith))
 
   short : Short choices
   unfolding clauses
@@ -124,14 +127,20 @@ module _ {x : List ℕ} {n l j : ℕ} (I : Indexed x n) (p : (l < 2 * n) × (j <
   low = all-imply (Chooses node) (λ m. m < 6) (choice-few node) choices chooses
 
   -- a number of the row that was read
-  module _ {row : ℕ} (e : (row ≡ 2 * node .kind + l % 2) × (row < 18)) where
+  module _ {from : ℕ} (o : (from ≡ 2 * (node .kind - 1) + l % 2) × (from < 16)) where
+    abbrev row : ℕ
+    row = from + 2
+
     cell-is : (i column r : ℕ) → i < 3 → column ≡ 3 * j + i → r ≡ cell row column → r ≡ at choices i
     unfolding rows templates
     cell-is i column r h q p =
-        p ∙ ap (λ (c : List ℕ). getD c column 0) (getD-map (λ cs. listFrom (choiceAt cs) 0 9) templates row [] [] (e .1))
+        p ∙ ap (λ (c : List ℕ). getD c column 0) (getD-map (λ cs. listFrom (choiceAt cs) 0 9) templates row [] [] (omega (arith, o .1)))
         ∙ getD-listFrom (choiceAt (getD templates row [])) 9 0 column 0 (omega (arith, j-most)) ∙ ap (choiceAt (getD templates row [])) (zero-add column)
-        ∙ ap (λ (s : ℕ). choiceAt (getD templates s []) column) (e .0) ∙ same
+        ∙ ap (λ (s : ℕ). choiceAt (getD templates s []) column) is ∙ same
       where
+        is : row ≡ 2 * node .kind + l % 2
+        is = omega (arith, o .0, kinds .0)
+
         d : column / 3 ≡ j
         d = omega arith
 

@@ -1,7 +1,7 @@
 // The clauses of a literal by TEMPLATES, and what they come to: its code, under the values of its node's operands, and its class, by an edge.
 ghost use mathlib.Core.Path.{_≡_};
 ghost use mathlib.Core.List.{[]};
-ghost use Prim.Native.Nat.{_+_, _*_, _/_, _≤_, _<_};
+ghost use Prim.Native.Nat.{_+_, _-_, _*_, _/_, _≤_, _<_};
 ghost use lib.ListN.{length, getD};
 ghost use Rattle.calculus.specs.Expansion.{neg, chosen, expand};
 ghost use Rattle.calculus.specs.Order.{holds, valueOf};
@@ -59,15 +59,15 @@ const TEMPLATES: [[u8; 9]; 18] = [
 // A choice above this is of no operand.
 const LAST_CHOICE: u8 = 5;
 
-// Where the index has the edges, the codes and the classes (crate index), and the work area the trail and in it the values of the literals
-// (crate state).
+// Where the index has the edges, the classes and, from those of TRUE on, the codes (crate index), and the work area the trail and in it the
+// values of the literals (crate state).
 const EDGES: usize = 14112;
 
 const CLASSES_AT: usize = 22410;
 
-const CODES_AT: usize = 22176;
+const CODES_AT: usize = 22194;
 
-const PAIR_CODES: usize = 126;
+const PAIR_CODES: usize = 108;
 
 const TRAIL: usize = 4;
 
@@ -97,11 +97,11 @@ fn template(templates: &[[u8; 9]; 18], row: usize, column: usize) -> u8
     templates[row][column]
 }
 
-// The row of a literal of a node.
+// The row of a literal of a node, from TRUE's on.
 fn row_of(x: &[u16], n: usize, node: usize, sign: usize) -> usize
     requires { ⌜ Indexed (now x) n ⌝ }
     requires { ⌜ (node < n) × (sign < 2) ⌝ }
-    ensures { λ r. ⌜ (r ≡ 2 * indexNode (now (x .entry)) node .kind + sign) × (r < 18) ⌝ }
+    ensures { λ r. ⌜ (r ≡ 2 * (indexNode (now (x .entry)) node .kind - 1) + sign) × (r < 16) ⌝ }
 {
     2 * (x[4 * node] as usize) + sign
 }
@@ -124,7 +124,7 @@ pub fn clause_of(templates: &[[u8; 9]; 18], x: &[u16], n: usize, l: u16, j: usiz
     ensures { λ r. ⌜ literals r ≡ getD (expand (indexNode (now (x .entry))) l) j [] ⌝ }
 {
     let node = (l / 2) as usize;
-    let row = row_of(x, n, node, (l % 2) as usize);
+    let row = row_of(x, n, node, (l % 2) as usize) + 2;
     let a = template(templates, row, 3 * j);
     if LAST_CHOICE < a {
         return Clause {

@@ -52,7 +52,7 @@ fn literal_size(x: &[u16], n: usize, l: u16) -> usize
     requires { ⌜ l < 2 * n ⌝ }
     ensures { λ r. ⌜ Lengths (indexNode (now (x .entry))) l r ⌝ }
 {
-    let row = 2 * x[4 * (l / 2) as usize] as usize + (l % 2) as usize;
+    let row = 2 * (x[4 * (l / 2) as usize] as usize + 1) + (l % 2) as usize;
     ((SIZES >> (2 * row)) % 4) as usize
 }
 

@@ -22,6 +22,9 @@ pub enum Decided {
     Refused(Refusal),
 }
 
+// One less than the kind of an ATOM, as an index has it.
+const ATOM: u16 = 1;
+
 // All points may go either way.
 fn clear(settings: &mut [u8])
     requires { ⌜ 1024 ≤ length (now settings) ⌝ }
@@ -41,7 +44,7 @@ fn set_point(x: &[u16], settings: &mut [u8], l: u16)
     ensures { λ _. ⌜ now (settings .exit) ≡ pointSet (indexNode (now (x .entry)) (l / 2)) l (now (settings .entry)) ⌝ }
 {
     let s = 4 * ((l / 2) as usize);
-    if x[s] != 2 {
+    if x[s] != ATOM {
         return;
     }
     let point = x[s + 1] as usize;

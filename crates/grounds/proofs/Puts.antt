@@ -1,7 +1,7 @@
 -- The sets that the code puts together are those of the operands that a clause has. Assumes nothing.
 use mathlib.Core.Path.{_≡_, ap, sym, _∙_}
 use mathlib.Core.List.{List}
-use Prim.Native.Nat.{ℕ, _+_, _*_, _/_, _%_, _^_, _<_, _≤_}
+use Prim.Native.Nat.{ℕ, _+_, _-_, _*_, _/_, _%_, _^_, _<_, _≤_}
 use native.Mathlib.Omega.{arith}
 use native.Mathlib.Decide.{decLt}
 use lib.ListN.{length, getD}
@@ -115,7 +115,11 @@ module _ {x w m : List ℕ} {n to : ℕ} (I : Indexed x n) (R : Ready n w) (O : 
   column-few c = omega (arith, c, expand-few (indexNode x) l)
 
   abbrev row : ℕ
-  row = 2 * indexNode x (l / 2) .kind + l % 2
+  row = 2 * getD x (4 * (l / 2)) 0 + l % 2
+
+  row-is : 2 * (indexNode x (l / 2) .kind - 1) + l % 2 ≡ row
+  unfolding indexNode
+  row-is = omega arith
 
   abbrev clause : Rests
   clause = over m (tail w) (indexNode x (l / 2)) (restAt m (q + 1)) (operandsIn (indexNode x) l j)
@@ -123,13 +127,13 @@ module _ {x w m : List ℕ} {n to : ℕ} (I : Indexed x n) (R : Ready n w) (O : 
   -- a row of clauses of one literal
   module _ (e : singles / 2 ^ row % 2 ≡ 1) (c : j < length (expand (indexNode x) l)) where
     pub single-low : j < arity (indexNode x (l / 2) .kind)
-    single-low = rw (eq-eqb (singles / 2 ^ row % 2) 1 e) at (all-within (indexNode x) l j literal-kind c) .0
+    single-low = rw (row-is, eq-eqb (singles / 2 ^ row % 2) 1 e) at (all-within (indexNode x) l j literal-kind c) .0
 
     pub put-single : {a : ℕ} {m′ : List ℕ} → a ≡ slotOf (tail w) (getD x (4 * (l / 2) + (1 + j)) 0) → Put m to (both (restAt m a) (restAt m (q + 1))) m′ → Put m to clause m′
     unfolding over
     put-single {a} ea u =
-        put-as (rw (eq-eqb (singles / 2 ^ row % 2) 1 e, set-of I (l / 2) literal-node m (tail w) j a single-low ea)) u
+        put-as (rw (row-is, eq-eqb (singles / 2 ^ row % 2) 1 e, set-of I (l / 2) literal-node m (tail w) j a single-low ea)) u
 
   pub put-others : {m′ : List ℕ} → (singles / 2 ^ row % 2 ≡ 1 → ⊥)
       → Put m to (over m (tail w) (indexNode x (l / 2)) (restAt m (q + 1)) (upTo (arity (indexNode x (l / 2) .kind)))) m′ → Put m to clause m′
-  put-others e u = put-as (rw (ne-eqb (singles / 2 ^ row % 2) 1 e)) u
+  put-others e u = put-as (rw (row-is, ne-eqb (singles / 2 ^ row % 2) 1 e)) u

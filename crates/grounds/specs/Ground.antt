@@ -2,7 +2,7 @@
 use mathlib.Core.Path.{_≡_}
 use mathlib.Core.Bool.{cond}
 use mathlib.Core.List.{List, [], _∷_}
-use Prim.Native.Nat.{ℕ, _+_, _*_, _/_, _%_, _^_, _<_}
+use Prim.Native.Nat.{ℕ, _+_, _-_, _*_, _/_, _%_, _^_, _<_}
 use lib.Dec.{eqb}
 use lib.ListN.{length, getD}
 use Rattle.scope.specs.declared.Node.{Node}
@@ -22,12 +22,13 @@ slotOf r l = (entryOf r (l / 2) + 1) / 2
 abbrev pub upTo : ℕ → List ℕ
 upTo k = listFrom (λ i. i) 0 k
 
--- the rows, 2 × kind + sign, as bits of a number, whose clause j has the operand j alone; each clause of the others has all operands
+-- the rows from TRUE's on, 2 × (kind - 1) + sign, as bits of a number, whose clause j has the operand j alone; each clause of the others has
+-- all operands
 abbrev pub singles : ℕ
-singles = 150080
+singles = 37520
 
 abbrev pub inRow : ℕ → ℕ → ℕ → List ℕ
-inRow kind sign j = cond (eqb (singles / 2 ^ (2 * kind + sign) % 2) 1) (j ∷ []) (upTo (arity kind))
+inRow kind sign j = cond (eqb (singles / 2 ^ (2 * (kind - 1) + sign) % 2) 1) (j ∷ []) (upTo (arity kind))
 
 -- which operands of its node clause j of a literal has
 abbrev pub operandsIn : (ℕ → Node) → ℕ → ℕ → List ℕ

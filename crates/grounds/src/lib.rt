@@ -11,14 +11,14 @@ ghost use Rattle.state.specs.Work.{area, tail, litAt, baseOf, gOf, Ready, Numbe
 ghost use Rattle.rests.specs.Words.{restAt, Put, heldOf};
 ghost use Rattle.grounds.specs.Ground.{slotOf, upTo, operandsIn, over, Room, Grounded};
 
-// The rows, 2 * kind + sign, whose clauses have one literal each, that of operand j in clause j: AND, OR negated, IMP negated, AND of three
+// The rows from TRUE's on, 2 * (kind - 1) + sign, whose clauses have one literal each, that of operand j in clause j: AND, OR negated, IMP negated, AND of three
 // and OR of three negated. Each clause of the other rows has all operands.
-const SINGLES: u64 = 150080;
+const SINGLES: u64 = 37520;
 
 // Kinds below it have no operands; kinds from it on have three.
-const PAIRS: u16 = 3;
+const PAIRS: usize = 3;
 
-const THREES: u16 = 7;
+const THREES: usize = 7;
 
 // The slot of a literal's node: 1 + the position of its literal that is held, or 0 where it is undecided.
 fn slot(n: usize, work: &[u16], l: u16) -> usize
@@ -37,7 +37,7 @@ fn put_all(x: &[u16], n: usize, work: &[u16], rests: &mut [u64], to: usize, q: u
     ensures { λ _. ⌜ Put (now (rests .entry)) to (over (now (rests .entry)) (tail (now (work .entry))) (indexNode (now (x .entry)) node) (restAt (now (rests .entry)) (q + 1)) (upTo (arity (indexNode (now (x .entry)) node .kind)))) (now (rests .exit)) ⌝ }
 {
     let s = 4 * node;
-    let kind = x[s];
+    let kind = x[s] as usize + 1;
     if kind < PAIRS {
         rests::put_both(rests, to, 0, q + 1);
         return;

@@ -1,12 +1,12 @@
 -- Laws of counting the edges and placing them. Assumes nothing.
 use mathlib.Core.Path.{_≡_, refl, sym, ap, _∙_, subst}
 use mathlib.Core.Bool.{Bool, true, false, cond}
-use mathlib.Core.List.{List}
+use mathlib.Core.List.{List, [], _∷_}
 use Prim.Native.Nat.{ℕ, _+_, _*_, _/_, _<_, _≤_}
 use native.Mathlib.Omega.{arith}
 use native.Mathlib.Decide.{ℕ-discrete, decLt}
 use lib.Dec.{ltb}
-use lib.ListN.{length, length-set}
+use lib.ListN.{length, getD, length-set}
 use lib.Seq.{getD-set-same, getD-set-other}
 use borrow.Author.Tests.{lt-ltb, le-ltb}
 use Rattle.scope.specs.declared.Node.{Node}
@@ -101,20 +101,30 @@ module _ {t : ℕ → Node} {n p : ℕ} {x : List ℕ} (few : n ≤ mostNodes) (
       rw (c .nodes p h)
       (counted-as (λ m. sym (sum-next (λ q. pairsIn (t q) m) p)) (λ m. sym (sum-next (λ q. threesIn (t q) m) p)) (counted-by few c (t p) (early-known t n early p h)))
 
--- what is before the counts is not changed
-pub count-same : (x : List ℕ) (y : Node) → Same midAt x (countNode x y)
+-- what is none of the counts is not changed
+pub count-other : (x : List ℕ) (y : Node) (i : ℕ) → All (λ l. (i ≡ midAt + l / 2 → ⊥) × (i ≡ endAt + l / 2 → ⊥)) (operands y) → getD (countNode x y) i 0 ≡ getD x i 0
 unfolding countNode
-count-same x y = go (decLt (y .kind) 3) (decLt (y .kind) 7)
+count-other x y i o = go (decLt (y .kind) 3) (decLt (y .kind) 7)
   where
-    raised-same : (w : List ℕ) (i by : ℕ) → midAt ≤ i → Same midAt w (raised w i by)
-    raised-same w i by b j k = getD-set-other w i j _ 0 (λ q. omega (arith, q))
+    go : Dec (y .kind < 3) → Dec (y .kind < 7) → getD (countNode x y) i 0 ≡ getD x i 0
+    go (yes a) b = rw (lt-ltb (y .kind) 3 a)
+    go (no a) (yes b) =
+        let n = rw (operands-two y (omega (arith, a)) b) at o in
+        rw (le-ltb (y .kind) 3 (omega (arith, a)), lt-ltb (y .kind) 7 b)
+        (getD-set-other (raised x (midAt + y .a / 2) 2) (midAt + y .b / 2) i _ 0 (n .1 .0 .0) ∙ getD-set-other x (midAt + y .a / 2) i _ 0 (n .0 .0))
+    go (no a) (no b) =
+        let n = rw (operands-three y (omega (arith, b))) at o in
+        rw (le-ltb (y .kind) 3 (omega (arith, a)), le-ltb (y .kind) 7 (omega (arith, b)))
+        (getD-set-other (raised (raised x (endAt + y .a / 2) 1) (endAt + y .b / 2) 1) (endAt + y .c / 2) i _ 0 (n .1 .1 .0 .1)
+        ∙ getD-set-other (raised x (endAt + y .a / 2) 1) (endAt + y .b / 2) i _ 0 (n .1 .0 .1) ∙ getD-set-other x (endAt + y .a / 2) i _ 0 (n .0 .1))
 
-    go : Dec (y .kind < 3) → Dec (y .kind < 7) → Same midAt x (countNode x y)
-    go (yes a) b = rw (lt-ltb (y .kind) 3 a) (λ i k. refl)
-    go (no a) (yes b) = rw (le-ltb (y .kind) 3 (omega (arith, a)), lt-ltb (y .kind) 7 b) (λ i k.
-        raised-same (raised x (midAt + y .a / 2) 2) (midAt + y .b / 2) 2 (omega arith) i k ∙ raised-same x (midAt + y .a / 2) 2 (omega arith) i k)
-    go (no a) (no b) = rw (le-ltb (y .kind) 3 (omega (arith, a)), le-ltb (y .kind) 7 (omega (arith, b))) (λ i k.
-        raised-same (raised (raised x (endAt + y .a / 2) 1) (endAt + y .b / 2) 1) (endAt + y .c / 2) 1 (omega arith) i k ∙ raised-same (raised x (endAt + y .a / 2) 1) (endAt + y .b / 2) 1 (omega arith) i k ∙ raised-same x (endAt + y .a / 2) 1 (omega arith) i k)
+-- .. as what is before them
+pub count-same : (x : List ℕ) (y : Node) → Same midAt x (countNode x y)
+count-same x y i h = count-other x y i (go (operands y))
+  where
+    go : (ls : List ℕ) → All (λ l. (i ≡ midAt + l / 2 → ⊥) × (i ≡ endAt + l / 2 → ⊥)) ls
+    go [] = tt
+    go (l ∷ ls) = ((λ q. omega (arith, q), λ q. omega (arith, q)), go ls)
 
 pub count-size : (x : List ℕ) (y : Node) → length (countNode x y) ≡ length x
 unfolding countNode

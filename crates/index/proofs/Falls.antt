@@ -5,8 +5,7 @@ use mathlib.Core.List.{List}
 use Prim.Native.Nat.{ℕ, zero, suc, _+_, _*_, _/_, _<_, _≤_}
 use native.Mathlib.Omega.{arith}
 use native.Mathlib.Decide.{ℕ-discrete}
-use lib.ListN.{length, getD, set, length-set}
-use lib.Seq.{getD-set-same, getD-set-other}
+use lib.ListN.{length, getD, length-set}
 use borrow.Author.Tests.{eq-eqb, ne-eqb}
 use Rattle.scope.specs.declared.Node.{Node}
 use Rattle.scope.specs.Table.{operands, nodeAt}
@@ -14,14 +13,15 @@ use Rattle.scope.proofs.Operands.{operands-none}
 use Rattle.calculus.specs.Model.{All, Below}
 use Rattle.calculus.proofs.Lists.{all-imply}
 use Rattle.index.specs.declared.Descent.{Descent}
-use Rattle.index.specs.Index.{indexSize, mostNodes, firstAt, midAt, endAt, indexNode}
+use Rattle.index.specs.Index.{indexSize, mostNodes, firstAt, midAt, endAt, codesAt, indexNode, stored}
 use Rattle.index.specs.Edges.{firstOf, midOf, endOf}
-use Rattle.index.specs.Built.{Early, sum, pairsIn, threesIn, pairsTo, threesTo, Counted, countNode, Chain, Placing}
-use Rattle.index.specs.Marks.{bare, markAll, stored, placedAt, metAt, Wanted, passed, descended, sunk, top, Fits, Over, Zeros}
+use Rattle.index.specs.Built.{Early, Records, sum, pairsIn, threesIn, pairsTo, threesTo, Counted, countNode, Chain, Placing}
+use Rattle.index.specs.Marks.{bare, markAll, placedAt, metAt, Wanted, passed, descended, sunk, top, Fits, Flagged, Zeros}
 use Rattle.index.proofs.Sums.{sum-zero, sum-same, sum-plus, node-four, brings-none, brings-nothing, early-none}
-use Rattle.index.proofs.Counts.{counted-by, count-same}
+use Rattle.index.proofs.Counts.{counted-by, count-same, count-other}
 use Rattle.index.proofs.Chains.{chain-none, chain-more, chain-over, chain-same}
-use Rattle.index.proofs.Marks.{sunk-bare, marks-kept, marks-stand, marks-other, stored-other, placed-other, placed-first, placed-mid, placed-end, marking, marking-size, marking-node, marking-places, Sinking, sinks-none, sinks-passed}
+use Rattle.index.proofs.Nodes.{stored-other}
+use Rattle.index.proofs.Marks.{marks-kept, marks-stand, marks-other, flags-marked, placed-other, placed-first, placed-mid, placed-end, marking, marking-size, marking-node, marking-places, Sinking, sinks-none, sinks-passed}
 
 -- ---- what passing node p, which is then y, does to the places and the counts
 
@@ -63,52 +63,45 @@ fits-moved {p} {d} {y} {x} {d′} {x′} few M f =
     go (inl (e, l)) = omega (arith, l, few)
     go (inr (b, e, l)) = omega (arith, l, f .1)
 
--- the places stand behind the nodes
-bare-cell : (x : List ℕ) (p : ℕ) → p < mostNodes → (i : ℕ) → firstAt ≤ i → getD (set x (4 * p) 1) i 0 ≡ getD x i 0
-bare-cell x p few i h = getD-set-other x (4 * p) i 1 0 (λ q. omega (arith, q))
-
-fits-bare : (p : ℕ) (d : Descent) (x : List ℕ) → p < mostNodes → Fits (suc p) d x → Fits p d (set x (4 * p) 1)
+-- .. for fewer nodes too
+pub fits-fewer : (d : Descent) (x : List ℕ) (r e : ℕ) → r ≤ e → Fits e d x → Fits r d x
 unfolding sum
-fits-bare p d x few f =
-    let other = bare-cell x p few in
-    (omega (arith, f .0, sum-same (counted (set x (4 * p) 1)) (counted x) p (λ i h. omega (arith, other (midAt + i) (omega arith), other (endAt + i) (omega arith)))), f .1)
+fits-fewer d x r zero h f =
+    let z : r ≡ 0 = omega (arith, h) in
+    rw z f
+fits-fewer d x r (suc e) h f = go (λ l. fits-fewer d x r e l (omega (arith, f .0), f .1)) (ℕ-discrete r (suc e))
+  where
+    go : (r ≤ e → Fits r d x) → Dec (r ≡ suc e) → Fits r d x
+    go g (yes q) = rw q f
+    go g (no q) = g (omega (arith, h, q))
 
 -- ---- a node that is not marked
 
-module _ (x : List ℕ) (p : ℕ) (d : Descent) (few : p < mostNodes) (z : length x ≡ indexSize) where
-  abbrev x₀ : List ℕ
-  x₀ = set x (4 * p) 1
-
-  bare-places : (i : ℕ) → firstAt ≤ i → getD x₀ i 0 ≡ getD x i 0
-  bare-places = bare-cell x p few
-
-  bare-kind : indexNode x₀ p .kind < 3
+module _ (x : List ℕ) (p : ℕ) (d : Descent) (e : getD x (4 * p) 0 ≡ 0) where
+  bare-kind : indexNode x p .kind < 3
   unfolding indexNode
-  bare-kind = omega (arith, getD-set-same x (4 * p) 1 0 (omega arith))
+  bare-kind = omega (arith, e)
 
-  moved-bare : firstOf x p ≡ 0 → midOf x p ≡ 0 → endOf x p ≡ 0 → Moved p d (indexNode x₀ p) x d x₀
-  unfolding indexNode
+  moved-bare : firstOf x p ≡ 0 → midOf x p ≡ 0 → endOf x p ≡ 0 → Moved p d (indexNode x p) x d x
   moved-bare a b c = record {
     node = refl;
-    nodes = λ m h l. rw (other (4 * m) (λ q. omega (arith, q)), other (4 * m + 1) (λ q. omega (arith, q)), other (4 * m + 2) (λ q. omega (arith, q)), other (4 * m + 3) (λ q. omega (arith, q)));
-    first-before = λ m h. bare-places (firstAt + m) (omega arith);
-    mid-before = λ m h. omega (arith, bare-places (midAt + m) (omega arith), brings-none (indexNode x₀ p) m bare-kind .0);
-    end-before = λ m h. omega (arith, bare-places (endAt + m) (omega arith), brings-none (indexNode x₀ p) m bare-kind .1);
-    marks = λ m h e. (sym (other (4 * m) (λ q. omega (arith, q))) ∙ e, brings-none (indexNode x₀ p) m bare-kind .0, brings-none (indexNode x₀ p) m bare-kind .1);
-    end = omega (arith, bare-places (endAt + p) (omega arith), bare-places (midAt + p) (omega arith), b, c);
+    nodes = λ m h l. refl;
+    first-before = λ m h. refl;
+    mid-before = λ m h. omega (arith, brings-none (indexNode x p) m bare-kind .0);
+    end-before = λ m h. omega (arith, brings-none (indexNode x p) m bare-kind .1);
+    marks = λ m h e. (e, brings-none (indexNode x p) m bare-kind .0, brings-none (indexNode x p) m bare-kind .1);
+    end = omega (arith, b, c);
     start = λ h. absurd (omega (arith, h, b, c));
-    low = omega (arith, bare-places (midAt + p) (omega arith), b);
+    low = omega (arith, b);
     next = omega (arith, b, c);
-    link = inr (bare-kind, omega (arith, bare-places (midAt + p) (omega arith), bare-places (firstAt + p) (omega arith), a, b), refl);
-    behind = λ m h l. (bare-places (firstAt + m) (omega arith), bare-places (midAt + m) (omega arith), bare-places (endAt + m) (omega arith));
+    link = inr (bare-kind, omega (arith, a, b), refl);
+    behind = λ m h l. (refl, refl, refl);
   }
-    where
-      other : (i : ℕ) → (i ≡ 4 * p → ⊥) → getD x₀ i 0 ≡ getD x i 0
-      other i d = getD-set-other x (4 * p) i 1 0 d
 
 -- ---- a marked node
 
-module _ (t x : List ℕ) (d : Descent) (p : ℕ) (few : p < mostNodes) (z : length x ≡ indexSize) (a : All (λ l. l / 2 < p) (operands (nodeAt t p))) where
+module _ (t x : List ℕ) (d : Descent) (p : ℕ) (few : p < mostNodes) (z : length x ≡ indexSize) (a : All (λ l. l / 2 < p) (operands (nodeAt t p)))
+    (k : 0 < nodeAt t p .kind) where
   abbrev y : Node
   y = nodeAt t p
 
@@ -130,13 +123,13 @@ module _ (t x : List ℕ) (d : Descent) (p : ℕ) (few : p < mostNodes) (z : len
   brings m h = brings-nothing y m (all-imply (λ l. l / 2 < p) (λ l. l / 2 ≡ m → ⊥) (λ l b e. omega (arith, b, e)) (operands y) a)
 
   first-is : (m : ℕ) → m < mostNodes → firstOf x₃ m ≡ firstOf (placedAt x p d) m
-  first-is m h = count-same x₂ y (firstAt + m) (omega arith) ∙ marking-places t x d p few z a (firstAt + m) (omega arith)
+  first-is m h = count-same x₂ y (firstAt + m) (omega arith) ∙ marking-places t x d p few z a (firstAt + m) (omega arith) (omega arith)
 
   mid-is : (m : ℕ) → m < mostNodes → midOf x₃ m ≡ midOf (placedAt x p d) m + pairsIn y m
-  mid-is m h = omega (arith, raises .mid m h, marking-places t x d p few z a (midAt + m) (omega arith))
+  mid-is m h = omega (arith, raises .mid m h, marking-places t x d p few z a (midAt + m) (omega arith) (omega arith))
 
   end-is : (m : ℕ) → m < mostNodes → endOf x₃ m ≡ endOf (placedAt x p d) m + threesIn y m
-  end-is m h = omega (arith, raises .end m h, marking-places t x d p few z a (endAt + m) (omega arith))
+  end-is m h = omega (arith, raises .end m h, marking-places t x d p few z a (endAt + m) (omega arith) (omega arith))
 
   -- another node's places
   kept : (m : ℕ) → (m ≡ p → ⊥) → m < mostNodes → (firstOf (placedAt x p d) m ≡ firstOf x m) × (midOf (placedAt x p d) m ≡ midOf x m) × (endOf (placedAt x p d) m ≡ endOf x m)
@@ -150,7 +143,7 @@ module _ (t x : List ℕ) (d : Descent) (p : ℕ) (few : p < mostNodes) (z : len
   stays : (i : ℕ) → 4 * p + 4 ≤ i → i < firstAt → getD x₃ i 0 ≡ getD x i 0
   stays i h l =
       count-same x₂ y i (omega arith)
-      ∙ marks-other (stored (placedAt x p d) p y) (operands y) i (all-imply (λ l. l / 2 < p) _ (λ l b q. omega (arith, q, b)) (operands y) a)
+      ∙ marks-other (stored (placedAt x p d) p y) (operands y) i (omega arith) (all-imply (λ l. l / 2 < p) _ (λ l b q. omega (arith, q, b)) (operands y) a)
       ∙ stored-other (placedAt x p d) p y i (λ b c. omega arith)
       ∙ placed-other x p d i (λ q. omega (arith, q)) (λ q. omega (arith, q)) (λ q. omega (arith, q))
 
@@ -182,7 +175,7 @@ module _ (t x : List ℕ) (d : Descent) (p : ℕ) (few : p < mostNodes) (z : len
 
   moved-node : Moved p d y x (metAt x d p) x₃
   moved-node = record {
-    node = nodes-at ∙ marking-node t x d p few z a;
+    node = nodes-at ∙ marking-node t x d p few z a k;
     nodes = node-stays;
     first-before = λ m h. first-is m (omega arith) ∙ kept m (λ q. omega (arith, q)) (omega arith) .0;
     mid-before = λ m h. omega (arith, mid-is m (omega arith), kept m (λ q. omega (arith, q)) (omega arith) .1);
@@ -303,10 +296,11 @@ falls-moved {n} {p} {d} {y} {x} {d′} {x′} few h M F = record {
   chained = chain-moved few h M (F .chained);
 }
 
-module _ (t x : List ℕ) (d : Descent) (p : ℕ) (few : p < mostNodes) (z : length x ≡ indexSize) (a : All (λ l. l / 2 < p) (operands (nodeAt t p))) where
+module _ (t x : List ℕ) (d : Descent) (p : ℕ) (few : p < mostNodes) (z : length x ≡ indexSize) (a : All (λ l. l / 2 < p) (operands (nodeAt t p)))
+    (k : 0 < nodeAt t p .kind) where
   pub fits-passed : Wanted x p → Fits (suc p) d x → Fits p (descended x d p) (passed t x d p)
   unfolding passed descended
-  fits-passed w f = rw (ne-eqb (getD x (4 * p) 0) 0 (λ q. omega (arith, q, w))) (fits-moved few (moved-node t x d p few z a) f)
+  fits-passed w f = rw (ne-eqb (getD x (4 * p) 0) 0 (λ q. omega (arith, q, w))) (fits-moved few (moved-node t x d p few z a k) f)
 
   falls-passed : {n : ℕ} → n ≤ mostNodes → p < n → Falling n (suc p) d x → Falling n p (descended x d p) (passed t x d p)
   unfolding passed descended
@@ -315,29 +309,49 @@ module _ (t x : List ℕ) (d : Descent) (p : ℕ) (few : p < mostNodes) (z : len
       go : Dec (getD x (4 * p) 0 ≡ 0) → Falling n p (descended x d p) (passed t x d p)
       go (yes e) =
           let b = F .blank p (omega arith) e in
-          rw (eq-eqb (getD x (4 * p) 0) 0 e) (falls-moved l h (moved-bare x p d few z (F .first p (omega arith)) (b .0) (b .1)) F)
-      go (no e) = rw (ne-eqb (getD x (4 * p) 0) 0 e) (falls-moved l h (moved-node t x d p few z a) F)
+          rw (eq-eqb (getD x (4 * p) 0) 0 e) (falls-moved l h (moved-bare x p d e (F .first p (omega arith)) (b .0) (b .1)) F)
+      go (no e) = rw (ne-eqb (getD x (4 * p) 0) 0 e) (falls-moved l h (moved-node t x d p few z a k) F)
 
--- nodes that are not marked are passed over
-pub over-none : (base end : ℕ) (x : List ℕ) → base ≤ end → length x ≡ indexSize → Over base end x end x
-over-none base end x h z = record { low = h; high = omega arith; size = z; same = λ t d. refl; fits = λ d f. f }
+-- flags stay, and what is marked is flagged
+pub flags-passed : (t x : List ℕ) (d : Descent) (p : ℕ) → p < mostNodes → length x ≡ indexSize → All (λ l. l / 2 < p) (operands (nodeAt t p))
+    → Wanted x p → Flagged (suc p) x → Flagged p (passed t x d p)
+unfolding passed
+flags-passed t x d p few z a w f =
+    rw (ne-eqb (getD x (4 * p) 0) 0 (λ q. omega (arith, q, w)))
+    (λ m h. rw (kept (4 * m) (inl (omega arith)), kept (codesAt + m / 63) (inr (omega arith))) (flags-marked p y (operands (nodeAt t p)) size low (omega arith) before m h))
+  where
+    y : List ℕ
+    y = stored (placedAt x p d) p (nodeAt t p)
 
-pub over-more : (base end e : ℕ) (x₀ x : List ℕ) → e < mostNodes → base ≤ e → Over base end x₀ (suc e) x → getD x (4 * e) 0 ≡ 0 → Over base end x₀ e (set x (4 * e) 1)
-over-more base end e x₀ x few h O b = record {
-  low = h;
-  high = omega (arith, O .high);
-  size = length-set x (4 * e) 1 ∙ O .size;
-  same = λ t d. sunk-bare t x d e b ∙ O .same t d;
-  fits = λ d f. fits-bare e d x few (O .fits d f);
-}
+    size : length y ≡ indexSize
+    size = simp length-set z
+
+    low : All (λ l. l / 2 < mostNodes) (operands (nodeAt t p))
+    low = all-imply (λ l. l / 2 < p) (λ l. l / 2 < mostNodes) (λ l h. omega (arith, h)) (operands (nodeAt t p)) a
+
+    other : (i : ℕ) → (4 * p ≤ i → i < 4 * p + 4 → ⊥) → (i < firstAt) ⊎ (codesAt ≤ i) → getD y i 0 ≡ getD x i 0
+    other i n o = stored-other (placedAt x p d) p (nodeAt t p) i n ∙ go o
+      where
+        go : (i < firstAt) ⊎ (codesAt ≤ i) → getD (placedAt x p d) i 0 ≡ getD x i 0
+        go (inl h) = placed-other x p d i (λ q. omega (arith, q)) (λ q. omega (arith, q)) (λ q. omega (arith, q))
+        go (inr h) = placed-other x p d i (λ q. omega (arith, q)) (λ q. omega (arith, q)) (λ q. omega (arith, q))
+
+    before : Flagged p y
+    before m h = rw (other (4 * m) (λ b c. omega arith) (inl (omega arith)), other (codesAt + m / 63) (λ b c. omega arith) (inr (omega arith))) (f m (omega arith))
+
+    kept : (i : ℕ) → (i < midAt) ⊎ (codesAt ≤ i) → getD (countNode (markAll y (operands (nodeAt t p))) (nodeAt t p)) i 0 ≡ getD (markAll y (operands (nodeAt t p))) i 0
+    kept i (inl h) = count-same (markAll y (operands (nodeAt t p))) (nodeAt t p) i h
+    kept i (inr h) =
+        count-other (markAll y (operands (nodeAt t p))) (nodeAt t p) i
+        (all-imply (λ l. l / 2 < p) (λ l. (i ≡ midAt + l / 2 → ⊥) × (i ≡ endAt + l / 2 → ⊥)) (λ l b. (λ q. omega (arith, q, b), λ q. omega (arith, q, b))) (operands (nodeAt t p)) a)
 
 -- nothing is met
-pub fits-none : (n : ℕ) (x : List ℕ) → n ≤ mostNodes → ((i : ℕ) → firstAt ≤ i → i < indexSize → getD x i 0 ≡ 0) → Fits n (top n) x
+pub fits-none : (n : ℕ) (x : List ℕ) → n ≤ mostNodes → ((i : ℕ) → firstAt ≤ i → i < codesAt → getD x i 0 ≡ 0) → Fits n (top n) x
 fits-none n x few none =
     let e : sum (counted x) n ≡ sum (λ i. 0) n = sum-same (counted x) (λ i. 0) n (λ i h. omega (arith, none (midAt + i) (omega arith) (omega (arith, h, few)), none (endAt + i) (omega arith) (omega (arith, h, few)))) in
     (omega (arith, e, sum-zero (λ i. 0) (λ i. refl) n), few)
 
-falls-none : (n : ℕ) (x : List ℕ) → n ≤ mostNodes → ((i : ℕ) → firstAt ≤ i → i < indexSize → getD x i 0 ≡ 0) → Falling n n (top n) x
+falls-none : (n : ℕ) (x : List ℕ) → n ≤ mostNodes → ((i : ℕ) → firstAt ≤ i → i < codesAt → getD x i 0 ≡ 0) → Falling n n (top n) x
 falls-none n x few none = record {
   fits = fits-none n x few none;
   first = λ m h. none (firstAt + m) (omega arith) (omega (arith, h, few));
@@ -359,16 +373,16 @@ record Sunk (t ls : List ℕ) (n : ℕ) (r : List ℕ × Descent) : Type 0 where
   sinking : Sinking t ls n 0 (r .0)
   falling : Falling n 0 (r .1) (r .0)
 
-sinks : (t ls : List ℕ) (n p : ℕ) (d : Descent) (x : List ℕ) → n ≤ mostNodes → p ≤ n → Early (nodeAt t) n → Sinking t ls n p x → Falling n p d x → Sunk t ls n (sunk t x d p)
+sinks : (t ls : List ℕ) (n p : ℕ) (d : Descent) (x : List ℕ) → n ≤ mostNodes → p ≤ n → Early (nodeAt t) n → Records t n → Sinking t ls n p x → Falling n p d x → Sunk t ls n (sunk t x d p)
 unfolding sunk
-sinks t ls n zero d x few h a S F = record { sinking = S; falling = F }
-sinks t ls n (suc p) d x few h a S F =
-    sinks t ls n p (descended x d p) (passed t x d p) few (omega arith) a (sinks-passed t ls n p d x S few (omega arith) (a p (omega arith)))
-    (falls-passed t x d p (omega arith) (S .size) (a p (omega arith)) few (omega arith) F)
+sinks t ls n zero d x few h a r S F = record { sinking = S; falling = F }
+sinks t ls n (suc p) d x few h a r S F =
+    sinks t ls n p (descended x d p) (passed t x d p) few (omega arith) a r (sinks-passed t ls n p d x S few (omega arith) (a p (omega arith)) (r p (omega arith) .1))
+    (falls-passed t x d p (omega arith) (S .size) (a p (omega arith)) (r p (omega arith) .1) few (omega arith) F)
 
 -- marks are before the places
-pub marks-zeros : (n : ℕ) (x ls : List ℕ) → n ≤ mostNodes → Below n ls → Zeros x → (i : ℕ) → firstAt ≤ i → i < indexSize → getD (markAll x ls) i 0 ≡ 0
-marks-zeros n x ls few b none i h l = marks-other x ls i (all-imply (λ l. l < 2 * n) _ (λ l c q. omega (arith, q, c, few, h)) ls b) ∙ none i l
+pub marks-zeros : (n : ℕ) (x ls : List ℕ) → n ≤ mostNodes → Below n ls → Zeros x → (i : ℕ) → firstAt ≤ i → i < codesAt → getD (markAll x ls) i 0 ≡ 0
+marks-zeros n x ls few b none i h l = marks-other x ls i l (all-imply (λ l. l < 2 * n) _ (λ l c q. omega (arith, q, c, few, h)) ls b) ∙ none i (omega arith)
 
 -- operands are of earlier nodes
 sunk-early : (t ls : List ℕ) (n : ℕ) (x : List ℕ) → Early (nodeAt t) n → Sinking t ls n 0 x → Early (indexNode x) n
@@ -398,9 +412,9 @@ sunk-placing t ls n (x, d) a S =
       },
     )
 
-pub sinks-whole : (t ls : List ℕ) (n : ℕ) (x x₁ x₂ : List ℕ) (head : ℕ) → n ≤ mostNodes → Early (nodeAt t) n → Below n ls → length x ≡ indexSize → Zeros x
+pub sinks-whole : (t ls : List ℕ) (n : ℕ) (x x₁ x₂ : List ℕ) (head : ℕ) → n ≤ mostNodes → Records t n → Early (nodeAt t) n → Below n ls → length x ≡ indexSize → Zeros x
     → x₁ ≡ markAll x ls → x₂ ≡ sunk t x₁ (top n) n .0 → head ≡ sunk t x₁ (top n) n .1 .last → Sinking t ls n 0 x₂ × Placing n head x₂
-sinks-whole t ls n x x₁ x₂ head few a b z none e f g =
+sinks-whole t ls n x x₁ x₂ head few r a b z none e f g =
     let y = markAll x ls in
-    let S = sinks t ls n n (top n) y few (omega arith) a (sinks-none t ls n x few b z none) (falls-none n y few (marks-zeros n x ls few b none)) in
+    let S = sinks t ls n n (top n) y few (omega arith) a r (sinks-none t ls n x few b z none) (falls-none n y few (marks-zeros n x ls few b none)) in
     rw (f, g, e) (S .sinking, sunk-placing t ls n (sunk t y (top n) n) a S)

@@ -2,13 +2,12 @@
 use mathlib.Core.Path.{_≡_, refl, ap, _∙_}
 use mathlib.Core.Logic.{_⊎_, inl, inr}
 use mathlib.Core.List.{List, [], _∷_}
-use Prim.Native.Nat.{ℕ, suc, _+_, _*_, _/_, _%_, _<_, _≤_}
+use Prim.Native.Nat.{ℕ, zero, suc, _+_, _-_, _*_, _/_, _%_, _<_, _≤_}
 use native.Mathlib.Omega.{arith}
 use native.Mathlib.Decide.{ℕ-discrete}
 use lib.ListN.{length, getD, set, drop, length-set, drop-of-length-le}
 use lib.Seq.{getD-set-same, getD-set-other, drop-cons}
 use borrow.Author.Tests.{eq-eqb, ne-eqb}
-use Rattle.scope.specs.declared.Node.{Node}
 use Rattle.scope.specs.Table.{operands, nodeAt}
 use Rattle.scope.proofs.Operands.{operands-none, operands-two, operands-three, operands-some}
 use Rattle.calculus.specs.Model.{All, Below}
@@ -16,48 +15,86 @@ use Rattle.calculus.specs.Agree.{Alike}
 use Rattle.calculus.proofs.Lists.{all-imply}
 use Rattle.index.specs.declared.Descent.{Descent}
 use Rattle.index.specs.Codes.{codesSize, classesSize}
-use Rattle.index.specs.Index.{indexSize, mostNodes, mostEdges, firstAt, midAt, endAt, indexNode}
+use Rattle.index.specs.Index.{indexSize, mostNodes, mostEdges, firstAt, midAt, endAt, codesAt, indexNode, stored}
 use Rattle.index.specs.Edges.{firstOf, midOf, endOf}
 use Rattle.index.specs.Built.{Same, countNode, Room, Linked, Copied, Classified}
-use Rattle.index.specs.Marks.{bare, marked, markAll, stored, placedAt, metAt, Wanted, passed, descended, sunk, Fits, Zeros, Pruned}
-use Rattle.index.proofs.Nodes.{node-same}
+use Rattle.index.specs.Marks.{bare, marked, markAll, placedAt, metAt, Wanted, passed, descended, sunk, Fits, Unmarked, Flagged, Zeros, Pruned}
+use Rattle.index.proofs.Nodes.{node-same, stored-size, stored-other, stored-node}
 use Rattle.index.proofs.Sums.{sum-part, brings-four}
 use Rattle.index.proofs.Counts.{count-size, count-same}
 use Rattle.index.proofs.Wholes.{node-kept, edges-kept, codes-kept}
 
 -- ---- marks
 
+mark-size : (x : List ℕ) (l : ℕ) → length (marked x l) ≡ length x
+mark-size x l = length-set (set x (4 * (l / 2)) 1) (codesAt + l / 126) 1 ∙ length-set x (4 * (l / 2)) 1
+
 pub marks-size : (x ls : List ℕ) → length (markAll x ls) ≡ length x
 unfolding markAll
 marks-size x [] = refl
-marks-size x (l ∷ ls) = marks-size (marked x l) ls ∙ length-set x (4 * (l / 2)) 1
+marks-size x (l ∷ ls) = marks-size (marked x l) ls ∙ mark-size x l
 
--- a place that no mark is at
-pub marks-other : (x ls : List ℕ) (i : ℕ) → All (λ l. i ≡ 4 * (l / 2) → ⊥) ls → getD (markAll x ls) i 0 ≡ getD x i 0
+-- a place before the flags that no mark is at
+pub marks-other : (x ls : List ℕ) (i : ℕ) → i < codesAt → All (λ l. i ≡ 4 * (l / 2) → ⊥) ls → getD (markAll x ls) i 0 ≡ getD x i 0
 unfolding markAll
-marks-other x [] i a = refl
-marks-other x (l ∷ ls) i a = marks-other (marked x l) ls i (a .1) ∙ getD-set-other x (4 * (l / 2)) i 1 0 (a .0)
+marks-other x [] i h a = refl
+marks-other x (l ∷ ls) i h a =
+    marks-other (marked x l) ls i h (a .1) ∙ getD-set-other (set x (4 * (l / 2)) 1) (codesAt + l / 126) i 1 0 (λ q. omega (arith, q))
+    ∙ getD-set-other x (4 * (l / 2)) i 1 0 (a .0)
 
--- a mark stays
-mark-kept : (x : List ℕ) (l i : ℕ) → length x ≡ indexSize → l / 2 < mostNodes → 0 < getD x i 0 → 0 < getD (marked x l) i 0
-mark-kept x l i z h p = go (ℕ-discrete i (4 * (l / 2)))
+-- what is not 0 stays so where a 1 is stored
+one-kept : (x : List ℕ) (k i : ℕ) → k < length x → 0 < getD x i 0 → 0 < getD (set x k 1) i 0
+one-kept x k i h p = go (ℕ-discrete i k)
   where
-    go : Dec (i ≡ 4 * (l / 2)) → 0 < getD (marked x l) i 0
-    go (yes e) = rw (e, getD-set-same x (4 * (l / 2)) 1 0 (omega (arith, z, h))) (omega arith)
-    go (no d) = rw (getD-set-other x (4 * (l / 2)) i 1 0 d) p
+    go : Dec (i ≡ k) → 0 < getD (set x k 1) i 0
+    go (yes e) = rw (e, getD-set-same x k 1 0 h) (omega arith)
+    go (no d) = rw (getD-set-other x k i 1 0 d) p
+
+-- a mark and a flag stay
+module _ (x : List ℕ) (l : ℕ) (z : length x ≡ indexSize) (h : l / 2 < mostNodes) where
+  flag-low : codesAt + l / 126 < length (set x (4 * (l / 2)) 1)
+  flag-low = omega (arith, length-set x (4 * (l / 2)) 1, z, h)
+
+  mark-kept : (i : ℕ) → 0 < getD x i 0 → 0 < getD (marked x l) i 0
+  mark-kept i p = one-kept (set x (4 * (l / 2)) 1) (codesAt + l / 126) i flag-low (one-kept x (4 * (l / 2)) i (omega (arith, z, h)) p)
+
+  -- the mark itself, and the flag
+  mark-new : 0 < getD (marked x l) (4 * (l / 2)) 0
+  mark-new =
+      let new : 0 < getD (set x (4 * (l / 2)) 1) (4 * (l / 2)) 0 = rw (getD-set-same x (4 * (l / 2)) 1 0 (omega (arith, z, h))) (omega arith) in
+      one-kept (set x (4 * (l / 2)) 1) (codesAt + l / 126) (4 * (l / 2)) flag-low new
+
+  flag-new : 0 < getD (marked x l) (codesAt + l / 126) 0
+  flag-new = rw (getD-set-same (set x (4 * (l / 2)) 1) (codesAt + l / 126) 1 0 flag-low) (omega arith)
 
 pub marks-kept : (x ls : List ℕ) (i : ℕ) → length x ≡ indexSize → All (λ l. l / 2 < mostNodes) ls → 0 < getD x i 0 → 0 < getD (markAll x ls) i 0
 unfolding markAll
 marks-kept x [] i z a p = p
-marks-kept x (l ∷ ls) i z a p = marks-kept (marked x l) ls i (length-set x (4 * (l / 2)) 1 ∙ z) (a .1) (mark-kept x l i z (a .0) p)
+marks-kept x (l ∷ ls) i z a p = marks-kept (marked x l) ls i (mark-size x l ∙ z) (a .1) (mark-kept x l z (a .0) i p)
 
 pub marks-stand : (x ls : List ℕ) → length x ≡ indexSize → All (λ l. l / 2 < mostNodes) ls → All (λ l. 0 < getD (markAll x ls) (4 * (l / 2)) 0) ls
 unfolding markAll
 marks-stand x [] z a = tt
 marks-stand x (l ∷ ls) z a =
-    let z′ : length (marked x l) ≡ indexSize = length-set x (4 * (l / 2)) 1 ∙ z in
-    let new : 0 < getD (marked x l) (4 * (l / 2)) 0 = rw (getD-set-same x (4 * (l / 2)) 1 0 (omega (arith, z, a .0))) (omega arith) in
-    (marks-kept (marked x l) ls (4 * (l / 2)) z′ (a .1) new, marks-stand (marked x l) ls z′ (a .1))
+    let z′ : length (marked x l) ≡ indexSize = mark-size x l ∙ z in
+    (marks-kept (marked x l) ls (4 * (l / 2)) z′ (a .1) (mark-new x l z (a .0)), marks-stand (marked x l) ls z′ (a .1))
+
+-- a node that is marked has its block flagged
+flag-marked : (p : ℕ) (x : List ℕ) (l : ℕ) → length x ≡ indexSize → l / 2 < mostNodes → p ≤ mostNodes → Flagged p x → Flagged p (marked x l)
+flag-marked p x l z h few f m b = go (ℕ-discrete m (l / 2))
+  where
+    go : Dec (m ≡ l / 2) → 0 < getD (marked x l) (4 * m) 0 → 0 < getD (marked x l) (codesAt + m / 63) 0
+    go (yes e) _ =
+        let q : m / 63 ≡ l / 126 = omega (arith, e) in
+        rw q (flag-new x l z h)
+    go (no d) w =
+        let other : getD (marked x l) (4 * m) 0 ≡ getD x (4 * m) 0 = getD-set-other (set x (4 * (l / 2)) 1) (codesAt + l / 126) (4 * m) 1 0 (λ q. omega (arith, q)) ∙ getD-set-other x (4 * (l / 2)) (4 * m) 1 0 (λ q. d (omega (arith, q))) in
+        mark-kept x l z h (codesAt + m / 63) (f m b (omega (arith, other, w)))
+
+pub flags-marked : (p : ℕ) (x ls : List ℕ) → length x ≡ indexSize → All (λ l. l / 2 < mostNodes) ls → p ≤ mostNodes → Flagged p x → Flagged p (markAll x ls)
+unfolding markAll
+flags-marked p x [] z a few f = f
+flags-marked p x (l ∷ ls) z a few f = flags-marked p (marked x l) ls (mark-size x l ∙ z) (a .1) few (flag-marked p x l z (a .0) few f)
 
 -- the next of some literals
 pub marks-next : (x ls : List ℕ) (i : ℕ) → i < length ls → markAll x (drop i ls) ≡ markAll (marked x (getD ls i 0)) (drop (i + 1) ls)
@@ -73,7 +110,7 @@ marks-end x ls i h = rw (drop-of-length-le ls h)
 -- the operands of node p, by its kind
 module _ (x : List ℕ) (p : ℕ) where
   abbrev kind : ℕ
-  kind = getD x (4 * p) 0
+  kind = getD x (4 * p) 0 + 1
 
   abbrev a : ℕ
   a = getD x (4 * p + 1) 0
@@ -110,54 +147,6 @@ module _ (x : List ℕ) (p : ℕ) where
     unfolding indexNode
     third-low h = (rw (operands-three (indexNode x p) h) at low) .1 .1 .0
 
--- ---- a node is stored
-
-module _ (x : List ℕ) (m : ℕ) (y : Node) where
-  abbrev x₁ : List ℕ
-  x₁ = set x (4 * m) (y .kind)
-
-  abbrev x₂ : List ℕ
-  x₂ = set x₁ (4 * m + 1) (y .a)
-
-  abbrev x₃ : List ℕ
-  x₃ = set x₂ (4 * m + 2) (y .b)
-
-  pub stored-size : length (stored x m y) ≡ length x
-  stored-size = simp length-set refl
-
-  pub stored-other : (i : ℕ) → (4 * m ≤ i → i < 4 * m + 4 → ⊥) → getD (stored x m y) i 0 ≡ getD x i 0
-  stored-other i n =
-      getD-set-other x₃ (4 * m + 3) i (y .c) 0 (λ q. n (omega (arith, q)) (omega (arith, q)))
-      ∙ getD-set-other x₂ (4 * m + 2) i (y .b) 0 (λ q. n (omega (arith, q)) (omega (arith, q)))
-      ∙ getD-set-other x₁ (4 * m + 1) i (y .a) 0 (λ q. n (omega (arith, q)) (omega (arith, q)))
-      ∙ getD-set-other x (4 * m) i (y .kind) 0 (λ q. n (omega (arith, q)) (omega (arith, q)))
-
-  module _ (h : m < mostNodes) (z : length x ≡ indexSize) where
-    stored-c : getD (stored x m y) (4 * m + 3) 0 ≡ y .c
-    stored-c = getD-set-same x₃ (4 * m + 3) (y .c) 0 (simp length-set (omega arith))
-
-    stored-b : getD (stored x m y) (4 * m + 2) 0 ≡ y .b
-    stored-b =
-        getD-set-other x₃ (4 * m + 3) (4 * m + 2) (y .c) 0 (λ q. omega (arith, q))
-        ∙ getD-set-same x₂ (4 * m + 2) (y .b) 0 (simp length-set (omega arith))
-
-    stored-a : getD (stored x m y) (4 * m + 1) 0 ≡ y .a
-    stored-a =
-        getD-set-other x₃ (4 * m + 3) (4 * m + 1) (y .c) 0 (λ q. omega (arith, q))
-        ∙ getD-set-other x₂ (4 * m + 2) (4 * m + 1) (y .b) 0 (λ q. omega (arith, q))
-        ∙ getD-set-same x₁ (4 * m + 1) (y .a) 0 (simp length-set (omega arith))
-
-    stored-kind : getD (stored x m y) (4 * m) 0 ≡ y .kind
-    stored-kind =
-        getD-set-other x₃ (4 * m + 3) (4 * m) (y .c) 0 (λ q. omega (arith, q))
-        ∙ getD-set-other x₂ (4 * m + 2) (4 * m) (y .b) 0 (λ q. omega (arith, q))
-        ∙ getD-set-other x₁ (4 * m + 1) (4 * m) (y .a) 0 (λ q. omega (arith, q))
-        ∙ getD-set-same x (4 * m) (y .kind) 0 (omega arith)
-
-    pub stored-node : indexNode (stored x m y) m ≡ y
-    unfolding indexNode
-    stored-node = rw (stored-kind, stored-a, stored-b, stored-c)
-
 -- ---- a node gets its places
 
 module _ (x : List ℕ) (p : ℕ) (d : Descent) where
@@ -191,7 +180,7 @@ module _ (x : List ℕ) (p : ℕ) (d : Descent) where
 -- ---- a node is passed
 
 module _ (t x : List ℕ) (d : Descent) (p : ℕ) where
-  pub sunk-bare : getD x (4 * p) 0 ≡ 0 → sunk t (set x (4 * p) 1) d p ≡ sunk t x d (suc p)
+  sunk-bare : getD x (4 * p) 0 ≡ 0 → sunk t x d p ≡ sunk t x d (suc p)
   unfolding sunk passed descended
   sunk-bare e = rw (eq-eqb (getD x (4 * p) 0) 0 e)
 
@@ -218,26 +207,28 @@ module _ (t x : List ℕ) (d : Descent) (p : ℕ) where
     pub marking-size : length marking ≡ indexSize
     marking-size = marks-size loaded (operands (nodeAt t p)) ∙ loaded-size
 
-    pub loaded-node : indexNode loaded p ≡ nodeAt t p
-    loaded-node = stored-node (placedAt x p d) p (nodeAt t p) few (placed-size x p d ∙ z)
+    pub loaded-node : 0 < nodeAt t p .kind → indexNode loaded p ≡ nodeAt t p
+    loaded-node = stored-node (placedAt x p d) p (nodeAt t p) (omega (arith, few, placed-size x p d, z))
 
     -- what its operands are, once it is loaded
-    pub loaded-low : All (λ l. l / 2 < mostNodes) (operands (indexNode loaded p))
-    loaded-low = rw loaded-node low
+    pub loaded-low : 0 < nodeAt t p .kind → All (λ l. l / 2 < mostNodes) (operands (indexNode loaded p))
+    loaded-low k = rw (loaded-node k) low
 
     -- from the node on nothing is marked
-    marking-behind : (i : ℕ) → 4 * p ≤ i → getD marking i 0 ≡ getD loaded i 0
-    marking-behind i h = marks-other loaded (operands (nodeAt t p)) i (all-imply (λ l. l / 2 < p) _ (λ l b q. omega (arith, q, b)) (operands (nodeAt t p)) a)
+    marking-behind : (i : ℕ) → 4 * p ≤ i → i < codesAt → getD marking i 0 ≡ getD loaded i 0
+    marking-behind i h b = marks-other loaded (operands (nodeAt t p)) i b (all-imply (λ l. l / 2 < p) _ (λ l b q. omega (arith, q, b)) (operands (nodeAt t p)) a)
 
-    pub marking-node : indexNode marking p ≡ nodeAt t p
+    pub marking-node : 0 < nodeAt t p .kind → indexNode marking p ≡ nodeAt t p
     unfolding indexNode
-    marking-node =
-        let e : indexNode marking p ≡ indexNode loaded p = rw (marking-behind (4 * p) (omega arith), marking-behind (4 * p + 1) (omega arith), marking-behind (4 * p + 2) (omega arith), marking-behind (4 * p + 3) (omega arith)) in
-        e ∙ loaded-node
+    marking-node k =
+        let kept : (i : ℕ) → i < 4 → getD marking (4 * p + i) 0 ≡ getD loaded (4 * p + i) 0 = λ i h. marking-behind (4 * p + i) (omega arith) (omega arith) in
+        let first : getD marking (4 * p) 0 ≡ getD loaded (4 * p) 0 = marking-behind (4 * p) (omega arith) (omega arith) in
+        let e : indexNode marking p ≡ indexNode loaded p = rw (first, kept 1 (omega arith), kept 2 (omega arith), kept 3 (omega arith)) in
+        e ∙ loaded-node k
 
     -- the places and the counts stay
-    pub marking-places : (i : ℕ) → firstAt ≤ i → getD marking i 0 ≡ getD (placedAt x p d) i 0
-    marking-places i h = marking-behind i (omega arith) ∙ stored-other (placedAt x p d) p (nodeAt t p) i (λ b c. omega arith)
+    pub marking-places : (i : ℕ) → firstAt ≤ i → i < codesAt → getD marking i 0 ≡ getD (placedAt x p d) i 0
+    marking-places i h b = marking-behind i (omega arith) b ∙ stored-other (placedAt x p d) p (nodeAt t p) i (λ b c. omega arith)
 
     -- there is room to count its edges
     pub marking-room : Fits (p + 1) d x → Room p (nodeAt t p) marking
@@ -245,8 +236,8 @@ module _ (t x : List ℕ) (d : Descent) (p : ℕ) where
       size = marking-size;
       few = omega arith;
       known = a;
-      pairs = λ m h. omega (arith, marking-places (midAt + m) (omega arith), placed-other x p d (midAt + m) (λ q. omega (arith, q)) (λ q. omega (arith, q)) (λ q. omega (arith, q)), one m h, brings-four (nodeAt t p) m);
-      threes = λ m h. omega (arith, marking-places (endAt + m) (omega arith), placed-other x p d (endAt + m) (λ q. omega (arith, q)) (λ q. omega (arith, q)) (λ q. omega (arith, q)), one m h, brings-four (nodeAt t p) m);
+      pairs = λ m h. omega (arith, marking-places (midAt + m) (omega arith) (omega arith), placed-other x p d (midAt + m) (λ q. omega (arith, q)) (λ q. omega (arith, q)) (λ q. omega (arith, q)), one m h, brings-four (nodeAt t p) m);
+      threes = λ m h. omega (arith, marking-places (endAt + m) (omega arith) (omega arith), placed-other x p d (endAt + m) (λ q. omega (arith, q)) (λ q. omega (arith, q)) (λ q. omega (arith, q)), one m h, brings-four (nodeAt t p) m);
     }
       where
         one : (m : ℕ) → m < p → midOf x m + endOf x m + 4 ≤ mostEdges
@@ -259,6 +250,28 @@ sunk-more t x d p = refl
 pub sunk-none : (t x : List ℕ) (d : Descent) → sunk t x d 0 ≡ (x, d)
 unfolding sunk
 sunk-none t x d = refl
+
+-- nodes that are not marked are passed over
+pub sunk-over : (t x : List ℕ) (d : Descent) (r e : ℕ) → r ≤ e → Unmarked r e x → sunk t x d r ≡ sunk t x d e
+sunk-over t x d r zero h n =
+    let z : r ≡ 0 = omega (arith, h) in
+    ap (sunk t x d) z
+sunk-over t x d r (suc e) h n = go (λ l. sunk-over t x d r e l (λ m a b. n m a (omega arith))) (ℕ-discrete r (suc e))
+  where
+    go : (r ≤ e → sunk t x d r ≡ sunk t x d e) → Dec (r ≡ suc e) → sunk t x d r ≡ sunk t x d (suc e)
+    go f (yes q) = ap (sunk t x d) q
+    go f (no q) = f (omega (arith, h, q)) ∙ sunk-bare t x d e (n e (omega (arith, h, q)) (omega arith))
+
+-- of the nodes of a block that is not flagged none is marked
+pub unflagged : (x : List ℕ) (e : ℕ) → Flagged e x → getD x (codesAt + (e - 1) / 63) 0 ≡ 0 → Unmarked (63 * ((e - 1) / 63)) e x
+unflagged x e f z m a b = go (ℕ-discrete (getD x (4 * m) 0) 0)
+  where
+    same : m / 63 ≡ (e - 1) / 63
+    same = omega (arith, a, b)
+
+    go : Dec (getD x (4 * m) 0 ≡ 0) → getD x (4 * m) 0 ≡ 0
+    go (yes q) = q
+    go (no q) = absurd (omega (arith, z, rw same at (f m b (omega (arith, q)))))
 
 -- ---- on the way down, before node p - 1: the nodes from p on are loaded, or are not wanted; the others may be marked
 
@@ -302,7 +315,7 @@ sinks-none t ls n x few b z none = record {
   nodes = λ m a h. absurd (omega arith);
   closed = λ m a h. absurd (omega arith);
   literals = go ls b (marks-stand x ls z low);
-  cells = λ i h d. marks-other x ls i (all-imply (λ l. l / 2 < mostNodes) _ (λ l h q. d (omega (arith, q))) ls low) ∙ none i (omega arith);
+  cells = λ i h d. marks-other x ls i (omega arith) (all-imply (λ l. l / 2 < mostNodes) _ (λ l h q. d (omega (arith, q))) ls low) ∙ none i (omega arith);
 }
   where
     low : All (λ l. l / 2 < mostNodes) ls
@@ -313,15 +326,15 @@ sinks-none t ls n x few b z none = record {
     go (k ∷ ks) b m = (record { low = omega (arith, b .0); before = λ h. m .0; behind = λ h. absurd (omega (arith, b .0)) }, go ks (b .1) (m .1))
 
 -- one node more, of x what is before and behind it stays
-module _ (t ls : List ℕ) (n p : ℕ) (x x′ : List ℕ) (S : Sinking t ls n (suc p) x) (size : length x′ ≡ indexSize) (few : p < mostNodes)
+module _ (t ls : List ℕ) (n p : ℕ) (x x′ : List ℕ) (S : Sinking t ls n (suc p) x) (size : length x′ ≡ indexSize) (most : n ≤ mostNodes) (few : p < mostNodes)
     (kept : (i : ℕ) → i < 4 * p → 0 < getD x i 0 → 0 < getD x′ i 0)
     (cells : (i : ℕ) → i < 4 * p → (i % 4 ≡ 0 → ⊥) → getD x′ i 0 ≡ getD x i 0)
-    (same : (i : ℕ) → 4 * p + 4 ≤ i → getD x′ i 0 ≡ getD x i 0)
+    (same : (i : ℕ) → 4 * p + 4 ≤ i → i < codesAt → getD x′ i 0 ≡ getD x i 0)
     (known : 0 < getD x (4 * p) 0 → indexNode x′ p ≡ nodeAt t p)
     (node : (indexNode x′ p ≡ nodeAt t p) ⊎ (indexNode x′ p ≡ bare)) where
-  node-stays : (m : ℕ) → p < m → indexNode x′ m ≡ indexNode x m
+  node-stays : (m : ℕ) → p < m → m < mostNodes → indexNode x′ m ≡ indexNode x m
   unfolding indexNode
-  node-stays m h = rw (same (4 * m) (omega arith), same (4 * m + 1) (omega arith), same (4 * m + 2) (omega arith), same (4 * m + 3) (omega arith))
+  node-stays m h few = rw (same (4 * m) (omega arith) (omega arith), same (4 * m + 1) (omega arith) (omega arith), same (4 * m + 2) (omega arith) (omega arith), same (4 * m + 3) (omega arith) (omega arith))
 
   met-kept : (l : ℕ) → Met t (suc p) x l → Met t p x′ l
   met-kept l k = record {
@@ -332,7 +345,7 @@ module _ (t ls : List ℕ) (n p : ℕ) (x x′ : List ℕ) (S : Sinking t ls n (
     where
       go : p ≤ l / 2 → Dec (l / 2 ≡ p) → indexNode x′ (l / 2) ≡ nodeAt t (l / 2)
       go h (yes e) = rw e (known (rw e at (k .before (omega arith))))
-      go h (no d) = node-stays (l / 2) (omega arith) ∙ k .behind (omega arith)
+      go h (no d) = node-stays (l / 2) (omega arith) (k .low) ∙ k .behind (omega arith)
 
   sinks-one : (indexNode x′ p ≡ nodeAt t p → All (Met t p x′) (operands (indexNode x′ p))) → Sinking t ls n p x′
   sinks-one new = record {
@@ -345,44 +358,35 @@ module _ (t ls : List ℕ) (n p : ℕ) (x x′ : List ℕ) (S : Sinking t ls n (
     where
       nodes : (m : ℕ) → p ≤ m → m < n → Dec (m ≡ p) → (indexNode x′ m ≡ nodeAt t m) ⊎ (indexNode x′ m ≡ bare)
       nodes m a h (yes e) = rw e node
-      nodes m a h (no d) = rw (node-stays m (omega arith)) (S .nodes m (omega arith) h)
+      nodes m a h (no d) = rw (node-stays m (omega arith) (omega arith)) (S .nodes m (omega arith) h)
 
       closed : (m : ℕ) → p ≤ m → m < n → Dec (m ≡ p) → indexNode x′ m ≡ nodeAt t m → All (Met t p x′) (operands (indexNode x′ m))
       closed m a h (yes e) = rw e new
-      closed m a h (no d) = rw (node-stays m (omega arith))
+      closed m a h (no d) = rw (node-stays m (omega arith) (omega arith))
           (λ q. all-imply (Met t (suc p) x) (Met t p x′) met-kept (operands (indexNode x m)) (S .closed m (omega arith) h q))
 
-module _ (t ls : List ℕ) (n p : ℕ) (x : List ℕ) (S : Sinking t ls n (suc p) x) (few : p < mostNodes) where
+module _ (t ls : List ℕ) (n p : ℕ) (x : List ℕ) (S : Sinking t ls n (suc p) x) (most : n ≤ mostNodes) (few : p < mostNodes) where
   -- a node that is not marked
-  sinks-bare : getD x (4 * p) 0 ≡ 0 → Sinking t ls n p (set x (4 * p) 1)
+  sinks-bare : getD x (4 * p) 0 ≡ 0 → Sinking t ls n p x
   unfolding indexNode
   sinks-bare e =
-      sinks-one t ls n p x (set x (4 * p) 1) S (length-set x (4 * p) 1 ∙ S .size) few (λ i h. rw (other i (λ q. omega arith)) (λ a. a))
-      (λ i h d. other i (λ q. omega arith)) (λ i h. other i (λ q. omega arith)) (λ a. absurd (omega (arith, e))) (inr is)
+      sinks-one t ls n p x x S (S .size) most few (λ i h a. a) (λ i h d. refl) (λ i h b. refl) (λ a. absurd (omega (arith, e))) (inr is)
       (λ q. rw (is, operands-none bare (omega arith)) tt)
     where
-      other : (i : ℕ) → (i ≡ 4 * p → ⊥) → getD (set x (4 * p) 1) i 0 ≡ getD x i 0
-      other i d = getD-set-other x (4 * p) i 1 0 d
+      cell : (i : ℕ) → i < 4 * p + 4 → 4 * p < i → getD x i 0 ≡ 0
+      cell i h a = S .cells i (omega arith) (λ q. omega arith)
 
-      cell : (i : ℕ) → i < 4 * p + 4 → 4 * p < i → getD (set x (4 * p) 1) i 0 ≡ 0
-      cell i h a = other i (λ q. omega arith) ∙ S .cells i (omega arith) (λ q. omega arith)
-
-      is : indexNode (set x (4 * p) 1) p ≡ bare
-      is = rw (
-        getD-set-same x (4 * p) 1 0 (omega (arith, S .size)),
-        cell (4 * p + 1) (omega arith) (omega arith),
-        cell (4 * p + 2) (omega arith) (omega arith),
-        cell (4 * p + 3) (omega arith) (omega arith),
-      )
+      is : indexNode x p ≡ bare
+      is = rw (e, cell (4 * p + 1) (omega arith) (omega arith), cell (4 * p + 2) (omega arith) (omega arith), cell (4 * p + 3) (omega arith) (omega arith))
 
   -- a marked node
-  sinks-node : All (λ l. l / 2 < p) (operands (nodeAt t p)) → Sinking t ls n p (markAll (stored x p (nodeAt t p)) (operands (nodeAt t p)))
+  sinks-node : All (λ l. l / 2 < p) (operands (nodeAt t p)) → 0 < nodeAt t p .kind → Sinking t ls n p (markAll (stored x p (nodeAt t p)) (operands (nodeAt t p)))
   unfolding indexNode
-  sinks-node a =
-      sinks-one t ls n p x x′ S size few
+  sinks-node a k =
+      sinks-one t ls n p x x′ S size most few
       (λ i h m. marks-kept y os i z low (rw (stored-other x p (nodeAt t p) i (λ b c. omega arith)) m))
-      (λ i h d. marks-other y os i (all-imply (λ l. l / 2 < p) _ (λ l b q. d (omega (arith, q))) os a) ∙ stored-other x p (nodeAt t p) i (λ b c. omega arith))
-      (λ i h. behind i (omega arith) ∙ stored-other x p (nodeAt t p) i (λ b c. omega arith))
+      (λ i h d. marks-other y os i (omega arith) (all-imply (λ l. l / 2 < p) _ (λ l b q. d (omega (arith, q))) os a) ∙ stored-other x p (nodeAt t p) i (λ b c. omega arith))
+      (λ i h b. behind i (omega arith) b ∙ stored-other x p (nodeAt t p) i (λ b c. omega arith))
       (λ m. is) (inl is) (λ q. rw is (go os a (marks-stand y os z low)))
     where
       os : List ℕ
@@ -403,13 +407,13 @@ module _ (t ls : List ℕ) (n p : ℕ) (x : List ℕ) (S : Sinking t ls n (suc p
       low : All (λ l. l / 2 < mostNodes) os
       low = all-imply (λ l. l / 2 < p) (λ l. l / 2 < mostNodes) (λ l h. omega (arith, h)) os a
 
-      behind : (i : ℕ) → 4 * p ≤ i → getD x′ i 0 ≡ getD y i 0
-      behind i h = marks-other y os i (all-imply (λ l. l / 2 < p) _ (λ l b q. omega (arith, q, b)) os a)
+      behind : (i : ℕ) → 4 * p ≤ i → i < codesAt → getD x′ i 0 ≡ getD y i 0
+      behind i h b = marks-other y os i b (all-imply (λ l. l / 2 < p) _ (λ l b q. omega (arith, q, b)) os a)
 
       is : indexNode x′ p ≡ nodeAt t p
       is =
-          let s : indexNode x′ p ≡ indexNode y p = rw (behind (4 * p) (omega arith), behind (4 * p + 1) (omega arith), behind (4 * p + 2) (omega arith), behind (4 * p + 3) (omega arith)) in
-          s ∙ stored-node x p (nodeAt t p) few (S .size)
+          let s : indexNode x′ p ≡ indexNode y p = rw (behind (4 * p) (omega arith) (omega arith), behind (4 * p + 1) (omega arith) (omega arith), behind (4 * p + 2) (omega arith) (omega arith), behind (4 * p + 3) (omega arith) (omega arith)) in
+          s ∙ stored-node x p (nodeAt t p) (omega (arith, few, S .size)) k
 
       go : (ks : List ℕ) → All (λ l. l / 2 < p) ks → All (λ l. 0 < getD x′ (4 * (l / 2)) 0) ks → All (Met t p x′) ks
       go [] b m = tt
@@ -417,7 +421,7 @@ module _ (t ls : List ℕ) (n p : ℕ) (x : List ℕ) (S : Sinking t ls n (suc p
           (record { low = omega (arith, b .0); before = λ h. m .0; behind = λ h. absurd (omega (arith, b .0)) }, go ks (b .1) (m .1))
 
 module _ (t ls : List ℕ) (n p : ℕ) (d : Descent) (x : List ℕ) (S : Sinking t ls n (suc p) x) (few : n ≤ mostNodes) (h : p < n)
-    (a : All (λ l. l / 2 < p) (operands (nodeAt t p))) where
+    (a : All (λ l. l / 2 < p) (operands (nodeAt t p))) (k : 0 < nodeAt t p .kind) where
   low-p : p < mostNodes
   low-p = omega arith
 
@@ -426,12 +430,12 @@ module _ (t ls : List ℕ) (n p : ℕ) (d : Descent) (x : List ℕ) (S : Sinking
   sinks-passed = go (ℕ-discrete (getD x (4 * p) 0) 0)
     where
       go : Dec (getD x (4 * p) 0 ≡ 0) → Sinking t ls n p (passed t x d p)
-      go (yes e) = rw (eq-eqb (getD x (4 * p) 0) 0 e) (sinks-bare t ls n p x S low-p e)
+      go (yes e) = rw (eq-eqb (getD x (4 * p) 0) 0 e) (sinks-bare t ls n p x S few low-p e)
       go (no e) = rw (ne-eqb (getD x (4 * p) 0) 0 e)
           (sinking-same (marking t x d p) (countNode (marking t x d p) (nodeAt t p)) few (omega arith) (count-size (marking t x d p) (nodeAt t p) ∙ marking-size t x d p low-p (S .size) a)
           (λ i b. count-same (marking t x d p) (nodeAt t p) i (omega arith))
           (sinks-node t ls n p (placedAt x p d)
-          (sinking-same x (placedAt x p d) few (omega arith) (placed-size x p d ∙ S .size) (placed-same x p d) S) low-p a))
+          (sinking-same x (placedAt x p d) few (omega arith) (placed-size x p d ∙ S .size) (placed-same x p d) S) few low-p a k))
 
 -- ---- the index
 

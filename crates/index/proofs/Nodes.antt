@@ -16,7 +16,7 @@ use Rattle.scope.proofs.Operands.{arity-most, operands-length, operand-at}
 use Rattle.calculus.specs.Expansion.{neg, chosen}
 use Rattle.calculus.specs.Model.{Table}
 use Rattle.calculus.proofs.Lists.{all-at}
-use Rattle.index.specs.Index.{indexSize, mostNodes, midAt, endAt, indexNode}
+use Rattle.index.specs.Index.{indexSize, mostNodes, midAt, endAt, indexNode, stored}
 use Rattle.index.specs.Built.{Loaded}
 
 -- a node hangs on its own numbers alone
@@ -24,69 +24,81 @@ pub node-same : (x x′ : List ℕ) (b m : ℕ) → ((i : ℕ) → i < 4 * b →
 unfolding indexNode
 node-same x x′ b m e h = rw (e (4 * m) (omega arith), e (4 * m + 1) (omega arith), e (4 * m + 2) (omega arith), e (4 * m + 3) (omega arith))
 
--- ---- node m is written, with no edges yet: its kind, its operands' cells, and two counts
+-- ---- node m is stored
 
-abbrev withA : List ℕ → ℕ → Node → List ℕ
-withA x m y = set (set x (4 * m) (y .kind)) (4 * m + 1) (y .a)
+module _ (x : List ℕ) (m : ℕ) (y : Node) where
+  abbrev x₁ : List ℕ
+  x₁ = set x (4 * m) (y .kind - 1)
 
-abbrev withB : List ℕ → ℕ → Node → List ℕ
-withB x m y = set (withA x m y) (4 * m + 2) (y .b)
+  abbrev x₂ : List ℕ
+  x₂ = set x₁ (4 * m + 1) (y .a)
 
-abbrev withC : List ℕ → ℕ → Node → List ℕ
-withC x m y = set (withB x m y) (4 * m + 3) (y .c)
+  abbrev x₃ : List ℕ
+  x₃ = set x₂ (4 * m + 2) (y .b)
+
+  pub stored-size : length (stored x m y) ≡ length x
+  stored-size = simp length-set refl
+
+  pub stored-other : (i : ℕ) → (4 * m ≤ i → i < 4 * m + 4 → ⊥) → getD (stored x m y) i 0 ≡ getD x i 0
+  stored-other i n =
+      getD-set-other x₃ (4 * m + 3) i (y .c) 0 (λ q. n (omega (arith, q)) (omega (arith, q)))
+      ∙ getD-set-other x₂ (4 * m + 2) i (y .b) 0 (λ q. n (omega (arith, q)) (omega (arith, q)))
+      ∙ getD-set-other x₁ (4 * m + 1) i (y .a) 0 (λ q. n (omega (arith, q)) (omega (arith, q)))
+      ∙ getD-set-other x (4 * m) i (y .kind - 1) 0 (λ q. n (omega (arith, q)) (omega (arith, q)))
+
+  module _ (room : 4 * m + 4 ≤ length x) (k : 0 < y .kind) where
+    stored-c : getD (stored x m y) (4 * m + 3) 0 ≡ y .c
+    stored-c = getD-set-same x₃ (4 * m + 3) (y .c) 0 (simp length-set (omega arith))
+
+    stored-b : getD (stored x m y) (4 * m + 2) 0 ≡ y .b
+    stored-b =
+        getD-set-other x₃ (4 * m + 3) (4 * m + 2) (y .c) 0 (λ q. omega (arith, q))
+        ∙ getD-set-same x₂ (4 * m + 2) (y .b) 0 (simp length-set (omega arith))
+
+    stored-a : getD (stored x m y) (4 * m + 1) 0 ≡ y .a
+    stored-a =
+        getD-set-other x₃ (4 * m + 3) (4 * m + 1) (y .c) 0 (λ q. omega (arith, q))
+        ∙ getD-set-other x₂ (4 * m + 2) (4 * m + 1) (y .b) 0 (λ q. omega (arith, q))
+        ∙ getD-set-same x₁ (4 * m + 1) (y .a) 0 (simp length-set (omega arith))
+
+    stored-kind : getD (stored x m y) (4 * m) 0 ≡ y .kind - 1
+    stored-kind =
+        getD-set-other x₃ (4 * m + 3) (4 * m) (y .c) 0 (λ q. omega (arith, q))
+        ∙ getD-set-other x₂ (4 * m + 2) (4 * m) (y .b) 0 (λ q. omega (arith, q))
+        ∙ getD-set-other x₁ (4 * m + 1) (4 * m) (y .a) 0 (λ q. omega (arith, q))
+        ∙ getD-set-same x (4 * m) (y .kind - 1) 0 (omega arith)
+
+    pub stored-node : indexNode (stored x m y) m ≡ y
+    unfolding indexNode
+    stored-node =
+        let kind : getD (stored x m y) (4 * m) 0 + 1 ≡ y .kind = omega (arith, stored-kind, k) in
+        rw (kind, stored-a, stored-b, stored-c)
+
+-- ---- .. with no edges yet: two counts
 
 abbrev withMid : List ℕ → ℕ → Node → List ℕ
-withMid x m y = set (withC x m y) (midAt + m) 0
+withMid x m y = set (stored x m y) (midAt + m) 0
 
 abbrev written : List ℕ → ℕ → Node → List ℕ
 written x m y = set (withMid x m y) (endAt + m) 0
 
 module _ (x : List ℕ) (m : ℕ) (y : Node) (h : m < mostNodes) (z : length x ≡ indexSize) where
   -- the counts are behind the nodes
-  before-counts : (i : ℕ) → (i ≡ midAt + m → ⊥) → (i ≡ endAt + m → ⊥) → getD (written x m y) i 0 ≡ getD (withC x m y) i 0
-  before-counts i d e = getD-set-other (withMid x m y) (endAt + m) i 0 0 e ∙ getD-set-other (withC x m y) (midAt + m) i 0 0 d
+  before-counts : (i : ℕ) → (i ≡ midAt + m → ⊥) → (i ≡ endAt + m → ⊥) → getD (written x m y) i 0 ≡ getD (stored x m y) i 0
+  before-counts i d e = getD-set-other (withMid x m y) (endAt + m) i 0 0 e ∙ getD-set-other (stored x m y) (midAt + m) i 0 0 d
 
   -- a place before or behind the node's, that is not its counts
   written-other : (i : ℕ) → (4 * m ≤ i → i < 4 * m + 4 → ⊥) → (i ≡ midAt + m → ⊥) → (i ≡ endAt + m → ⊥) → getD (written x m y) i 0 ≡ getD x i 0
-  written-other i n d e =
-      before-counts i d e
-      ∙ getD-set-other (withB x m y) (4 * m + 3) i (y .c) 0 (λ q. n (omega (arith, q)) (omega (arith, q)))
-      ∙ getD-set-other (withA x m y) (4 * m + 2) i (y .b) 0 (λ q. n (omega (arith, q)) (omega (arith, q)))
-      ∙ getD-set-other (set x (4 * m) (y .kind)) (4 * m + 1) i (y .a) 0 (λ q. n (omega (arith, q)) (omega (arith, q)))
-      ∙ getD-set-other x (4 * m) i (y .kind) 0 (λ q. n (omega (arith, q)) (omega (arith, q)))
+  written-other i n d e = before-counts i d e ∙ stored-other x m y i n
 
-  -- the last three stores are none of the first three fields
-  after-fields : (i : ℕ) → i < 4 * m + 3 → getD (written x m y) i 0 ≡ getD (withB x m y) i 0
-  after-fields i l = before-counts i (λ q. omega (arith, q)) (λ q. omega (arith, q)) ∙ getD-set-other (withB x m y) (4 * m + 3) i (y .c) 0 (λ q. omega (arith, q))
-
-  written-b : getD (written x m y) (4 * m + 2) 0 ≡ y .b
-  written-b = after-fields (4 * m + 2) (omega arith) ∙ getD-set-same (withA x m y) (4 * m + 2) (y .b) 0 (simp length-set (omega arith))
-
-  written-a : getD (written x m y) (4 * m + 1) 0 ≡ y .a
-  written-a =
-      after-fields (4 * m + 1) (omega arith)
-      ∙ getD-set-other (withA x m y) (4 * m + 2) (4 * m + 1) (y .b) 0 (λ q. omega (arith, q))
-      ∙ getD-set-same (set x (4 * m) (y .kind)) (4 * m + 1) (y .a) 0 (simp length-set (omega arith))
-
-  written-kind : getD (written x m y) (4 * m) 0 ≡ y .kind
-  written-kind =
-      after-fields (4 * m) (omega arith)
-      ∙ getD-set-other (withA x m y) (4 * m + 2) (4 * m) (y .b) 0 (λ q. omega (arith, q))
-      ∙ getD-set-other (set x (4 * m) (y .kind)) (4 * m + 1) (4 * m) (y .a) 0 (λ q. omega (arith, q))
-      ∙ getD-set-same x (4 * m) (y .kind) 0 (omega arith)
-
-  written-c : getD (written x m y) (4 * m + 3) 0 ≡ y .c
-  written-c =
-      before-counts (4 * m + 3) (λ q. omega (arith, q)) (λ q. omega (arith, q))
-      ∙ getD-set-same (withB x m y) (4 * m + 3) (y .c) 0 (simp length-set (omega arith))
-
-  written-node : indexNode (written x m y) m ≡ y
-  unfolding indexNode
-  written-node = rw (written-kind, written-a, written-b, written-c)
+  written-node : 0 < y .kind → indexNode (written x m y) m ≡ y
+  written-node k =
+      node-same (stored x m y) (written x m y) mostNodes m (λ i b. before-counts i (λ q. omega (arith, q)) (λ q. omega (arith, q))) h
+      ∙ stored-node x m y (omega (arith, h, z)) k
 
   written-counts : (getD (written x m y) (midAt + m) 0 ≡ 0) × (getD (written x m y) (endAt + m) 0 ≡ 0)
   written-counts =
-      (getD-set-other (withMid x m y) (endAt + m) (midAt + m) 0 0 (λ q. omega (arith, q)) ∙ getD-set-same (withC x m y) (midAt + m) 0 0 (simp length-set (omega arith)), getD-set-same (withMid x m y) (endAt + m) 0 0 (simp length-set (omega arith)))
+      (getD-set-other (withMid x m y) (endAt + m) (midAt + m) 0 0 (λ q. omega (arith, q)) ∙ getD-set-same (stored x m y) (midAt + m) 0 0 (simp length-set (omega arith)), getD-set-same (withMid x m y) (endAt + m) 0 0 (simp length-set (omega arith)))
 
 -- ---- the first nodes
 
@@ -97,10 +109,10 @@ loaded-none t x z = record {
   counts = λ m h. absurd (omega (arith, h));
 }
 
-pub loaded-more : (t x : List ℕ) (m : ℕ) (y : Node) → m < mostNodes → y ≡ nodeAt t m → Loaded t m x → Loaded t (m + 1) (written x m y)
-loaded-more t x m y h e L = record {
+pub loaded-more : (t x : List ℕ) (m : ℕ) (y : Node) → m < mostNodes → 0 < y .kind → y ≡ nodeAt t m → Loaded t m x → Loaded t (m + 1) (written x m y)
+loaded-more t x m y h k e L = record {
   size = simp length-set (L .size);
-  nodes = below-more _ m (λ k l. node-same x (written x m y) m k before l ∙ L .nodes k l) (written-node x m y h (L .size) ∙ e);
+  nodes = below-more _ m (λ k l. node-same x (written x m y) m k before l ∙ L .nodes k l) (written-node x m y h (L .size) k ∙ e);
   counts =
       below-more _ m
       (λ k l. (other k l midAt (omega arith) (omega arith) (λ d. omega (arith, d, h)) ∙ L .counts k l .0, other k l endAt (omega arith) (λ d. omega (arith, d, h)) (omega arith) ∙ L .counts k l .1))

@@ -7,6 +7,7 @@ use lib.Dec.{eqb, ltb}
 use lib.ListN.{getD, length, set}
 use Rattle.scope.specs.declared.Node.{Node}
 use Rattle.scope.specs.Table.{operands, nodeAt}
+use Rattle.record.specs.Place.{placeOf}
 use Rattle.calculus.specs.Model.{All}
 use Rattle.index.specs.Index.{indexSize, mostNodes, firstAt, midAt, endAt, edgesAt, mostEdges, codesAt, classesAt, indexNode, FirstCodes, Codes, FirstClasses, Classes}
 use Rattle.index.specs.Edges.{firstOf, midOf, endOf, Edges}
@@ -18,6 +19,14 @@ Same b x x′ = (i : ℕ) → i < b → getD x′ i 0 ≡ getD x i 0
 -- the n nodes' operands are literals of earlier ones
 abbrev pub Early : (ℕ → Node) → ℕ → Type 0
 Early t n = (m : ℕ) → m < n → All (λ l. l / 2 < m) (operands (t m))
+
+-- the record of node m is in the table t, and has a kind
+abbrev pub Recorded : List ℕ → ℕ → Type 0
+Recorded t m = (placeOf m + 8 ≤ length t) × (0 < nodeAt t m .kind)
+
+-- .. of each of the n nodes
+abbrev pub Records : List ℕ → ℕ → Type 0
+Records t n = (m : ℕ) → m < n → Recorded t m
 
 -- the n nodes of the index are those of t
 abbrev pub Agree : (ℕ → Node) → ℕ → List ℕ → Type 0

@@ -2,8 +2,8 @@
 -- Assumes nothing.
 use mathlib.Core.Path.{_≡_}
 use mathlib.Core.List.{List, _∷_, map}
-use Prim.Native.Nat.{ℕ, _+_, _*_, _/_, _%_, _<_}
-use lib.ListN.{getD}
+use Prim.Native.Nat.{ℕ, _+_, _-_, _*_, _/_, _%_, _<_}
+use lib.ListN.{getD, set}
 use Rattle.scope.specs.declared.Node.{Node}
 use Rattle.scope.specs.Table.{operands}
 use Rattle.index.specs.Codes.{codesSize, codeAt, classesSize, classAt}
@@ -11,8 +11,8 @@ use Rattle.index.specs.Codes.{codesSize, codeAt, classesSize, classAt}
 abbrev pub mostNodes : ℕ
 mostNodes = 2016
 
--- ---- the layout: node m has its kind at 4 m and its operands' cells behind it; then three places for each node's edges, the edges, the
--- codes and the classes
+-- ---- the layout: node m has one less than its kind at 4 m and its operands' cells behind it; then three places for each node's edges,
+-- the edges, the codes and the classes
 
 abbrev pub firstAt : ℕ
 firstAt = 8064
@@ -43,9 +43,13 @@ indexSize = 22626
 abbrev pub mostLiterals : ℕ
 mostLiterals = 4032
 
--- node m of the index
+-- node m of the index; zeros are a TRUE
 unfoldable pub indexNode : List ℕ → ℕ → Node
-indexNode x m = record { kind = getD x (4 * m) 0; a = getD x (4 * m + 1) 0; b = getD x (4 * m + 2) 0; c = getD x (4 * m + 3) 0 }
+indexNode x m = record { kind = getD x (4 * m) 0 + 1; a = getD x (4 * m + 1) 0; b = getD x (4 * m + 2) 0; c = getD x (4 * m + 3) 0 }
+
+-- node m is stored
+abbrev pub stored : List ℕ → ℕ → Node → List ℕ
+stored x m y = set (set (set (set x (4 * m) (y .kind - 1)) (4 * m + 1) (y .a)) (4 * m + 2) (y .b)) (4 * m + 3) (y .c)
 
 -- ---- operands
 

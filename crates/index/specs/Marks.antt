@@ -1,19 +1,19 @@
 -- Where only the nodes below some literals are wanted: from the highest node down, a marked node is loaded, and marks those of its operands.
 -- All its parents are met before it, so its edges are counted, and get their places then. The nodes met are chained, each to the one met
--- before it. Assumes nothing.
+-- before it. A block of 63 nodes that has no marked one is not looked at. Assumes nothing.
 use mathlib.Core.Path.{_≡_}
 use mathlib.Core.Logic.{_⊎_}
 use mathlib.Core.List.{List, [], _∷_}
 use mathlib.Core.Bool.{cond}
 use Prim.Native.Nat.{ℕ, zero, suc, _+_, _*_, _/_, _<_, _≤_}
 use lib.Dec.{eqb}
-use lib.ListN.{length, getD, set}
+use lib.ListN.{getD, set}
 use Rattle.scope.specs.declared.Node.{Node}
 use Rattle.scope.specs.Table.{operands, nodeAt}
 use Rattle.calculus.specs.Model.{All}
 use Rattle.calculus.specs.Agree.{Alike, Closed}
 use Rattle.index.specs.declared.Descent.{Descent}
-use Rattle.index.specs.Index.{indexSize, mostNodes, firstAt, midAt, endAt, mostEdges, indexNode, Codes, Classes}
+use Rattle.index.specs.Index.{indexSize, mostNodes, firstAt, midAt, endAt, mostEdges, codesAt, indexNode, stored, Codes, Classes}
 use Rattle.index.specs.Edges.{midOf, endOf, Edges}
 use Rattle.index.specs.Built.{sum, countNode}
 
@@ -21,9 +21,10 @@ use Rattle.index.specs.Built.{sum, countNode}
 abbrev pub bare : Node
 bare = record { kind = 1; a = 0; b = 0; c = 0 }
 
--- a mark on a literal's node is a kind that is not 0
+-- a mark on a literal's node is a number that is not 0 where one less than its kind will be; its block is flagged with it, where the
+-- codes will be
 abbrev pub marked : List ℕ → ℕ → List ℕ
-marked x l = set x (4 * (l / 2)) 1
+marked x l = set (set x (4 * (l / 2)) 1) (codesAt + l / 126) 1
 
 -- node p, which is not passed yet, is marked
 abbrev pub Wanted : List ℕ → ℕ → Type 0
@@ -32,10 +33,6 @@ Wanted x p = 0 < getD x (4 * p) 0
 unfoldable pub markAll : List ℕ → List ℕ → List ℕ
 markAll x [] = x
 markAll x (l ∷ ls) = markAll (marked x l) ls
-
--- node m is stored
-abbrev pub stored : List ℕ → ℕ → Node → List ℕ
-stored x m y = set (set (set (set x (4 * m) (y .kind)) (4 * m + 1) (y .a)) (4 * m + 2) (y .b)) (4 * m + 3) (y .c)
 
 -- the edges of node p, which are counted, get their places, and it is chained to the node met last
 abbrev pub placedAt : List ℕ → ℕ → Descent → List ℕ
@@ -48,7 +45,7 @@ metAt x d p = record { start = d .start + (midOf x p + endOf x p); last = p }
 -- node p of the table t is loaded if it is marked, with its places, and its own edges are counted
 unfoldable pub passed : List ℕ → List ℕ → Descent → ℕ → List ℕ
 passed t x d p =
-    cond (eqb (getD x (4 * p) 0) 0) (set x (4 * p) 1)
+    cond (eqb (getD x (4 * p) 0) 0) x
     (countNode (markAll (stored (placedAt x p d) p (nodeAt t p)) (operands (nodeAt t p))) (nodeAt t p))
 
 -- how far passing it comes
@@ -68,13 +65,19 @@ top n = record { start = 0; last = n }
 abbrev pub Fits : ℕ → Descent → List ℕ → Type 0
 Fits p d x = (d .start + sum (λ i. midOf x i + endOf x i) p + 4 * p ≤ mostEdges) × (d .last ≤ mostNodes)
 
--- nodes that are not marked are passed, from end down to r, which is not below base
-pub record Over (base end : ℕ) (x : List ℕ) (r : ℕ) (x′ : List ℕ) : Type 0 where
+-- of the nodes from r on below e none is marked
+abbrev pub Unmarked : ℕ → ℕ → List ℕ → Type 0
+Unmarked r e x = (m : ℕ) → r ≤ m → m < e → getD x (4 * m) 0 ≡ 0
+
+-- nodes that are not marked are passed over, from end down to r, which is not below base
+pub record Over (base end : ℕ) (x : List ℕ) (r : ℕ) : Type 0 where
   pub low : base ≤ r
   pub high : r ≤ end
-  pub size : length x′ ≡ indexSize
-  pub same : (t : List ℕ) (d : Descent) → sunk t x′ d r ≡ sunk t x d end
-  pub fits : (d : Descent) → Fits end d x → Fits r d x′
+  pub none : Unmarked r end x
+
+-- the blocks of those of the first p nodes that are marked are flagged
+abbrev pub Flagged : ℕ → List ℕ → Type 0
+Flagged p x = (m : ℕ) → m < p → 0 < getD x (4 * m) 0 → 0 < getD x (codesAt + m / 63) 0
 
 abbrev pub Zeros : List ℕ → Type 0
 Zeros x = (i : ℕ) → i < indexSize → getD x i 0 ≡ 0

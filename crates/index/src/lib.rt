@@ -1,18 +1,18 @@
 // The index of a table, built once a call: the nodes' fields as numbers, four a node, each node's edges, so that its parents are found
 // without a look at the others, and the codes and classes, which say what the clauses of a literal come to.
 ghost use mathlib.Core.Path.{_≡_};
-ghost use Prim.Native.Nat.{ℕ, _+_, _-_, _/_, _%_, _<_, _≤_};
+ghost use Prim.Native.Nat.{_+_, _-_, _/_, _%_, _<_, _≤_};
 ghost use lib.ListN.{length};
 ghost use Rattle.record.specs.Place.{placeOf};
 ghost use Rattle.scope.specs.Table.{operands, nodeAt};
 ghost use Rattle.calculus.specs.Model.{All, Below};
 ghost use Rattle.index.specs.Codes.{codesSize, classesSize};
-ghost use Rattle.index.specs.Index.{indexSize, mostNodes, mostEdges, firstAt, midAt, endAt, indexNode};
+ghost use Rattle.index.specs.Index.{indexSize, mostNodes, mostEdges, firstAt, midAt, endAt, indexNode, stored};
 ghost use Rattle.index.specs.Edges.{midOf, endOf};
-ghost use Rattle.index.specs.Built.{Same, Early, raised, countNode, putPair, putThree, putNode, Room, Blank, Counting, Placing, Linked, Loaded, Copied, Classified, Built};
-ghost use Rattle.index.specs.Marks.{marked, markAll, stored, placedAt, metAt, Wanted, passed, descended, sunk, top, Fits, Over, Zeros, Pruned};
+ghost use Rattle.index.specs.Built.{Same, Early, Recorded, Records, raised, countNode, putPair, putThree, putNode, Room, Blank, Counting, Placing, Linked, Loaded, Copied, Classified, Built};
+ghost use Rattle.index.specs.Marks.{marked, markAll, placedAt, metAt, Wanted, passed, descended, sunk, top, Fits, Flagged, Over, Zeros, Pruned};
 
-// The layout: node m has its kind at 4 m, then its operands; from FIRST, MID and END on each node's offsets: its edges from parents of two
+// The layout: node m has one less than its kind at 4 m, so that zeros are a TRUE, then its operands; from FIRST, MID and END on each node's offsets: its edges from parents of two
 // operands stand from the first on below the second, two numbers each, those from parents of three from the second on below the third, one
 // number each; from EDGES on the edges, then the codes and the classes. specs/Edges.antt says what an edge holds.
 const FIRST: usize = 8064;
@@ -32,9 +32,9 @@ const CODES_SIZE: usize = 234;
 const CLASSES_SIZE: usize = 216;
 
 // Kinds below it have no operands; kinds from it on have three.
-const PAIRS: u16 = 3;
+const PAIRS: usize = 3;
 
-const THREES: u16 = 7;
+const THREES: usize = 7;
 
 // The code of one clause that is all false, as that of TRUE's negation is at any values.
 const ALL_FALSE: u16 = 8194;
@@ -542,7 +542,7 @@ fn count_node(x: &mut [u16], n: usize, p: usize)
     ensures { λ _. ⌜ now (x .exit) ≡ countNode (now (x .entry)) (indexNode (now (x .entry)) p) ⌝ }
 {
     let s = 4 * p;
-    let kind = x[s];
+    let kind = x[s] as usize + 1;
     if kind < PAIRS {
         return;
     }
@@ -621,15 +621,15 @@ fn put_node(x: &mut [u16], n: usize, p: usize)
     ensures { λ _. ⌜ now (x .exit) ≡ putNode (now (x .entry)) p (indexNode (now (x .entry)) p) ⌝ }
 {
     let s = 4 * p;
-    let kind = x[s];
+    let kind = x[s] as usize + 1;
     if kind < PAIRS {
         return;
     }
     let a = x[s + 1];
     let b = x[s + 2];
     if kind < THREES {
-        put_pair(x, p, a, b, 3 * (kind - 3));
-        put_pair(x, p, b, a, 3 * (kind + 1));
+        put_pair(x, p, a, b, 3 * (kind as u16 - 3));
+        put_pair(x, p, b, a, 3 * (kind as u16 + 1));
         return;
     }
     let c = x[s + 3];
@@ -666,13 +666,13 @@ fn link(x: &mut [u16], n: usize)
 
 // Node m is stored, from its record at a place of the table.
 fn store_node(t: &[u8], x: &mut [u16], m: usize, at: usize)
-    requires { ⌜ (m < mostNodes) × (at ≡ placeOf m) × (placeOf m + 8 ≤ length (now t)) × (length (now x) ≡ indexSize) ⌝ }
+    requires { ⌜ (m < mostNodes) × (at ≡ placeOf m) × Recorded (now t) m × (length (now x) ≡ indexSize) ⌝ }
     ensures { λ _. ⌜ now (x .exit) ≡ stored (now (x .entry)) m (nodeAt (now (t .entry)) m) ⌝ }
 {
     let end = at + 8;
     let node = record::fields(&t[at..end]);
     let s = 4 * m;
-    x[s] = node.kind as u16;
+    x[s] = node.kind as u16 - 1;
     x[s + 1] = node.a;
     x[s + 2] = node.b;
     x[s + 3] = node.c;
@@ -680,7 +680,7 @@ fn store_node(t: &[u8], x: &mut [u16], m: usize, at: usize)
 
 // Node m is read from its record, which is at a place of the table, with no edges yet.
 fn load_node(t: &[u8], x: &mut [u16], m: usize, at: usize)
-    requires { ⌜ (m < mostNodes) × (at ≡ placeOf m) × (placeOf m + 8 ≤ length (now t)) ⌝ }
+    requires { ⌜ (m < mostNodes) × (at ≡ placeOf m) × Recorded (now t) m ⌝ }
     requires { ⌜ Loaded (now t) m (now x) ⌝ }
     ensures { λ _. ⌜ Loaded (now (t .entry)) (m + 1) (now (x .exit)) ⌝ }
 {
@@ -692,7 +692,7 @@ fn load_node(t: &[u8], x: &mut [u16], m: usize, at: usize)
 // The nodes from base up to end are read, all of one block.
 fn load_block(t: &[u8], x: &mut [u16], base: usize, end: usize)
     requires { ⌜ (base % 63 ≡ 0) × (base ≤ end) × (end ≤ base + 63) × (end ≤ mostNodes) ⌝ }
-    requires { ⌜ ((m : ℕ) → m < end → placeOf m + 8 ≤ length (now t)) × Loaded (now t) base (now x) ⌝ }
+    requires { ⌜ Records (now t) end × Loaded (now t) base (now x) ⌝ }
     ensures { λ _. ⌜ Loaded (now (t .entry)) end (now (x .exit)) ⌝ }
 {
     let mut m = base;
@@ -717,7 +717,7 @@ fn block_end(m: usize, nodes: usize) -> usize
 
 // The nodes are read from the table, block by block.
 fn load(t: &[u8], nodes: usize, x: &mut [u16])
-    requires { ⌜ (nodes ≤ mostNodes) × ((m : ℕ) → m < nodes → placeOf m + 8 ≤ length (now t)) ⌝ }
+    requires { ⌜ (nodes ≤ mostNodes) × Records (now t) nodes ⌝ }
     requires { ⌜ length (now x) ≡ indexSize ⌝ }
     ensures { λ _. ⌜ Loaded (now (t .entry)) nodes (now (x .exit)) ⌝ }
 {
@@ -757,7 +757,7 @@ fn copy_classes(x: &mut [u16])
 
 // The index of the nodes of a table. Nothing is assumed of what x held: each number that belongs to a node is stored.
 pub fn build(t: &[u8], nodes: usize, x: &mut [u16])
-    requires { ⌜ (nodes ≤ mostNodes) × ((m : ℕ) → m < nodes → placeOf m + 8 ≤ length (now t)) × Early (nodeAt (now t)) nodes ⌝ }
+    requires { ⌜ (nodes ≤ mostNodes) × Records (now t) nodes × Early (nodeAt (now t)) nodes ⌝ }
     requires { ⌜ length (now x) ≡ indexSize ⌝ }
     ensures { λ _. ⌜ Built (now (t .entry)) nodes (now (x .exit)) ⌝ }
 {
@@ -767,12 +767,13 @@ pub fn build(t: &[u8], nodes: usize, x: &mut [u16])
     copy_classes(x);
 }
 
-// The node of a literal is marked.
+// The node of a literal is marked, and its block flagged: until the codes are copied, their places have the flags.
 fn mark(x: &mut [u16], l: u16)
     requires { ⌜ (length (now x) ≡ indexSize) × (l / 2 < mostNodes) ⌝ }
     ensures { λ _. ⌜ now (x .exit) ≡ marked (now (x .entry)) l ⌝ }
 {
     x[4 * ((l / 2) as usize)] = 1;
+    x[CODES_AT + (l / 126) as usize] = 1;
 }
 
 // The nodes of some literals are.
@@ -794,7 +795,7 @@ fn meet(x: &mut [u16], p: usize)
     ensures { λ _. ⌜ now (x .exit) ≡ countNode (markAll (now (x .entry)) (operands (indexNode (now (x .entry)) p))) (indexNode (now (x .entry)) p) ⌝ }
 {
     let s = 4 * p;
-    let kind = x[s];
+    let kind = x[s] as usize + 1;
     if kind < PAIRS {
         return;
     }
@@ -837,7 +838,7 @@ fn place_node(x: &mut [u16], p: usize, d: Descent) -> Descent
 // Node p, which is marked, is loaded: it comes behind all its parents, so its edges get their places; it marks its operands' nodes, and its
 // own edges are counted there.
 fn pass(t: &[u8], x: &mut [u16], p: usize, at: usize, d: Descent) -> Descent
-    requires { ⌜ (p < mostNodes) × (at ≡ placeOf p) × (placeOf p + 8 ≤ length (now t)) × (length (now x) ≡ indexSize) ⌝ }
+    requires { ⌜ (p < mostNodes) × (at ≡ placeOf p) × Recorded (now t) p × (length (now x) ≡ indexSize) ⌝ }
     requires { ⌜ All (λ l. l / 2 < p) (operands (nodeAt (now t) p)) ⌝ }
     requires { ⌜ Fits (p + 1) d (now x) × Wanted (now x) p ⌝ }
     ensures { λ r. ⌜ (now (x .exit) ≡ passed (now (t .entry)) (now (x .entry)) d p) × (r ≡ descended (now (x .entry)) d p) ⌝ }
@@ -848,10 +849,10 @@ fn pass(t: &[u8], x: &mut [u16], p: usize, at: usize, d: Descent) -> Descent
     r
 }
 
-// The nodes below end, down to base, are passed over until one is marked: each becomes a TRUE. One past the marked one, or base.
-fn pass_over(x: &mut [u16], base: usize, end: usize) -> usize
+// The nodes below end, down to base, are passed over until one is marked. One past the marked one, or base.
+fn pass_over(x: &[u16], base: usize, end: usize) -> usize
     requires { ⌜ (base ≤ end) × (end ≤ mostNodes) × (length (now x) ≡ indexSize) ⌝ }
-    ensures { λ r. ⌜ Over base end (now (x .entry)) r (now (x .exit)) × (base < r → Wanted (now (x .exit)) (r - 1)) ⌝ }
+    ensures { λ r. ⌜ Over base end (now (x .entry)) r × (base < r → Wanted (now (x .entry)) (r - 1)) ⌝ }
 {
     let mut e = end;
     while base < e {
@@ -859,7 +860,6 @@ fn pass_over(x: &mut [u16], base: usize, end: usize) -> usize
             return e;
         }
         e -= 1;
-        x[4 * e] = 1;
     }
     e
 }
@@ -867,9 +867,9 @@ fn pass_over(x: &mut [u16], base: usize, end: usize) -> usize
 // The nodes below end, down to base, all of one block.
 fn pass_block(t: &[u8], x: &mut [u16], base: usize, end: usize, from: Descent) -> Descent
     requires { ⌜ (base % 63 ≡ 0) × (base ≤ end) × (end ≤ base + 63) × (end ≤ mostNodes) ⌝ }
-    requires { ⌜ ((m : ℕ) → m < end → placeOf m + 8 ≤ length (now t)) × Early (nodeAt (now t)) end × (length (now x) ≡ indexSize) ⌝ }
-    requires { ⌜ Fits end from (now x) ⌝ }
-    ensures { λ r. ⌜ (sunk (now (t .entry)) (now (x .exit)) r base ≡ sunk (now (t .entry)) (now (x .entry)) from end) × (length (now (x .exit)) ≡ indexSize) × Fits base r (now (x .exit)) ⌝ }
+    requires { ⌜ Records (now t) end × Early (nodeAt (now t)) end × (length (now x) ≡ indexSize) ⌝ }
+    requires { ⌜ Fits end from (now x) × Flagged end (now x) ⌝ }
+    ensures { λ r. ⌜ (sunk (now (t .entry)) (now (x .exit)) r base ≡ sunk (now (t .entry)) (now (x .entry)) from end) × (length (now (x .exit)) ≡ indexSize) × Fits base r (now (x .exit)) × Flagged base (now (x .exit)) ⌝ }
 {
     let at = record::place(base);
     let mut d = from;
@@ -882,26 +882,29 @@ fn pass_block(t: &[u8], x: &mut [u16], base: usize, end: usize, from: Descent) -
     d
 }
 
-// The first n nodes, from the highest down, block by block. The node met last, or n.
+// The first n nodes, from the highest down, block by block; a block that is not flagged has no marked node. The node met last, or n.
 fn sink(t: &[u8], n: usize, x: &mut [u16]) -> usize
-    requires { ⌜ (n ≤ mostNodes) × ((m : ℕ) → m < n → placeOf m + 8 ≤ length (now t)) × Early (nodeAt (now t)) n ⌝ }
-    requires { ⌜ (length (now x) ≡ indexSize) × Fits n (top n) (now x) ⌝ }
+    requires { ⌜ (n ≤ mostNodes) × Records (now t) n × Early (nodeAt (now t)) n ⌝ }
+    requires { ⌜ (length (now x) ≡ indexSize) × Fits n (top n) (now x) × Flagged n (now x) ⌝ }
     ensures { λ r. ⌜ (now (x .exit) ≡ sunk (now (t .entry)) (now (x .entry)) (top n) n .0) × (r ≡ sunk (now (t .entry)) (now (x .entry)) (top n) n .1 .last) ⌝ }
 {
     let mut end = n;
     let mut d = Descent { start: 0, last: n };
     while 0 < end {
-        let base = 63 * ((end - 1) / 63);
-        d = pass_block(t, x, base, end, d);
+        let j = (end - 1) / 63;
+        let base = 63 * j;
+        if x[CODES_AT + j] != 0 {
+            d = pass_block(t, x, base, end, d);
+        }
         end = base;
     }
     d.last
 }
 
 // The index of those of the first n nodes of a table that are below some literals of them: all that a search of these comes to. In the
-// place of each other is a TRUE. x is zeros.
+// place of each other zeros stay, a TRUE. x is zeros.
 pub fn build_below(t: &[u8], ls: &[u16], n: usize, x: &mut [u16])
-    requires { ⌜ (n ≤ mostNodes) × ((m : ℕ) → m < n → placeOf m + 8 ≤ length (now t)) × Early (nodeAt (now t)) n ⌝ }
+    requires { ⌜ (n ≤ mostNodes) × Records (now t) n × Early (nodeAt (now t)) n ⌝ }
     requires { ⌜ Below n (now ls) ⌝ }
     requires { ⌜ (length (now x) ≡ indexSize) × Zeros (now x) ⌝ }
     ensures { λ _. ⌜ Pruned (now (t .entry)) (now (ls .entry)) n (now (x .exit)) ⌝ }

@@ -19,6 +19,12 @@ mul-kind-2 c = search needs
 shared-slice-read-kind : tie.Need-shared-slice-read-kind
 shared-slice-read-kind c = search needs
 
+add-kind : tie.Need-add-kind
+unfolding indexNode
+add-kind c =
+    let s = c .before in
+    omega (arith, s .pre .0 .table .kinds (s .args .l / 2) (omega arith) .1)
+
 mul-result : tie.Need-mul-result
 unfolding indexNode
 mul-result c =
@@ -51,6 +57,7 @@ row-of-spec =
     mul-kind
     mul-kind-2
     shared-slice-read-kind
+    add-kind
     mul-result
     add-result
     cast-result

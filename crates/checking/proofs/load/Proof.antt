@@ -21,7 +21,7 @@ load-node-requires : tie.Need-load-node-requires Inv-loop μ-loop
 load-node-requires c κs =
     let p = c .before .before .before .before .before .pre in
     let i = c .before .before .loop .inv in
-    ((omega (arith, c .before .loop-test .taken, p .0), i .1, omega (arith, i .1, p .1 (c .before .before .loop .m) (c .before .loop-test .taken))), i .2)
+    ((omega (arith, c .before .loop-test .taken, p .0), i .1, p .1 (c .before .before .loop .m) (c .before .loop-test .taken)), i .2)
 
 place-after-requires : tie.Need-place-after-requires Inv-loop μ-loop
 place-after-requires c κs = (omega (arith, c .before .before .before .before .loop-test .taken, c .before .before .before .before .before .before .before .before .pre .0), c .before .before .before .before .before .loop .inv .1)

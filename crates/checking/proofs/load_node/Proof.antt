@@ -30,6 +30,12 @@ mul-s c = search needs
 cast-x : tie.Need-cast-x
 cast-x c = search needs
 
+sub-x : tie.Need-sub-x
+sub-x c =
+    let s = c .before .before .before .before .before in
+    let e = c .before .fields .ensures ∙ ap nodeOf (part-record tables _ _ _ (s .pre .0 .1)) in
+    rw e (s .pre .0 .2 .1)
+
 mul-x : tie.Need-mul-x
 mul-x c = search needs
 
@@ -70,7 +76,7 @@ returns : tie.Need-returns
 returns c =
     let s = c .before .before .before .before .before in
     let e = c .before .fields .ensures ∙ ap nodeOf (part-record tables _ _ _ (s .pre .0 .1)) in
-    loaded-more (s .args .t .now) (s .args .x .now) (s .args .m) (c .before .fields .result) (s .pre .0 .0) e (s .pre .1)
+    loaded-more (s .args .t .now) (s .args .x .now) (s .args .m) (c .before .fields .result) (s .pre .0 .0) (rw e (s .pre .0 .2 .1)) e (s .pre .1)
 
 pub load-node-spec : {M : Type 1} → statement M
 load-node-spec =
@@ -83,6 +89,7 @@ load-node-spec =
     fields-requires
     mul-s
     cast-x
+    sub-x
     mul-x
     slice-write-x
     add-x

@@ -69,20 +69,18 @@ pub clause-of-spec : {M : Type 1} → statement M
 clause-of-spec =
     tie.close
     (tie.spec
-    (λ c. search needs) (λ c. search needs) (λ c κs. search needs)
+    (λ c. search needs) (λ c. search needs) (λ c κs. search needs) (λ c. search needs)
     (λ c. omega (arith, three (c .before .before)))
     (λ c κs. let j = three (c .before .before) in search needs)
     returns
     (λ c. search needs)
     choose-requires
-    (λ c. omega (arith, three (c .before .before .before .before .before)))
-    (λ c. omega (arith, three (c .before .before .before .before .before)))
+    (λ c. omega (arith, three (c .before .before .before .before .before))) (λ c. omega (arith, three (c .before .before .before .before .before)))
     (λ c κs. let j = three (c .before .before .before .before .before) in search needs)
     returns-2
     (λ c. search needs)
     choose-requires-2
-    (λ c. omega (arith, three (c .before .before .before .before .before .before .before .before)))
-    (λ c. omega (arith, three (c .before .before .before .before .before .before .before .before)))
+    (λ c. omega (arith, three (c .before .before .before .before .before .before .before .before))) (λ c. omega (arith, three (c .before .before .before .before .before .before .before .before)))
     (λ c κs. let j = three (c .before .before .before .before .before .before .before .before) in search needs)
     returns-3
     (λ c. search needs)

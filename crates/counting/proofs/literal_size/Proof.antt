@@ -1,6 +1,6 @@
 -- `counting::literal_size` meets its contract: the row's two bits. Assumes nothing.
 use mathlib.Core.Path.{refl}
-use Prim.Native.Nat.{_*_, _/_, _<_}
+use Prim.Native.Nat.{_+_, _*_, _/_, _<_}
 use native.Mathlib.Omega.{arith}
 use lib.ListN.{getD}
 use borrow.Author.Needs.{needs}
@@ -9,7 +9,7 @@ use Rattle.counting.proofs.Sizes.{lengths-are}
 use Rattle.counting.proofs.literal_size.Statement.{statement}
 use Rattle.counting.proofs.literal_size.Tie as tie
 
-kind : (s : tie.Start) → getD (s .args .x .now) (4 * (s .args .l / 2)) 0 < 9
+kind : (s : tie.Start) → getD (s .args .x .now) (4 * (s .args .l / 2)) 0 + 1 < 9
 unfolding indexNode
 kind s = s .pre .0 .table .kinds (s .args .l / 2) (omega (arith, s .pre .1)) .1
 
@@ -25,6 +25,7 @@ literal-size-spec =
     (λ c. search needs)
     (λ c. search needs)
     (λ c. search needs)
+    (λ c. omega (arith, kind (c .before)))
     (λ c. omega (arith, kind (c .before)))
     (λ c. omega (arith, kind (c .before)))
     (λ c. search needs)

@@ -22,7 +22,9 @@ shared-slice-read-if1 c = search needs
 
 returns : tie.Need-returns
 unfolding indexNode
-returns c = rw (ne-eqb _ 2 (c .if1 .taken))
+returns c =
+    let s = c .before .before in
+    rw (ne-eqb (getD (s .args .x .now) (4 * (s .args .l / 2)) 0 + 1) 2 (λ q. c .if1 .taken (omega (arith, q))))
 
 add-point : tie.Need-add-point
 add-point c = search needs
@@ -36,7 +38,7 @@ shared-slice-read-point c = search needs
 cast-point : tie.Need-cast-point
 unfolding indexNode
 cast-point c =
-    let b : getD (c .before .before .before .args .x .now) (4 * (c .before .before .before .args .l / 2) + 1) 0 < length (c .before .before .before .args .settings .now) = c .before .before .before .pre .1 (c .before .if1 .left) in
+    let b : getD (c .before .before .before .args .x .now) (4 * (c .before .before .before .args .l / 2) + 1) 0 < length (c .before .before .before .args .settings .now) = c .before .before .before .pre .1 (omega (arith, c .before .if1 .left)) in
     omega (arith, b)
 
 add-settings : tie.Need-add-settings
@@ -47,14 +49,16 @@ cast-settings c = search needs
 
 slice-write-settings : tie.Need-slice-write-settings
 unfolding indexNode
-slice-write-settings c = c .before .before .before .pre .1 (c .before .if1 .left)
+slice-write-settings c = c .before .before .before .pre .1 (omega (arith, c .before .if1 .left))
 
 same-length : tie.Need-same-length
 same-length c = search needs
 
 returns-2 : tie.Need-returns-2
 unfolding indexNode
-returns-2 c = rw (eq-eqb _ 2 (c .before .if1 .left))
+returns-2 c =
+    let s = c .before .before .before in
+    rw (eq-eqb (getD (s .args .x .now) (4 * (s .args .l / 2)) 0 + 1) 2 (omega (arith, c .before .if1 .left)))
 
 pub set-point-spec : {M : Type 1} → statement M
 set-point-spec =

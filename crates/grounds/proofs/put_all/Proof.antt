@@ -1,5 +1,5 @@
 -- `grounds::put_all` meets its contract, by how many operands the kind has. Assumes nothing.
-use Prim.Native.Nat.{_+_}
+use Prim.Native.Nat.{_+_, _*_}
 use Rattle.index.specs.Index.{indexNode}
 use Rattle.grounds.proofs.Puts.{held-there, slot-there, first-below, second-below, third-below, put-none, put-pair, put-triple}
 use native.Mathlib.Omega.{arith}
@@ -15,6 +15,12 @@ mul-kind c = search needs
 
 shared-slice-read-kind : tie.Need-shared-slice-read-kind
 shared-slice-read-kind c = search needs
+
+cast-kind : tie.Need-cast-kind
+cast-kind c = omega (arith, c .shared-slice-known3 .given (4 * c .before .before .before .before .args .node))
+
+add-kind : tie.Need-add-kind
+add-kind c = omega (arith, c .shared-slice-known3 .given (4 * c .before .before .before .before .args .node))
 
 add-put-both : tie.Need-add-put-both
 add-put-both c = search needs
@@ -154,6 +160,8 @@ put-all-spec =
     mul-s
     mul-kind
     shared-slice-read-kind
+    cast-kind
+    add-kind
     add-put-both
     put-both-requires
     same-length

@@ -37,7 +37,7 @@ cast-row c =
     let s = c .before .before .before .before .before in
     let p = s .pre in
     let e = c .before .literal .ensures in
-    let k : getD (s .args .x .now) (4 * (c .before .literal .result / 2)) 0 < 9 = rw e (literal-kind (p .0) (p .1 .0) (p .1 .1 .0) (s .args .q) (s .args .j) (p .1 .1 .1 .0)) in
+    let k : getD (s .args .x .now) (4 * (c .before .literal .result / 2)) 0 + 1 < 9 = rw e (literal-kind (p .0) (p .1 .0) (p .1 .1 .0) (s .args .q) (s .args .j) (p .1 .1 .1 .0)) in
     omega (arith, k)
 
 mul-row-3 : tie.Need-mul-row-3
@@ -46,7 +46,7 @@ mul-row-3 c =
     let s = c .before .before .before .before .before in
     let p = s .pre in
     let e = c .before .literal .ensures in
-    let k : getD (s .args .x .now) (4 * (c .before .literal .result / 2)) 0 < 9 = rw e (literal-kind (p .0) (p .1 .0) (p .1 .1 .0) (s .args .q) (s .args .j) (p .1 .1 .1 .0)) in
+    let k : getD (s .args .x .now) (4 * (c .before .literal .result / 2)) 0 + 1 < 9 = rw e (literal-kind (p .0) (p .1 .0) (p .1 .1 .0) (s .args .q) (s .args .j) (p .1 .1 .1 .0)) in
     omega (arith, k)
 
 cast-row-2 : tie.Need-cast-row-2
@@ -58,7 +58,7 @@ add-row c =
     let s = c .before .before .before .before .before in
     let p = s .pre in
     let e = c .before .literal .ensures in
-    let k : getD (s .args .x .now) (4 * (c .before .literal .result / 2)) 0 < 9 = rw e (literal-kind (p .0) (p .1 .0) (p .1 .1 .0) (s .args .q) (s .args .j) (p .1 .1 .1 .0)) in
+    let k : getD (s .args .x .now) (4 * (c .before .literal .result / 2)) 0 + 1 < 9 = rw e (literal-kind (p .0) (p .1 .0) (p .1 .1 .0) (s .args .q) (s .args .j) (p .1 .1 .1 .0)) in
     omega (arith, k)
 
 shr-if1 : tie.Need-shr-if1
@@ -67,7 +67,7 @@ shr-if1 c =
     let s = c .before .before .before .before .before in
     let p = s .pre in
     let e = c .before .literal .ensures in
-    let k : getD (s .args .x .now) (4 * (c .before .literal .result / 2)) 0 < 9 = rw e (literal-kind (p .0) (p .1 .0) (p .1 .1 .0) (s .args .q) (s .args .j) (p .1 .1 .1 .0)) in
+    let k : getD (s .args .x .now) (4 * (c .before .literal .result / 2)) 0 + 1 < 9 = rw e (literal-kind (p .0) (p .1 .0) (p .1 .1 .0) (s .args .q) (s .args .j) (p .1 .1 .1 .0)) in
     omega (arith, k)
 
 mul-slot : tie.Need-mul-slot

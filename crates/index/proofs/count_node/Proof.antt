@@ -1,6 +1,8 @@
 -- `index::count_node` meets its contract: as many edges are counted as the node's kind has operands. Assumes nothing.
 use Rattle.index.specs.Index.{indexNode}
 use Rattle.index.proofs.Rooms.{count-none, count-first, count-second, counted-two, count-three-first, count-three-second, count-three-third, counted-all}
+use Prim.Native.Nat.{_*_}
+use native.Mathlib.Omega.{arith}
 use borrow.Author.Needs.{needs}
 use Rattle.index.proofs.count_node.Statement.{statement}
 use Rattle.index.proofs.count_node.Tie as tie
@@ -13,6 +15,12 @@ mul-kind c = search needs
 
 slice-read-kind : tie.Need-slice-read-kind
 slice-read-kind c = search needs
+
+cast-kind : tie.Need-cast-kind
+cast-kind c = omega (arith, c .slice-known2 .given (4 * c .before .before .args .p))
+
+add-kind : tie.Need-add-kind
+add-kind c = omega (arith, c .slice-known2 .given (4 * c .before .before .args .p))
 
 returns : tie.Need-returns
 unfolding indexNode
@@ -112,6 +120,8 @@ count-node-spec =
     mul-s
     mul-kind
     slice-read-kind
+    cast-kind
+    add-kind
     returns
     add-a
     mul-a

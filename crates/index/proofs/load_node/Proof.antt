@@ -38,7 +38,7 @@ returns : tie.Need-returns
 returns c =
     let k = c .before .before in
     let s = k .before .before .before .before in
-    rw (k .store-node .ensures) (loaded-more (s .args .t .now) (s .args .x .now) (s .args .m) _ (s .pre .0 .0) refl (s .pre .1))
+    rw (k .store-node .ensures) (loaded-more (s .args .t .now) (s .args .x .now) (s .args .m) _ (s .pre .0 .0) (s .pre .0 .2 .1) refl (s .pre .1))
 
 pub load-node-spec : {M : Type 1} → statement M
 load-node-spec =

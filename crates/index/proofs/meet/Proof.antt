@@ -7,6 +7,7 @@ use Rattle.index.specs.Index.{midAt, endAt, indexNode}
 use Rattle.index.specs.Built.{raised}
 use Rattle.index.proofs.Rooms.{count-none, count-first, count-second, counted-two, count-three-first, count-three-second, count-three-third, counted-all}
 use Rattle.index.proofs.Marks.{marks-none, marks-two, marks-three, first-low, second-low, third-low}
+use native.Mathlib.Omega.{arith}
 use borrow.Author.Needs.{needs}
 use Rattle.index.proofs.meet.Statement.{statement}
 use Rattle.index.proofs.meet.Tie as tie
@@ -19,6 +20,12 @@ mul-kind c = search needs
 
 slice-read-kind : tie.Need-slice-read-kind
 slice-read-kind c = search needs
+
+cast-kind : tie.Need-cast-kind
+cast-kind c = omega (arith, c .slice-known2 .given (4 * c .before .before .args .p))
+
+add-kind : tie.Need-add-kind
+add-kind c = omega (arith, c .slice-known2 .given (4 * c .before .before .args .p))
 
 returns : tie.Need-returns
 unfolding indexNode
@@ -164,6 +171,8 @@ meet-spec =
     mul-s
     mul-kind
     slice-read-kind
+    cast-kind
+    add-kind
     returns
     add-a
     mul-a

@@ -23,8 +23,8 @@ meet-requires c κs =
     let s = c .before .before .before .before .before .before .before .before .before .before .before in
     let t = s .args .t .now in
     let x = s .args .x .now in
-    let n = loaded-node t x (s .args .d) (s .args .p) (s .pre .0 .0) (s .pre .0 .3) (s .pre .1 .0) in
-    let l = loaded-low t x (s .args .d) (s .args .p) (s .pre .0 .0) (s .pre .0 .3) (s .pre .1 .0) in
+    let n = loaded-node t x (s .args .d) (s .args .p) (s .pre .0 .0) (s .pre .0 .3) (s .pre .1 .0) (s .pre .0 .2 .1) in
+    let l = loaded-low t x (s .args .d) (s .args .p) (s .pre .0 .0) (s .pre .0 .3) (s .pre .1 .0) (s .pre .0 .2 .1) in
     let r = marking-room t x (s .args .d) (s .args .p) (s .pre .0 .0) (s .pre .0 .3) (s .pre .1 .0) (s .pre .1 .1 .0) in
     let e = c .before .before .before .store-node .ensures in
     let f = c .before .before .before .before .before .before .before .place-node .ensures .0 in
@@ -38,7 +38,7 @@ returns c =
     let s = c .before .before .before .before .before .before .before .before .before .before .before .before .before .before in
     let t = s .args .t .now in
     let x = s .args .x .now in
-    let n = loaded-node t x (s .args .d) (s .args .p) (s .pre .0 .0) (s .pre .0 .3) (s .pre .1 .0) in
+    let n = loaded-node t x (s .args .d) (s .args .p) (s .pre .0 .0) (s .pre .0 .3) (s .pre .1 .0) (s .pre .0 .2 .1) in
     let e = passed-node t x (s .args .d) (s .args .p) (s .pre .1 .1 .1) in
     (c .before .before .meet .ensures ∙ rw (c .before .before .before .before .before .before .store-node .ensures, c .before .before .before .before .before .before .before .before .before .before .place-node .ensures .0, n) (e .0), c .before .before .before .before .before .before .before .before .before .before .place-node .ensures .1 ∙ e .1)
 

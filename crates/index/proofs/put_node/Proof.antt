@@ -1,6 +1,8 @@
 -- `index::put_node` meets its contract: as many edges are put as the node's kind has operands. Assumes nothing.
 use Rattle.index.specs.Index.{indexNode}
 use Rattle.index.proofs.Rooms.{put-none, put-first, put-second, put-two, put-three-first, put-three-second, put-three-third, put-all}
+use Prim.Native.Nat.{_*_}
+use native.Mathlib.Omega.{arith}
 use borrow.Author.Needs.{needs}
 use Rattle.index.proofs.put_node.Statement.{statement}
 use Rattle.index.proofs.put_node.Tie as tie
@@ -13,6 +15,12 @@ mul-kind c = search needs
 
 slice-read-kind : tie.Need-slice-read-kind
 slice-read-kind c = search needs
+
+cast-kind : tie.Need-cast-kind
+cast-kind c = omega (arith, c .slice-known2 .given (4 * c .before .before .args .p))
+
+add-kind : tie.Need-add-kind
+add-kind c = omega (arith, c .slice-known2 .given (4 * c .before .before .args .p))
 
 returns : tie.Need-returns
 unfolding indexNode
@@ -36,6 +44,12 @@ mul-b c = search needs
 slice-read-b : tie.Need-slice-read-b
 slice-read-b c = search needs
 
+cast-put-pair : tie.Need-cast-put-pair
+cast-put-pair c = search needs
+
+sub-put-pair : tie.Need-sub-put-pair
+sub-put-pair c = search needs
+
 mul-put-pair : tie.Need-mul-put-pair
 mul-put-pair c = search needs
 
@@ -46,6 +60,9 @@ put-pair-requires c κs =
     let q = p .before .before .before in
     let r = q .before .before .before in
     put-first (r .pre .1) (q .if1 .left) (p .if2 .taken) (r .args .p) (r .pre .0)
+
+cast-put-pair-2 : tie.Need-cast-put-pair-2
+cast-put-pair-2 c = search needs
 
 add-put-pair : tie.Need-add-put-pair
 add-put-pair c = search needs
@@ -128,6 +145,8 @@ put-node-spec =
     mul-s
     mul-kind
     slice-read-kind
+    cast-kind
+    add-kind
     returns
     add-a
     mul-a
@@ -135,8 +154,11 @@ put-node-spec =
     add-b
     mul-b
     slice-read-b
+    cast-put-pair
+    sub-put-pair
     mul-put-pair
     put-pair-requires
+    cast-put-pair-2
     add-put-pair
     mul-put-pair-2
     put-pair-requires-2

@@ -3,7 +3,7 @@ use mathlib.Core.Path.{_∙_, ap}
 use lib.ListN.{length-set}
 use Rattle.scope.specs.Table.{tables, nodeOf}
 use Rattle.scope.proofs.Records.{part-record}
-use Rattle.index.specs.Marks.{stored}
+use Rattle.index.specs.Index.{stored}
 use native.Mathlib.Omega.{arith}
 use borrow.Author.Needs.{needs}
 use Rattle.index.proofs.store_node.Statement.{statement}
@@ -29,6 +29,12 @@ mul-s c = search needs
 
 cast-x : tie.Need-cast-x
 cast-x c = search needs
+
+sub-x : tie.Need-sub-x
+sub-x c =
+    let s = c .before .before .before .before .before in
+    let e = c .before .fields .ensures ∙ ap nodeOf (part-record tables _ _ _ (s .pre .1)) in
+    rw e (s .pre .2 .1)
 
 mul-x : tie.Need-mul-x
 mul-x c = search needs
@@ -82,6 +88,7 @@ store-node-spec =
     fields-requires
     mul-s
     cast-x
+    sub-x
     mul-x
     slice-write-x
     add-x

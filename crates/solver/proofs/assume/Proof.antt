@@ -8,22 +8,18 @@ wait-requires : tie.Need-wait-requires
 wait-requires c κs =
     let a = c .before .before .before .before .before in
     let v = a .before .before .before .before .before in
-    let p = v .before .before .before .before .before .before .before .pre in
-    let H = p .1 .1 .0 in
+    let (I, (gs, (H, f))) = v .before .before .before .before .before .before .before .pre in
     let N = v .serve .ensures in
-    let f = p .1 .1 .1 in
-    (ready-attached (p .0) H N f (a .attach .ensures), ((p .0 .few, p .1 .0), (served-attached (p .0) H N f (a .attach .ensures), f .0)))
+    (ready-attached I H N f (a .attach .ensures), ((I .few, gs), (served-attached I H N f (a .attach .ensures), f .0)))
 
 returns : tie.Need-returns
 returns c =
     let a = c .before .before .before .before .before .before .before .before in
     let v = a .before .before .before .before .before in
-    let p = v .before .before .before .before .before .before .before .pre in
-    let H = p .1 .1 .0 in
+    let (I, (gs, (H, f))) = v .before .before .before .before .before .before .before .pre in
     let N = v .serve .ensures in
-    let f = p .1 .1 .1 in
     let A = c .before .before .wait .ensures in
-    (holds-attached (p .0) H N f (a .attach .ensures) A, list-attached (p .0) H N f (a .attach .ensures) A)
+    (holds-attached I H N f (a .attach .ensures) A, list-attached I H N f (a .attach .ensures) A)
 
 pub assume-spec : {M : Type 1} → statement M
 assume-spec =

@@ -14,11 +14,10 @@ renew-requires c κs =
     let at-push = c .before .before .before .before in
     let at-count = at-push .before .before .before .before .before .before .before in
     let s = at-count .before .before .before .before .before in
-    let (goals, m, gs, H, N) = s .pre .1 .0 in
-    let f = s .pre .1 .1 in
+    let (I, ((goals, m, gs, H, N), f)) = s .pre in
     let e = at-count .count .ensures in
     let k = at-push .push .ensures in
-    (s .pre .0, ((k .ready, N .units), (own-low (s .pre .0) H N f e k, own-literal (s .pre .0) H N f e k, node-low (s .pre .0) H N f, omega arith)))
+    (I, ((k .ready, N .units), (own-low I H N f e k, own-literal I H N f e k, node-low I H N f, omega arith)))
 
 touch-requires : tie.Need-touch-requires
 touch-requires c κs =
@@ -26,9 +25,7 @@ touch-requires c κs =
     let at-push = at-renew .before .before .before .before .before in
     let at-count = at-push .before .before .before .before .before .before .before in
     let s = at-count .before .before .before .before .before in
-    let I = s .pre .0 in
-    let (goals, m, gs, H, N) = s .pre .1 .0 in
-    let f = s .pre .1 .1 in
+    let (I, ((goals, m, gs, H, N), f)) = s .pre in
     let e = at-count .count .ensures in
     let k = at-push .push .ensures in
     let o = at-renew .renew .ensures .0 in
@@ -55,9 +52,7 @@ next-unit-requires c κs =
     let at-front = at-push .before .before in
     let at-count = at-front .before .before .before .before .before in
     let s = at-count .before .before .before .before .before in
-    let I = s .pre .0 in
-    let (goals, m, gs, H, N) = s .pre .1 .0 in
-    let f = s .pre .1 .1 in
+    let (I, ((goals, m, gs, H, N), f)) = s .pre in
     let e = at-count .count .ensures in
     let k = at-push .push .ensures in
     let o = at-renew .renew .ensures .0 in
@@ -76,9 +71,7 @@ returns c =
     let at-push = at-renew .before .before .before .before .before in
     let at-count = at-push .before .before .before .before .before .before .before in
     let s = at-count .before .before .before .before .before in
-    let I = s .pre .0 in
-    let (goals, m, gs, H, N) = s .pre .1 .0 in
-    let f = s .pre .1 .1 in
+    let (I, ((goals, m, gs, H, N), f)) = s .pre in
     let e = at-count .count .ensures in
     let k = at-push .push .ensures in
     let o = at-renew .renew .ensures .0 in

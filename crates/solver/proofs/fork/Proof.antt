@@ -6,12 +6,10 @@ use Rattle.solver.proofs.fork.Tie as tie
 
 returns : tie.Need-returns
 returns c =
-    let p = c .before .before .before .before .before .before .before .before .before .before .before .pre in
-    let H = p .1 .1 .0 in
-    let (f, e) = p .1 .1 .1 in
+    let (I, (gs, (H, (f, e)))) = c .before .before .before .before .before .before .before .before .before .before .before .pre in
     let N = taken-none (H .units) in
     let a = c .before .before .before .before .attach .ensures in
-    (holds-joined (p .0) H N f a e, (list-joined (p .0) H N f a e, leads-joined (p .0) H N f a e))
+    (holds-joined I H N f a e, (list-joined I H N f a e, leads-joined I H N f a e))
 
 pub fork-spec : {M : Type 1} → statement M
 fork-spec = tie.close (tie.spec (λ c κs. search (needs, taken-none)) (λ c. search needs) (λ c. search needs) returns)

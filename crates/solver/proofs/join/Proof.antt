@@ -6,13 +6,11 @@ use Rattle.solver.proofs.join.Tie as tie
 
 returns : tie.Need-returns
 returns c =
-    let p = c .before .before .before .before .before .before .before .before .before .before .before .before .before .before .before .pre in
-    let H = p .1 .1 .0 in
-    let k = p .1 .1 .1 in
-    let N = picked-taken (p .0 .few) H k (c .before .before .before .before .before .before .before .before .before .leave .ensures) in
-    let f = picked-fresh (p .0 .few) H k in
+    let (I, (gs, (H, k))) = c .before .before .before .before .before .before .before .before .before .before .before .before .before .before .before .pre in
+    let N = picked-taken (I .few) H k (c .before .before .before .before .before .before .before .before .before .leave .ensures) in
+    let f = picked-fresh (I .few) H k in
     let a = c .before .before .before .before .attach .ensures in
-    (holds-joined (p .0) H N f a (k .waiting), (list-joined (p .0) H N f a (k .waiting), leads-joined (p .0) H N f a (k .waiting)))
+    (holds-joined I H N f a (k .waiting), (list-joined I H N f a (k .waiting), leads-joined I H N f a (k .waiting)))
 
 pub join-spec : {M : Type 1} → statement M
 join-spec =
