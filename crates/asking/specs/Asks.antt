@@ -2,7 +2,7 @@
 use mathlib.Core.Path.{_≡_}
 use mathlib.Core.List.{List}
 use Prim.Native.Nat.{ℕ, _<_}
-use lib.ListN.{length}
+use lib.ListN.{length, getD}
 use Rattle.scope.specs.declared.Node.{Node}
 use Rattle.scope.specs.Outcome.{Outcome, answer, _>>=_}
 use Rattle.scope.specs.Table.{decode}
@@ -10,8 +10,13 @@ use Rattle.table.specs.declared.Counted.{Counted}
 use Rattle.table.specs.declared.Counted.the-variants.{Nodes}
 use Rattle.table.specs.Counted.{countedOf}
 use Rattle.calculus.specs.Decide.{nodesOf, Admitted, askedBy}
-use Rattle.index.specs.Index.{indexNode}
+use Rattle.index.specs.Index.{indexSize, indexNode}
 use Rattle.index.specs.Indexed.{Indexed}
+
+-- an index before the call: zeros
+pub record Zeros (x : List ℕ) : Type 0 where
+  pub size : length x ≡ indexSize
+  pub zeros : (i : ℕ) → i < indexSize → getD x i 0 ≡ 0
 
 -- literals that may be put to the table t, where the call's row on the list says `listed`: the table's nodes, and x, their index
 pub record Prepared (listed : Outcome (Unit {0})) (t goals : List ℕ) (needed lent area : ℕ) (x : List ℕ) (n : ℕ) : Type 0 where

@@ -12,9 +12,15 @@ ghost use Rattle.scope.specs.Outcome.{verdictOf};
 ghost use Rattle.calculus.specs.Model.{mostGoals};
 ghost use Rattle.calculus.specs.Decide.{listRow, goalsTest, lentTest, rowsTest};
 ghost use Rattle.index.specs.Index.{indexSize, mostNodes};
-ghost use Rattle.index.specs.Marks.{Zeros};
-ghost use Rattle.asking.specs.Asks.{Asks};
+ghost use Rattle.index.specs.Marks.{Unfilled};
+ghost use Rattle.repeats.specs.Chains.{Unlinked};
+ghost use Rattle.asking.specs.Asks.{Zeros, Asks};
 ghost use Rattle.asking.specs.Within.{Admits, Farther, Reach, Within};
+
+// Where the edges of an index stand, and how far the chains go that stand there before.
+const EDGES: usize = 14112;
+
+const CHAINS_END: usize = 20224;
 
 fn wide(l: u16) -> usize
     ensures { λ r. ⌜ r ≡ l ⌝ }
@@ -104,7 +110,7 @@ fn rows(
 }
 
 // The node count of a table to which the literals may be put, or the first row's refusal. `listed` is what the call's own row on the list
-// says.
+// says. The chains that the reading goes by are lent, with no record in them.
 pub fn admit(
     listed: Verdict,
     t: &[u8],
@@ -112,10 +118,12 @@ pub fn admit(
     needed: usize,
     points: usize,
     area: usize,
+    chains: &mut [u16],
 ) -> Counted
+    requires { ⌜ Unlinked (now chains) ⌝ }
     ensures { λ r. ⌜ Admits (verdictOf listed) (now (t .entry)) (now (goals .entry)) needed points area r ⌝ }
 {
-    let c = table::count(t);
+    let c = table::count_by(t, chains);
     match c {
         Counted::Refused(f) => Counted::Refused(f),
         Counted::Nodes(nodes) => {
@@ -128,7 +136,32 @@ pub fn admit(
     }
 }
 
-// The same, and the index of the table's nodes.
+// The same, with the chains where the edges of an index will stand; before those it stays zeros.
+fn admit_over(
+    listed: Verdict,
+    t: &[u8],
+    goals: &[u16],
+    needed: usize,
+    points: usize,
+    area: usize,
+    x: &mut [u16],
+) -> Counted
+    requires { ⌜ Zeros (now x) ⌝ }
+    ensures { λ r. ⌜ Admits (verdictOf listed) (now (t .entry)) (now (goals .entry)) needed points area r ⌝ }
+    ensures { λ _. ⌜ (length (now (x .exit)) ≡ indexSize) × Unfilled (now (x .exit)) ⌝ }
+{
+    admit(
+        listed,
+        t,
+        goals,
+        needed,
+        points,
+        area,
+        &mut x[EDGES..CHAINS_END],
+    )
+}
+
+// The same, and the index of the table's nodes. x is zeros.
 pub fn ask_by(
     listed: Verdict,
     t: &[u8],
@@ -138,10 +171,10 @@ pub fn ask_by(
     area: usize,
     x: &mut [u16],
 ) -> Counted
-    requires { ⌜ length (now x) ≡ indexSize ⌝ }
+    requires { ⌜ Zeros (now x) ⌝ }
     ensures { λ r. ⌜ Asks (verdictOf listed) (now (t .entry)) (now (goals .entry)) needed points area (now (x .exit)) r ⌝ }
 {
-    let a = admit(listed, t, goals, needed, points, area);
+    let a = admit_over(listed, t, goals, needed, points, area, x);
     match a {
         Counted::Refused(f) => Counted::Refused(f),
         Counted::Nodes(nodes) => {
@@ -160,7 +193,7 @@ pub fn ask(
     area: usize,
     x: &mut [u16],
 ) -> Counted
-    requires { ⌜ length (now x) ≡ indexSize ⌝ }
+    requires { ⌜ Zeros (now x) ⌝ }
     ensures { λ r. ⌜ Asks (listRow (now (goals .entry))) (now (t .entry)) (now (goals .entry)) needed points area (now (x .exit)) r ⌝ }
 {
     ask_by(list_row(goals), t, goals, needed, points, area, x)
@@ -197,10 +230,10 @@ pub fn ask_within_by(
     area: usize,
     x: &mut [u16],
 ) -> Counted
-    requires { ⌜ (length (now x) ≡ indexSize) × Zeros (now x) ⌝ }
+    requires { ⌜ Zeros (now x) ⌝ }
     ensures { λ r. ⌜ Within (verdictOf listed) (now (t .entry)) (now (goals .entry)) needed points area (now (x .exit)) r ⌝ }
 {
-    let a = admit(listed, t, goals, needed, points, area);
+    let a = admit_over(listed, t, goals, needed, points, area, x);
     match a {
         Counted::Refused(f) => Counted::Refused(f),
         Counted::Nodes(_) => {
@@ -220,7 +253,7 @@ pub fn ask_within(
     area: usize,
     x: &mut [u16],
 ) -> Counted
-    requires { ⌜ (length (now x) ≡ indexSize) × Zeros (now x) ⌝ }
+    requires { ⌜ Zeros (now x) ⌝ }
     ensures { λ r. ⌜ Within (listRow (now (goals .entry))) (now (t .entry)) (now (goals .entry)) needed points area (now (x .exit)) r ⌝ }
 {
     ask_within_by(list_row(goals), t, goals, needed, points, area, x)

@@ -7,9 +7,12 @@ use steps::Opened;
 use table::Counted;
 ghost use mathlib.Core.Path.{_≡_};
 ghost use Prim.Native.Nat.{ℕ, _+_, _<_, _≤_};
-ghost use lib.ListN.{length};
+ghost use lib.ListN.{length, getD};
 ghost use Rattle.index.specs.Index.{mostNodes, indexNode};
 ghost use Rattle.index.specs.Built.{Recorded, Records};
+ghost use Rattle.repeats.specs.Chains.{chainCells};
+ghost use Rattle.calculus.specs.Decide.{listRow};
+ghost use Rattle.asking.specs.Within.{Admits};
 ghost use Rattle.area.specs.Area.{areaSize};
 ghost use Rattle.branch.specs.Holds.{nodeCells, Indexed, Goals};
 ghost use Rattle.steps.specs.Opened.{placeOf};
@@ -19,6 +22,9 @@ ghost use Rattle.scope.specs.Table.{listFrom};
 ghost use Rattle.calculus.specs.Expansion.{expand};
 ghost use Rattle.checking.specs.Checks.{checkedOf, Replayed, Checks};
 ghost use Rattle.checking.specs.Nodes.{Placed, Loaded};
+
+// The numbers that the chains of the reading take, where the nodes will stand.
+const CHAINS: usize = 6112;
 
 // What check answers.
 pub enum Checked {
@@ -103,12 +109,29 @@ fn load(t: &[u8], nodes: usize, x: &mut [u16])
     }
 }
 
+// The node count of a table to which the goals may be put, or the first row's refusal. The chains of the reading stand where the nodes
+// will; x is zeros.
+fn admit(t: &[u8], goals: &[u16], area: usize, x: &mut [u16]) -> Counted
+    requires { ⌜ (length (now x) ≡ nodeCells) × ((i : ℕ) → i < chainCells → getD (now x) i 0 ≡ 0) ⌝ }
+    ensures { λ r. ⌜ Admits (listRow (now (goals .entry))) (now (t .entry)) (now (goals .entry)) 0 0 area r ⌝ }
+{
+    asking::admit(
+        asking::list_row(goals),
+        t,
+        goals,
+        0,
+        0,
+        area,
+        &mut x[0..CHAINS],
+    )
+}
+
 // Whether the derivation is accepted: then no setting makes all goals true.
 pub fn check(t: &[u8], goals: &[u16], work: &mut [u16], d: &[u8]) -> Checked
     ensures { λ r. ⌜ Checks (now (t .entry)) (now (goals .entry)) (now (work .entry)) (now (d .entry)) (now (work .exit)) r ⌝ }
 {
     let mut x = [0u16; 8064];
-    let a = asking::admit(asking::list_row(goals), t, goals, 0, 0, work.len());
+    let a = admit(t, goals, work.len(), &mut x);
     match a {
         Counted::Refused(f) => Checked::Refused(f),
         Counted::Nodes(n) => {

@@ -23,7 +23,7 @@ use Rattle.index.specs.Codes.{numbered, opposite, choiceValue, stateBy, rowStat
 use Rattle.index.specs.Index.{codesAt, mostLiterals, indexNode}
 use Rattle.index.specs.Indexed.{Indexed}
 use Rattle.index.proofs.Nodes.{operand-cell, operand-low}
-use Rattle.clause.specs.Coded.{kindsAt, rowPlace, statesOf, Choice, Coded}
+use Rattle.clause.specs.Coded.{rowPlace, statesOf, Choice, Coded}
 use Rattle.clause.proofs.Rows.{Chooses, of-operand, choice-few}
 use Rattle.clause.proofs.States.{renamed, Right, states-renamed, one-kept, empty-kept, open-kept, one-open, first-most, first-has, some-renamed, first-renamed, literal-renamed, state-has}
 
@@ -269,13 +269,13 @@ module _ {x : List ℕ} {n : ℕ} (I : Indexed x n) (G : List ℕ) (good : Good 
     place : 9 * (2 * own .kind + sign) + (3 * valueCode (valueOf G (own .a)) + valueCode (valueOf G (own .b))) ≡ 18 + i
     place = omega (arith, e, I .table .kinds m (h .0) .0)
 
-    -- what is read behind the codes of kind 0
+    -- what is read, counted from the codes of TRUE on: before them are 18 of a kind 0, which is none
     abbrev From : ℕ → Type 0
-    From i = Coded own (statesOf (indexNode x) G (2 * m + sign)) (getD x (kindsAt + i) 0)
+    From i = Coded own (statesOf (indexNode x) G (2 * m + sign)) (getD x (22194 + i) 0)
 
     from : (i : ℕ) → Reads (18 + i) → From i
     from i r =
-        let q : codesAt + (18 + i) ≡ kindsAt + i = omega arith in
+        let q : codesAt + (18 + i) ≡ 22194 + i = omega arith in
         rw q at r
 
     pub place-two : i < 108 → From i

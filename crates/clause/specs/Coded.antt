@@ -10,7 +10,7 @@ use Rattle.calculus.specs.Expansion.{chosen, expand}
 use Rattle.calculus.specs.Order.{State, stateOf, valueOf, isEmpty, isOne, some, firstOf, literalAt, bit}
 use Rattle.trail.specs.Trail.{held, valueCode}
 pub use Rattle.index.specs.Codes.{isOpen}
-use Rattle.index.specs.Index.{mostLiterals, codesAt}
+use Rattle.index.specs.Index.{mostLiterals}
 
 -- ---- the work area, as far as a code is read off it: the trail stands from 4 on, and in it the values of the literals from 6051 on
 
@@ -36,11 +36,7 @@ Valued r = (l : ℕ) → l < mostLiterals → valueAt r l ≡ valueCode (valueOf
 abbrev pub statesOf : (ℕ → Node) → List ℕ → ℕ → List State
 statesOf t G l = map (stateOf G) (expand t l)
 
--- where the codes of the kinds start: behind those of a kind 0, which is none
-abbrev pub kindsAt : ℕ
-kindsAt = codesAt + 18
-
--- where from there on the codes of a literal of node y stand, nine to a row, by the values of the first two operands under G
+-- where the codes of a literal of node y stand, counted from those of TRUE on, nine to a row, by the values of the first two operands under G
 abbrev pub rowPlace : Node → ℕ → List ℕ → ℕ
 rowPlace y sign G = 9 * (2 * (y .kind - 1) + sign) + (3 * valueCode (valueOf G (y .a)) + valueCode (valueOf G (y .b)))
 

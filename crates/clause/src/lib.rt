@@ -65,8 +65,9 @@ const EDGES: usize = 14112;
 
 const CLASSES_AT: usize = 22410;
 
-const CODES_AT: usize = 22194;
+const TRUE_CODES_AT: usize = 22194;
 
+// So many of these are codes of rows of at most two operands.
 const PAIR_CODES: usize = 108;
 
 const TRAIL: usize = 4;
@@ -124,6 +125,7 @@ pub fn clause_of(templates: &[[u8; 9]; 18], x: &[u16], n: usize, l: u16, j: usiz
     ensures { λ r. ⌜ literals r ≡ getD (expand (indexNode (now (x .entry))) l) j [] ⌝ }
 {
     let node = (l / 2) as usize;
+    // TEMPLATES has two rows before TRUE's
     let row = row_of(x, n, node, (l % 2) as usize) + 2;
     let a = template(templates, row, 3 * j);
     if LAST_CHOICE < a {
@@ -194,7 +196,7 @@ pub fn code_of_three(x: &[u16], n: usize, work: &[u16], node: usize, sign: usize
 {
     let i = row_place(x, n, work, node, sign);
     let c = value(work, x[4 * node + 3]);
-    x[CODES_AT + (3 * i + c - 2 * PAIR_CODES)]
+    x[TRUE_CODES_AT + (3 * i + c - 2 * PAIR_CODES)]
 }
 
 // The same for any node: a code of nine by the values of two operands, or one of 27.
@@ -206,7 +208,7 @@ pub fn code(x: &[u16], n: usize, work: &[u16], node: usize, sign: usize) -> u16
 {
     let i = row_place(x, n, work, node, sign);
     if i < PAIR_CODES {
-        return x[CODES_AT + i];
+        return x[TRUE_CODES_AT + i];
     }
     code_of_three(x, n, work, node, sign)
 }

@@ -11,8 +11,8 @@ ghost use Rattle.state.specs.Work.{area, tail, litAt, baseOf, gOf, Ready, Numbe
 ghost use Rattle.rests.specs.Words.{restAt, Put, heldOf};
 ghost use Rattle.grounds.specs.Ground.{slotOf, upTo, operandsIn, over, Room, Grounded};
 
-// The rows from TRUE's on, 2 * (kind - 1) + sign, whose clauses have one literal each, that of operand j in clause j: AND, OR negated, IMP negated, AND of three
-// and OR of three negated. Each clause of the other rows has all operands.
+// The rows from TRUE's on, 2 * (kind - 1) + sign, whose clauses have one literal each, that of operand j in clause j: AND, OR negated, IMP
+// negated, AND of three and OR of three negated. Each clause of the other rows has all operands.
 const SINGLES: u64 = 37520;
 
 // Kinds below it have no operands; kinds from it on have three.

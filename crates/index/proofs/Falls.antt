@@ -13,11 +13,11 @@ use Rattle.scope.proofs.Operands.{operands-none}
 use Rattle.calculus.specs.Model.{All, Below}
 use Rattle.calculus.proofs.Lists.{all-imply}
 use Rattle.index.specs.declared.Descent.{Descent}
-use Rattle.index.specs.Index.{indexSize, mostNodes, firstAt, midAt, endAt, codesAt, indexNode, stored}
+use Rattle.index.specs.Index.{indexSize, mostNodes, firstAt, midAt, endAt, edgesAt, codesAt, indexNode, stored}
 use Rattle.index.specs.Edges.{firstOf, midOf, endOf}
 use Rattle.index.specs.Built.{Early, Records, sum, pairsIn, threesIn, pairsTo, threesTo, Counted, countNode, Chain, Placing}
-use Rattle.index.specs.Marks.{bare, markAll, placedAt, metAt, Wanted, passed, descended, sunk, top, Fits, Flagged, Zeros}
-use Rattle.index.proofs.Sums.{sum-zero, sum-same, sum-plus, node-four, brings-none, brings-nothing, early-none}
+use Rattle.index.specs.Marks.{bare, markAll, placedAt, metAt, Wanted, passed, descended, sunk, top, Fits, Flagged, Unfilled}
+use Rattle.index.proofs.Sums.{sum-zero, sum-same, sum-plus, sum-part, node-four, brings-none, brings-nothing, early-none}
 use Rattle.index.proofs.Counts.{counted-by, count-same, count-other}
 use Rattle.index.proofs.Chains.{chain-none, chain-more, chain-over, chain-same}
 use Rattle.index.proofs.Nodes.{stored-other}
@@ -65,15 +65,11 @@ fits-moved {p} {d} {y} {x} {d′} {x′} few M f =
 
 -- .. for fewer nodes too
 pub fits-fewer : (d : Descent) (x : List ℕ) (r e : ℕ) → r ≤ e → Fits e d x → Fits r d x
-unfolding sum
-fits-fewer d x r zero h f =
-    let z : r ≡ 0 = omega (arith, h) in
-    rw z f
-fits-fewer d x r (suc e) h f = go (λ l. fits-fewer d x r e l (omega (arith, f .0), f .1)) (ℕ-discrete r (suc e))
+fits-fewer d x r e h f = go (ℕ-discrete r e)
   where
-    go : (r ≤ e → Fits r d x) → Dec (r ≡ suc e) → Fits r d x
-    go g (yes q) = rw q f
-    go g (no q) = g (omega (arith, h, q))
+    go : Dec (r ≡ e) → Fits r d x
+    go (yes q) = rw q f
+    go (no q) = (omega (arith, f .0, h, sum-part (counted x) r e (omega (arith, h, q))), f .1)
 
 -- ---- a node that is not marked
 
@@ -346,12 +342,12 @@ flags-passed t x d p few z a w f =
         (all-imply (λ l. l / 2 < p) (λ l. (i ≡ midAt + l / 2 → ⊥) × (i ≡ endAt + l / 2 → ⊥)) (λ l b. (λ q. omega (arith, q, b), λ q. omega (arith, q, b))) (operands (nodeAt t p)) a)
 
 -- nothing is met
-pub fits-none : (n : ℕ) (x : List ℕ) → n ≤ mostNodes → ((i : ℕ) → firstAt ≤ i → i < codesAt → getD x i 0 ≡ 0) → Fits n (top n) x
+pub fits-none : (n : ℕ) (x : List ℕ) → n ≤ mostNodes → ((i : ℕ) → firstAt ≤ i → i < edgesAt → getD x i 0 ≡ 0) → Fits n (top n) x
 fits-none n x few none =
     let e : sum (counted x) n ≡ sum (λ i. 0) n = sum-same (counted x) (λ i. 0) n (λ i h. omega (arith, none (midAt + i) (omega arith) (omega (arith, h, few)), none (endAt + i) (omega arith) (omega (arith, h, few)))) in
     (omega (arith, e, sum-zero (λ i. 0) (λ i. refl) n), few)
 
-falls-none : (n : ℕ) (x : List ℕ) → n ≤ mostNodes → ((i : ℕ) → firstAt ≤ i → i < codesAt → getD x i 0 ≡ 0) → Falling n n (top n) x
+falls-none : (n : ℕ) (x : List ℕ) → n ≤ mostNodes → ((i : ℕ) → firstAt ≤ i → i < edgesAt → getD x i 0 ≡ 0) → Falling n n (top n) x
 falls-none n x few none = record {
   fits = fits-none n x few none;
   first = λ m h. none (firstAt + m) (omega arith) (omega (arith, h, few));
@@ -380,9 +376,9 @@ sinks t ls n (suc p) d x few h a r S F =
     sinks t ls n p (descended x d p) (passed t x d p) few (omega arith) a r (sinks-passed t ls n p d x S few (omega arith) (a p (omega arith)) (r p (omega arith) .1))
     (falls-passed t x d p (omega arith) (S .size) (a p (omega arith)) (r p (omega arith) .1) few (omega arith) F)
 
--- marks are before the places
-pub marks-zeros : (n : ℕ) (x ls : List ℕ) → n ≤ mostNodes → Below n ls → Zeros x → (i : ℕ) → firstAt ≤ i → i < codesAt → getD (markAll x ls) i 0 ≡ 0
-marks-zeros n x ls few b none i h l = marks-other x ls i l (all-imply (λ l. l < 2 * n) _ (λ l c q. omega (arith, q, c, few, h)) ls b) ∙ none i (omega arith)
+-- the literals are marked: marks are before the places, and flags behind the edges
+pub marks-zeros : (n : ℕ) (x ls : List ℕ) → n ≤ mostNodes → Below n ls → Unfilled x → (i : ℕ) → firstAt ≤ i → i < edgesAt → getD (markAll x ls) i 0 ≡ 0
+marks-zeros n x ls few b none i h l = marks-other x ls i (omega arith) (all-imply (λ l. l < 2 * n) _ (λ l c q. omega (arith, q, c, few, h)) ls b) ∙ none i l
 
 -- operands are of earlier nodes
 sunk-early : (t ls : List ℕ) (n : ℕ) (x : List ℕ) → Early (nodeAt t) n → Sinking t ls n 0 x → Early (indexNode x) n
@@ -412,7 +408,7 @@ sunk-placing t ls n (x, d) a S =
       },
     )
 
-pub sinks-whole : (t ls : List ℕ) (n : ℕ) (x x₁ x₂ : List ℕ) (head : ℕ) → n ≤ mostNodes → Records t n → Early (nodeAt t) n → Below n ls → length x ≡ indexSize → Zeros x
+pub sinks-whole : (t ls : List ℕ) (n : ℕ) (x x₁ x₂ : List ℕ) (head : ℕ) → n ≤ mostNodes → Records t n → Early (nodeAt t) n → Below n ls → length x ≡ indexSize → Unfilled x
     → x₁ ≡ markAll x ls → x₂ ≡ sunk t x₁ (top n) n .0 → head ≡ sunk t x₁ (top n) n .1 .last → Sinking t ls n 0 x₂ × Placing n head x₂
 sinks-whole t ls n x x₁ x₂ head few r a b z none e f g =
     let y = markAll x ls in

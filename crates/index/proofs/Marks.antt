@@ -18,7 +18,7 @@ use Rattle.index.specs.Codes.{codesSize, classesSize}
 use Rattle.index.specs.Index.{indexSize, mostNodes, mostEdges, firstAt, midAt, endAt, codesAt, indexNode, stored}
 use Rattle.index.specs.Edges.{firstOf, midOf, endOf}
 use Rattle.index.specs.Built.{Same, countNode, Room, Linked, Copied, Classified}
-use Rattle.index.specs.Marks.{bare, marked, markAll, placedAt, metAt, Wanted, passed, descended, sunk, Fits, Unmarked, Flagged, Zeros, Pruned}
+use Rattle.index.specs.Marks.{bare, marked, markAll, placedAt, metAt, Wanted, passed, descended, sunk, Fits, Unmarked, Flagged, Unfilled, Pruned}
 use Rattle.index.proofs.Nodes.{node-same, stored-size, stored-other, stored-node}
 use Rattle.index.proofs.Sums.{sum-part, brings-four}
 use Rattle.index.proofs.Counts.{count-size, count-same}
@@ -214,7 +214,7 @@ module _ (t x : List ℕ) (d : Descent) (p : ℕ) where
     pub loaded-low : 0 < nodeAt t p .kind → All (λ l. l / 2 < mostNodes) (operands (indexNode loaded p))
     loaded-low k = rw (loaded-node k) low
 
-    -- from the node on nothing is marked
+    -- from the node on nothing is marked, up to the flags
     marking-behind : (i : ℕ) → 4 * p ≤ i → i < codesAt → getD marking i 0 ≡ getD loaded i 0
     marking-behind i h b = marks-other loaded (operands (nodeAt t p)) i b (all-imply (λ l. l / 2 < p) _ (λ l b q. omega (arith, q, b)) (operands (nodeAt t p)) a)
 
@@ -309,7 +309,7 @@ sinking-same {t} {ls} {n} {p} x x′ few low size same S = record {
     }
 
 -- the literals are marked
-pub sinks-none : (t ls : List ℕ) (n : ℕ) (x : List ℕ) → n ≤ mostNodes → Below n ls → length x ≡ indexSize → Zeros x → Sinking t ls n n (markAll x ls)
+pub sinks-none : (t ls : List ℕ) (n : ℕ) (x : List ℕ) → n ≤ mostNodes → Below n ls → length x ≡ indexSize → Unfilled x → Sinking t ls n n (markAll x ls)
 sinks-none t ls n x few b z none = record {
   size = marks-size x ls ∙ z;
   nodes = λ m a h. absurd (omega arith);

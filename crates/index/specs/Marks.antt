@@ -13,7 +13,7 @@ use Rattle.scope.specs.Table.{operands, nodeAt}
 use Rattle.calculus.specs.Model.{All}
 use Rattle.calculus.specs.Agree.{Alike, Closed}
 use Rattle.index.specs.declared.Descent.{Descent}
-use Rattle.index.specs.Index.{indexSize, mostNodes, firstAt, midAt, endAt, mostEdges, codesAt, indexNode, stored, Codes, Classes}
+use Rattle.index.specs.Index.{mostNodes, firstAt, midAt, endAt, mostEdges, edgesAt, codesAt, indexNode, stored, Codes, Classes}
 use Rattle.index.specs.Edges.{midOf, endOf, Edges}
 use Rattle.index.specs.Built.{sum, countNode}
 
@@ -21,8 +21,8 @@ use Rattle.index.specs.Built.{sum, countNode}
 abbrev pub bare : Node
 bare = record { kind = 1; a = 0; b = 0; c = 0 }
 
--- a mark on a literal's node is a number that is not 0 where one less than its kind will be; its block is flagged with it, where the
--- codes will be
+-- a mark on a literal's node is a number that is not 0 where one less than its kind will be; its block, that of 63 nodes, so of 126
+-- literals, is flagged with it, where the codes will be
 abbrev pub marked : List ℕ → ℕ → List ℕ
 marked x l = set (set x (4 * (l / 2)) 1) (codesAt + l / 126) 1
 
@@ -77,10 +77,11 @@ pub record Over (base end : ℕ) (x : List ℕ) (r : ℕ) : Type 0 where
 
 -- the blocks of those of the first p nodes that are marked are flagged
 abbrev pub Flagged : ℕ → List ℕ → Type 0
-Flagged p x = (m : ℕ) → m < p → 0 < getD x (4 * m) 0 → 0 < getD x (codesAt + m / 63) 0
+Flagged p x = (m : ℕ) → m < p → Wanted x m → 0 < getD x (codesAt + m / 63) 0
 
-abbrev pub Zeros : List ℕ → Type 0
-Zeros x = (i : ℕ) → i < indexSize → getD x i 0 ≡ 0
+-- no node is there yet, and no edge is counted
+abbrev pub Unfilled : List ℕ → Type 0
+Unfilled x = (i : ℕ) → i < edgesAt → getD x i 0 ≡ 0
 
 -- the index of those of the n nodes of the table t that are below the literals
 pub record Pruned (t ls : List ℕ) (n : ℕ) (x : List ℕ) : Type 0 where

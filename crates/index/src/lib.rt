@@ -10,11 +10,12 @@ ghost use Rattle.index.specs.Codes.{codesSize, classesSize};
 ghost use Rattle.index.specs.Index.{indexSize, mostNodes, mostEdges, firstAt, midAt, endAt, indexNode, stored};
 ghost use Rattle.index.specs.Edges.{midOf, endOf};
 ghost use Rattle.index.specs.Built.{Same, Early, Recorded, Records, raised, countNode, putPair, putThree, putNode, Room, Blank, Counting, Placing, Linked, Loaded, Copied, Classified, Built};
-ghost use Rattle.index.specs.Marks.{marked, markAll, placedAt, metAt, Wanted, passed, descended, sunk, top, Fits, Flagged, Over, Zeros, Pruned};
+ghost use Rattle.index.specs.Marks.{marked, markAll, placedAt, metAt, Wanted, passed, descended, sunk, top, Fits, Flagged, Over, Unfilled, Pruned};
 
-// The layout: node m has one less than its kind at 4 m, so that zeros are a TRUE, then its operands; from FIRST, MID and END on each node's offsets: its edges from parents of two
-// operands stand from the first on below the second, two numbers each, those from parents of three from the second on below the third, one
-// number each; from EDGES on the edges, then the codes and the classes. specs/Edges.antt says what an edge holds.
+// The layout: node m has one less than its kind at 4 m, so that zeros are a TRUE, then its operands; from FIRST, MID and END on each node's
+// offsets: its edges from parents of two operands stand from the first on below the second, two numbers each, those from parents of three
+// from the second on below the third, one number each; from EDGES on the edges, then the codes and the classes. specs/Edges.antt says what
+// an edge holds.
 const FIRST: usize = 8064;
 
 const MID: usize = 10080;
@@ -776,7 +777,7 @@ fn mark(x: &mut [u16], l: u16)
     x[CODES_AT + (l / 126) as usize] = 1;
 }
 
-// The nodes of some literals are.
+// So are the nodes of some literals.
 fn mark_all(x: &mut [u16], ls: &[u16])
     requires { ⌜ (length (now x) ≡ indexSize) × Below mostNodes (now ls) ⌝ }
     ensures { λ _. ⌜ now (x .exit) ≡ markAll (now (x .entry)) (now (ls .entry)) ⌝ }
@@ -902,11 +903,11 @@ fn sink(t: &[u8], n: usize, x: &mut [u16]) -> usize
 }
 
 // The index of those of the first n nodes of a table that are below some literals of them: all that a search of these comes to. In the
-// place of each other zeros stay, a TRUE. x is zeros.
+// place of each other zeros stay, a TRUE. Before its edges x is zeros.
 pub fn build_below(t: &[u8], ls: &[u16], n: usize, x: &mut [u16])
     requires { ⌜ (n ≤ mostNodes) × Records (now t) n × Early (nodeAt (now t)) n ⌝ }
     requires { ⌜ Below n (now ls) ⌝ }
-    requires { ⌜ (length (now x) ≡ indexSize) × Zeros (now x) ⌝ }
+    requires { ⌜ (length (now x) ≡ indexSize) × Unfilled (now x) ⌝ }
     ensures { λ _. ⌜ Pruned (now (t .entry)) (now (ls .entry)) n (now (x .exit)) ⌝ }
 {
     mark_all(x, ls);

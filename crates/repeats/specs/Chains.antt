@@ -24,19 +24,30 @@ unfoldable pub withHash : List ℕ → ℕ → ℕ → List ℕ
 withHash t h zero = []
 withHash t h (suc n) = cond (eqb (hashOf (keyAt t n)) h) (n ∷ withHash t h n) (withHash t h n)
 
+-- the chains are 6,112 numbers: a head for each hash, then a link for each node
+abbrev pub chainCells : ℕ
+chainCells = 6112
+
+abbrev pub linkOf : List ℕ → ℕ → ℕ
+linkOf c m = getD c (4096 + m) 0
+
 -- the links from s on lead through these nodes; s is one more than the first, and 0 ends the chain
-pub data Chain (next : List ℕ) : ℕ → List ℕ → Type 0 where
-  stop : Chain next 0 []
-  link : (s : ℕ) (l : List ℕ) → getD next s 0 ≤ s → Chain next (getD next s 0) l → Chain next (suc s) (s ∷ l)
+pub data Chain (c : List ℕ) : ℕ → List ℕ → Type 0 where
+  stop : Chain c 0 []
+  link : (s : ℕ) (l : List ℕ) → linkOf c s ≤ s → Chain c (linkOf c s) l → Chain c (suc s) (s ∷ l)
 
 -- byte 1 of the record of node n is 0
 abbrev pub Plain : List ℕ → ℕ → Type 0
 Plain t n = getD t (placeOf n + 1) 0 ≡ 0
 
+-- no record is entered: zeros
+pub record Unlinked (c : List ℕ) : Type 0 where
+  pub size : length c ≡ chainCells
+  pub zeros : (i : ℕ) → i < chainCells → getD c i 0 ≡ 0
+
 -- from each head the chain leads through the nodes below n with that hash
-pub record Chains (t head next : List ℕ) (n : ℕ) : Type 0 where
-  pub heads : length head ≡ 4096
-  pub links : length next ≡ 2016
-  pub low : (h : ℕ) → getD head h 0 ≤ n
-  pub leads : (h : ℕ) → Chain next (getD head h 0) (withHash t h n)
+pub record Chains (t c : List ℕ) (n : ℕ) : Type 0 where
+  pub size : length c ≡ chainCells
+  pub low : (h : ℕ) → h < 4096 → getD c h 0 ≤ n
+  pub leads : (h : ℕ) → h < 4096 → Chain c (getD c h 0) (withHash t h n)
   pub plain : (m : ℕ) → m < n → Plain t m

@@ -8,6 +8,9 @@ ghost use Rattle.scope.specs.Table.{repeats};
 ghost use Rattle.repeats.specs.Chains.{joint, keyAt, hashOf, Plain, Chains};
 ghost use Rattle.record.specs.Place.{placeOf};
 
+// Behind the heads, one for each hash, a link for each node.
+const LINKS: usize = 4096;
+
 // A product of each number, and twelve bits of their sum.
 fn hash(low: u32, high: u32) -> usize
     ensures { λ r. ⌜ (r ≡ hashOf (joint low high)) × (r < 4096) ⌝ }
@@ -30,37 +33,37 @@ fn same(t: &[u8], m: usize, low: u32, high: u32) -> bool
 }
 
 // Whether the record of a node before node n is that of node n, low and high.
-fn seen(t: &[u8], head: &[u16], next: &[u16], n: usize, low: u32, high: u32) -> bool
-    requires { ⌜ (n < 2016) × (placeOf n + 8 ≤ length (now t)) × (joint low high ≡ keyAt (now t) n) × Plain (now t) n × Chains (now t) (now head) (now next) n ⌝ }
+fn seen(t: &[u8], chains: &[u16], n: usize, low: u32, high: u32) -> bool
+    requires { ⌜ (n < 2016) × (placeOf n + 8 ≤ length (now t)) × (joint low high ≡ keyAt (now t) n) × Plain (now t) n × Chains (now t) (now chains) n ⌝ }
     ensures { λ r. ⌜ r ≡ repeats (now (t .entry)) n ⌝ }
 {
     let h = hash(low, high);
-    let mut s = head[h] as usize;
+    let mut s = chains[h] as usize;
     while s != 0 {
         if same(t, s - 1, low, high) {
             return true;
         }
-        s = next[s - 1] as usize;
+        s = chains[LINKS + (s - 1)] as usize;
     }
     false
 }
 
 // Puts node n, whose record is low and high, in front of the chain of its hash.
-fn insert(t: &[u8], head: &mut [u16], next: &mut [u16], n: usize, low: u32, high: u32)
-    requires { ⌜ (n < 2016) × (joint low high ≡ keyAt (now t) n) × Plain (now t) n × Chains (now t) (now head) (now next) n ⌝ }
-    ensures { λ _. ⌜ Chains (now (t .entry)) (now (head .exit)) (now (next .exit)) (n + 1) ⌝ }
+fn insert(t: &[u8], chains: &mut [u16], n: usize, low: u32, high: u32)
+    requires { ⌜ (n < 2016) × (joint low high ≡ keyAt (now t) n) × Plain (now t) n × Chains (now t) (now chains) n ⌝ }
+    ensures { λ _. ⌜ Chains (now (t .entry)) (now (chains .exit)) (n + 1) ⌝ }
 {
     let h = hash(low, high);
-    next[n] = head[h];
-    head[h] = (n + 1) as u16;
+    chains[LINKS + n] = chains[h];
+    chains[h] = (n + 1) as u16;
 }
 
 // Whether node n, whose record is low and high, repeats an earlier one; it is entered among them either way.
-pub fn enter(t: &[u8], head: &mut [u16], next: &mut [u16], n: usize, low: u32, high: u32) -> bool
-    requires { ⌜ (n < 2016) × (placeOf n + 8 ≤ length (now t)) × (joint low high ≡ keyAt (now t) n) × Plain (now t) n × Chains (now t) (now head) (now next) n ⌝ }
-    ensures { λ r. ⌜ (r ≡ repeats (now (t .entry)) n) × Chains (now (t .entry)) (now (head .exit)) (now (next .exit)) (n + 1) ⌝ }
+pub fn enter(t: &[u8], chains: &mut [u16], n: usize, low: u32, high: u32) -> bool
+    requires { ⌜ (n < 2016) × (placeOf n + 8 ≤ length (now t)) × (joint low high ≡ keyAt (now t) n) × Plain (now t) n × Chains (now t) (now chains) n ⌝ }
+    ensures { λ r. ⌜ (r ≡ repeats (now (t .entry)) n) × Chains (now (t .entry)) (now (chains .exit)) (n + 1) ⌝ }
 {
-    let found = seen(t, head, next, n, low, high);
-    insert(t, head, next, n, low, high);
+    let found = seen(t, chains, n, low, high);
+    insert(t, chains, n, low, high);
     found
 }

@@ -9,7 +9,8 @@ ghost use lib.ListN.{length, getD};
 ghost use Rattle.scope.specs.Table.{listFrom};
 ghost use Rattle.calculus.specs.Expansion.{expand};
 ghost use Rattle.calculus.specs.Model.{Goals};
-ghost use Rattle.index.specs.Index.{indexSize, indexNode};
+ghost use Rattle.index.specs.Index.{indexNode};
+ghost use Rattle.asking.specs.Asks.{Zeros};
 ghost use Rattle.index.specs.Indexed.{Indexed};
 ghost use Rattle.units.specs.Units.{words};
 ghost use Rattle.replaying.specs.Standing.{stackSize};
@@ -33,9 +34,9 @@ fn few(count: usize) -> bool
     0 < count && count <= 8
 }
 
-// The node count of a table to which each question may be put, and the index of its nodes; or the first row's refusal.
+// The node count of a table to which each question may be put, and the index of its nodes; or the first row's refusal. x is zeros.
 fn ask(t: &[u8], questions: &[u16], points: usize, area: usize, x: &mut [u16]) -> Counted
-    requires { ⌜ length (now x) ≡ indexSize ⌝ }
+    requires { ⌜ Zeros (now x) ⌝ }
     ensures { λ r. ⌜ AsksRooms (now (t .entry)) (now (questions .entry)) points area (now (x .exit)) r ⌝ }
 {
     let q = questions.len();

@@ -35,9 +35,9 @@ use Rattle.table.specs.Counted.{Tested}
 use Rattle.table.specs.Own.{ownRows}
 
 -- a refusal is the verdict of the tests, and nothing is said of the chains
-pub refuses : (t head next : List ℕ) (v : Verdict) (tests : Outcome (Unit {0})) (n : ℕ) {number place : ℕ}
-    → verdictOf v ≡ refused number place → tests ≡ refused number place → Tested t head next v tests n
-refuses t head next v tests n e q = record { verdict = e ∙ sym q; entered = λ z. refused-no (sym e ∙ z) }
+pub refuses : (t c : List ℕ) (v : Verdict) (tests : Outcome (Unit {0})) (n : ℕ) {number place : ℕ}
+    → verdictOf v ≡ refused number place → tests ≡ refused number place → Tested t c v tests n
+refuses t c v tests n e q = record { verdict = e ∙ sym q; entered = λ z. refused-no (sym e ∙ z) }
 
 -- the rows of record n: its refusal; 17; none
 module _ (t : List ℕ) (n : ℕ) where
@@ -121,18 +121,18 @@ module _ (t : List ℕ) (j : ℕ) where
   unfolding blockRows
   block-fine e = rw e
 
-  pub block-entered : (head next : List ℕ) (v : Verdict) (k : ℕ) → BlockTest ≡ fine → k ≡ getD t (512 * j + 1) 0
-      → Tested t head next v (first (recordTest t) (63 * j) (63 * j + k - 63 * j)) (63 * j + k)
-      → Tested t head next v (blockRows t j) (63 * j + getD (blockAt t j) 1 0)
-  block-entered head next v k e q h =
+  pub block-entered : (c : List ℕ) (v : Verdict) (k : ℕ) → BlockTest ≡ fine → k ≡ getD t (512 * j + 1) 0
+      → Tested t c v (first (recordTest t) (63 * j) (63 * j + k - 63 * j)) (63 * j + k)
+      → Tested t c v (blockRows t j) (63 * j + getD (blockAt t j) 1 0)
+  block-entered c v k e q h =
       let s : getD (blockAt t j) 1 0 ≡ k = count-at t j ∙ sym q in
       rw (block-fine e, s) (simp add-sub-cancel-left at h)
 
   -- the nodes of a full block are those before the next one
-  pub next-block : (head next : List ℕ) → blockRows t j ≡ fine → Chains t head next (63 * j + getD (blockAt t j) 1 0) → j + 1 < length t / 512
-      → Chains t head next (63 * (j + 1))
+  pub next-block : (c : List ℕ) → blockRows t j ≡ fine → Chains t c (63 * j + getD (blockAt t j) 1 0) → j + 1 < length t / 512
+      → Chains t c (63 * (j + 1))
   unfolding blockRows
-  next-block head next e h l =
+  next-block c e h l =
       let q : 63 * j + getD (blockAt t j) 1 0 ≡ 63 * (j + 1) = omega (arith, count-full (then-first BlockTest _ e) (omega arith)) in
       rw q at h
 

@@ -14,6 +14,6 @@ countedOf (Nodes n) = answer n
 countedOf (Refused r) = refused (r .number) (r .place)
 
 -- the verdict is that of the tests; where it is fine, the nodes below n are in the chains
-pub record Tested (t head next : List ℕ) (v : Verdict) (tests : Outcome (Unit {0})) (n : ℕ) : Type 0 where
+pub record Tested (t c : List ℕ) (v : Verdict) (tests : Outcome (Unit {0})) (n : ℕ) : Type 0 where
   pub verdict : verdictOf v ≡ tests
-  pub entered : verdictOf v ≡ fine → Chains t head next n
+  pub entered : verdictOf v ≡ fine → Chains t c n

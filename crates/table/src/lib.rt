@@ -9,7 +9,7 @@ ghost use Rattle.scope.specs.Calls.{tableCount, tableRecord};
 ghost use Rattle.record.specs.Read.{readOf};
 ghost use Rattle.record.specs.Place.{placeOf};
 ghost use Rattle.record.specs.Halves.{doubleAt};
-ghost use Rattle.repeats.specs.Chains.{Chains};
+ghost use Rattle.repeats.specs.Chains.{Unlinked, Chains};
 ghost use Rattle.table.specs.Counted.{countedOf, Tested};
 ghost use Rattle.table.specs.Own.{ownRows};
 use record::NodeRead;
@@ -62,9 +62,9 @@ fn own_rows(t: &[u8], n: usize, at: usize, low: u32, high: u32) -> Verdict
 }
 
 // Rows 14 to 17 of node n, whose record is at a place and which is then entered in the chains.
-fn record_verdict(t: &[u8], head: &mut [u16], next: &mut [u16], n: usize, at: usize) -> Verdict
-    requires { ⌜ (n < 2016) × (at ≡ placeOf n) × (placeOf n + 8 ≤ length (now t)) × Chains (now t) (now head) (now next) n ⌝ }
-    ensures { λ r. ⌜ Tested (now (t .entry)) (now (head .exit)) (now (next .exit)) r (recordTest (now (t .entry)) n) (n + 1) ⌝ }
+fn record_verdict(t: &[u8], chains: &mut [u16], n: usize, at: usize) -> Verdict
+    requires { ⌜ (n < 2016) × (at ≡ placeOf n) × (placeOf n + 8 ≤ length (now t)) × Chains (now t) (now chains) n ⌝ }
+    ensures { λ r. ⌜ Tested (now (t .entry)) (now (chains .exit)) r (recordTest (now (t .entry)) n) (n + 1) ⌝ }
 {
     let low = words::double(t, at);
     let high = words::double(t, at + 4);
@@ -72,7 +72,7 @@ fn record_verdict(t: &[u8], head: &mut [u16], next: &mut [u16], n: usize, at: us
     let Verdict::Fine = v else {
         return v;
     };
-    if repeats::enter(t, head, next, n, low, high) {
+    if repeats::enter(t, chains, n, low, high) {
         return Verdict::Refused(Refusal {
             number: 17,
             place: n,
@@ -82,15 +82,15 @@ fn record_verdict(t: &[u8], head: &mut [u16], next: &mut [u16], n: usize, at: us
 }
 
 // The records of nodes from base up to end, one after another, all in one block.
-fn records(t: &[u8], head: &mut [u16], next: &mut [u16], base: usize, end: usize) -> Verdict
+fn records(t: &[u8], chains: &mut [u16], base: usize, end: usize) -> Verdict
     requires { ⌜ (base % 63 ≡ 0) × (base ≤ end) × (end ≤ base + 63) × (end ≤ 2016) ⌝ }
-    requires { ⌜ ((n : ℕ) → n < end → placeOf n + 8 ≤ length (now t)) × Chains (now t) (now head) (now next) base ⌝ }
-    ensures { λ r. ⌜ Tested (now (t .entry)) (now (head .exit)) (now (next .exit)) r (first (recordTest (now (t .entry))) base (end - base)) end ⌝ }
+    requires { ⌜ ((n : ℕ) → n < end → placeOf n + 8 ≤ length (now t)) × Chains (now t) (now chains) base ⌝ }
+    ensures { λ r. ⌜ Tested (now (t .entry)) (now (chains .exit)) r (first (recordTest (now (t .entry))) base (end - base)) end ⌝ }
 {
     let mut n = base;
     let mut at = record::place(base);
     while n < end {
-        let v = record_verdict(t, head, next, n, at);
+        let v = record_verdict(t, chains, n, at);
         let Verdict::Fine = v else {
             return v;
         };
@@ -101,9 +101,9 @@ fn records(t: &[u8], head: &mut [u16], next: &mut [u16], base: usize, end: usize
 }
 
 // Block j: its own rows, then those of its records.
-fn block_rows(t: &[u8], head: &mut [u16], next: &mut [u16], j: usize) -> Verdict
-    requires { ⌜ (j < 32) × (512 * j + 512 ≤ length (now t)) × Chains (now t) (now head) (now next) (63 * j) ⌝ }
-    ensures { λ r. ⌜ Tested (now (t .entry)) (now (head .exit)) (now (next .exit)) r (blockRows (now (t .entry)) j) (63 * j + getD (blockAt (now (t .entry)) j) 1 0) ⌝ }
+fn block_rows(t: &[u8], chains: &mut [u16], j: usize) -> Verdict
+    requires { ⌜ (j < 32) × (512 * j + 512 ≤ length (now t)) × Chains (now t) (now chains) (63 * j) ⌝ }
+    ensures { λ r. ⌜ Tested (now (t .entry)) (now (chains .exit)) r (blockRows (now (t .entry)) j) (63 * j + getD (blockAt (now (t .entry)) j) 1 0) ⌝ }
 {
     let at = 512 * j;
     let end = at + 512;
@@ -113,11 +113,12 @@ fn block_rows(t: &[u8], head: &mut [u16], next: &mut [u16], j: usize) -> Verdict
         return v;
     };
     let count = t[at + 1] as usize;
-    records(t, head, next, 63 * j, 63 * j + count)
+    records(t, chains, 63 * j, 63 * j + count)
 }
 
-// The first refusal of a table.
-pub fn verdict(t: &[u8]) -> Verdict
+// The first refusal of a table. The chains are lent, with no record in them.
+fn verdict(t: &[u8], chains: &mut [u16]) -> Verdict
+    requires { ⌜ Unlinked (now chains) ⌝ }
     ensures { λ r. ⌜ verdictOf r ≡ tableTest (now (t .entry)) ⌝ }
 {
     if !length_ok(t.len()) {
@@ -126,12 +127,10 @@ pub fn verdict(t: &[u8]) -> Verdict
             place: 0,
         });
     }
-    let mut head = [0u16; 4096];
-    let mut next = [0u16; 2016];
     let blocks = t.len() / 512;
     let mut j = 0;
     while j < blocks {
-        let v = block_rows(t, &mut head, &mut next, j);
+        let v = block_rows(t, chains, j);
         let Verdict::Fine = v else {
             return v;
         };
@@ -140,11 +139,12 @@ pub fn verdict(t: &[u8]) -> Verdict
     Verdict::Fine
 }
 
-// The node count of a table, or its first refusal.
-pub fn count(t: &[u8]) -> Counted
+// The node count of a table, or its first refusal, over chains that are lent, with no record in them.
+pub fn count_by(t: &[u8], chains: &mut [u16]) -> Counted
+    requires { ⌜ Unlinked (now chains) ⌝ }
     ensures { λ r. ⌜ countedOf r ≡ tableCount (now (t .entry)) ⌝ }
 {
-    let v = verdict(t);
+    let v = verdict(t, chains);
     match v {
         Verdict::Fine => {
             let full = t.len() / 512 - 1;
@@ -152,6 +152,14 @@ pub fn count(t: &[u8]) -> Counted
         }
         Verdict::Refused(r) => Counted::Refused(r),
     }
+}
+
+// The same, with chains of its own.
+pub fn count(t: &[u8]) -> Counted
+    ensures { λ r. ⌜ countedOf r ≡ tableCount (now (t .entry)) ⌝ }
+{
+    let mut chains = [0u16; 6112];
+    count_by(t, &mut chains)
 }
 
 // The record of a literal's node.

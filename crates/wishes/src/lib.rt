@@ -9,9 +9,9 @@ ghost use Prim.Native.Nat.{_+_, _≤_};
 ghost use lib.ListN.{length};
 ghost use Rattle.scope.specs.Outcome.{verdictOf};
 ghost use Rattle.calculus.specs.Model.{questionSize};
-ghost use Rattle.index.specs.Index.{indexNode, indexSize};
+ghost use Rattle.index.specs.Index.{indexNode};
 ghost use Rattle.index.specs.Indexed.{Indexed};
-ghost use Rattle.index.specs.Marks.{Zeros};
+ghost use Rattle.asking.specs.Asks.{Zeros};
 ghost use Rattle.state.specs.Work.{gOf};
 ghost use Rattle.deciding.specs.Setting.{Points};
 ghost use Rattle.deciding.specs.Decides.{Room};
@@ -83,7 +83,7 @@ fn ask(
     x: &mut [u16],
 ) -> Counted
     requires { ⌜ length (now list) ≡ questionSize ⌝ }
-    requires { ⌜ (length (now x) ≡ indexSize) × Zeros (now x) ⌝ }
+    requires { ⌜ Zeros (now x) ⌝ }
     ensures { λ r. ⌜ WishesAsk (now (t .entry)) (now (goals .entry)) (now (wishes .entry)) points area (now (list .exit)) (now (x .exit)) r ⌝ }
 {
     let listed = list_rows(goals, wishes);

@@ -10,8 +10,8 @@ use Rattle.asking.proofs.ask_within_by.Tie as tie
 bytes : (c : tie.After-shared-slice-known) → Bytes (c .before .args .t .now)
 bytes c i = c .shared-slice-known .given i .fits
 
-admit-requires : tie.Need-admit-requires
-admit-requires c κs = search needs
+admit-over-requires : tie.Need-admit-over-requires
+admit-over-requires c κs = search needs
 
 enum-known-a : tie.Need-enum-known-a
 enum-known-a c = search needs
@@ -24,37 +24,40 @@ reach-requires c κs = search needs
 
 build-below-requires : tie.Need-build-below-requires
 build-below-requires c κs =
-    let e = c .before .before .before .before .admit .ensures in
+    let (e, kept) = c .before .before .before .before .before .before .admit-over .ensures in
     let q = c .before .before .enum-told .given .1 in
-    let b = bytes (c .before .before .before .before .before .before .before) in
     let r = c .before .reach .ensures in
     let l = r .least _ (e .admitted _ q .below) in
-    (buildable-few _ (e .counted _ q) b _ l, (r .below, search needs))
-
-returns : tie.Need-returns
-returns c = within-none _ _ _ _ _ _ _ (c .before .before .before .admit .ensures .refuses _ (c .before .a .given .1)) _
+    (buildable-few _ (e .counted _ q) (bytes (c .before .before .before .before .before .before .before .before .before .before)) _ l, (r .below, kept))
 
 same-length : tie.Need-same-length
 same-length c = search needs
 
+returns : tie.Need-returns
+returns c = within-none _ _ _ _ _ _ _ (c .before .before .before .before .before .admit-over .ensures .0 .refuses _ (c .before .a .given .1)) _
+
+same-length-2 : tie.Need-same-length-2
+same-length-2 c = search needs
+
 returns-2 : tie.Need-returns-2
 returns-2 c =
-    let e = c .before .before .before .before .before .before .before .admit .ensures in
+    let e = c .before .before .before .before .before .before .before .before .before .admit-over .ensures .0 in
     let q = c .before .before .before .before .before .enum-told .given .1 in
     let r = c .before .before .before .before .reach .ensures in
     within-some _ _ _ _ _ _ _ _
-    (reaches _ (e .counted _ q) (bytes (c .before .before .before .before .before .before .before .before .before .before)) _ (r .least _ (e .admitted _ q .below)) _ (search needs) _ _ _ _ _
+    (reaches _ (e .counted _ q) (bytes (c .before .before .before .before .before .before .before .before .before .before .before .before .before)) _ (r .least _ (e .admitted _ q .below)) _ (search needs) _ _ _ _ _
     (e .admitted _ q) (r .below) (c .before .before .build-below .ensures))
 
 pub ask-within-by-spec : {M : Type 1} → statement M
 ask-within-by-spec =
     tie.close
     (tie.spec
-    admit-requires
+    admit-over-requires
     enum-known-a
     enum-told
     reach-requires
     build-below-requires
-    returns
     same-length
+    returns
+    same-length-2
     returns-2)

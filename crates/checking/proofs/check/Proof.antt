@@ -1,16 +1,19 @@
 -- `checking::check` meets its contract: a refusal is the first row's that refuses, and else the derivation decides. Assumes nothing.
+use lib.ListN.{getD-replicate}
+use native.Mathlib.Omega.{arith}
 use borrow.Author.Needs.{needs}
+use Rattle.branch.specs.Holds.{nodeCells}
 use Rattle.asking.proofs.Nodes.{buildable}
 use Rattle.checking.proofs.Nodes.{goals-in, ready}
 use Rattle.checking.proofs.Answers.{refuses, ends}
 use Rattle.checking.proofs.check.Statement.{statement}
 use Rattle.checking.proofs.check.Tie as tie
 
-list-row-requires : tie.Need-list-row-requires
-list-row-requires c κs = search needs
+slice-aggregate-admit : tie.Need-slice-aggregate-admit
+slice-aggregate-admit c = search needs
 
 admit-requires : tie.Need-admit-requires
-admit-requires c κs = search needs
+admit-requires c κs = (search needs, λ i h. getD-replicate nodeCells i 0 0 (omega (arith, h)))
 
 enum-known-a : tie.Need-enum-known-a
 enum-known-a c = search needs
@@ -23,8 +26,7 @@ slice-aggregate-load c = search needs
 
 load-requires : tie.Need-load-requires
 load-requires c κs =
-    let k = c .before .before .before .before in
-    let b = buildable (k .before .before .before .before .before .before .args .t .now) (k .admit .ensures .counted _ (c .before .before .a2 .given .1)) (λ i. k .before .before .before .before .before .shared-slice-known .given i .fits) in
+    let b = buildable (c .before .before .before .before .before .before .before .before .before .before .before .args .t .now) (c .before .before .before .before .before .admit .ensures .counted _ (c .before .before .a2 .given .1)) (λ i. c .before .before .before .before .before .before .before .before .before .before .shared-slice-known .given i .fits) in
     (b .0, b .1, search needs)
 
 slice-aggregate-replayed : tie.Need-slice-aggregate-replayed
@@ -32,33 +34,30 @@ slice-aggregate-replayed c = search needs
 
 replayed-requires : tie.Need-replayed-requires
 replayed-requires c κs =
-    let k = c .before .before .before .before .before .before .before .before in
     let q = c .before .before .before .before .before .before .a2 .given .1 in
-    let a = rw (k .before .list-row .ensures) at (k .admit .ensures .admitted _ q) in
-    let p = ready (k .before .before .before .before .before .before .args .t .now) (k .admit .ensures .counted _ q) (λ i. k .before .before .before .before .before .shared-slice-known .given i .fits) _ (c .before .before .before .load .ensures) _ _ a in
+    let a = c .before .before .before .before .before .before .before .before .before .admit .ensures .admitted _ q in
+    let p = ready (c .before .before .before .before .before .before .before .before .before .before .before .before .before .before .before .args .t .now) (c .before .before .before .before .before .before .before .before .before .admit .ensures .counted _ q) (λ i. c .before .before .before .before .before .before .before .before .before .before .before .before .before .before .shared-slice-known .given i .fits) _ (c .before .before .before .load .ensures) _ _ a in
     (p .indexed, (goals-in p, a .work))
 
 returns : tie.Need-returns
 returns c =
-    let k = c .before .before .before in
-    refuses _ _ _ _ (λ i. k .before .before .before .before .before .shared-slice-known .given i .fits) _ (rw (k .before .list-row .ensures) at (k .admit .ensures .refuses _ (c .before .a .given .1)))
+    refuses _ _ _ _ (λ i. c .before .before .before .before .before .before .before .before .before .shared-slice-known .given i .fits) _ (c .before .before .before .before .admit .ensures .refuses _ (c .before .a .given .1))
 
 same-length : tie.Need-same-length
 same-length c = search needs
 
 returns-2 : tie.Need-returns-2
 returns-2 c =
-    let k = c .before .before .before .before .before .before .before .before .before .before .before in
     let q = c .before .before .before .before .before .before .before .before .before .a2 .given .1 in
-    let a = rw (k .before .list-row .ensures) at (k .admit .ensures .admitted _ q) in
-    let p = ready (k .before .before .before .before .before .before .args .t .now) (k .admit .ensures .counted _ q) (λ i. k .before .before .before .before .before .shared-slice-known .given i .fits) _ (c .before .before .before .before .before .before .load .ensures) _ _ a in
-    ends _ _ _ _ (λ i. k .before .before .before .before .before .shared-slice-known .given i .fits) p _ (c .before .before .replayed .ensures)
+    let a = c .before .before .before .before .before .before .before .before .before .before .before .before .admit .ensures .admitted _ q in
+    let p = ready (c .before .before .before .before .before .before .before .before .before .before .before .before .before .before .before .before .before .before .args .t .now) (c .before .before .before .before .before .before .before .before .before .before .before .before .admit .ensures .counted _ q) (λ i. c .before .before .before .before .before .before .before .before .before .before .before .before .before .before .before .before .before .shared-slice-known .given i .fits) _ (c .before .before .before .before .before .before .load .ensures) _ _ a in
+    ends _ _ _ _ (λ i. c .before .before .before .before .before .before .before .before .before .before .before .before .before .before .before .before .before .shared-slice-known .given i .fits) p _ (c .before .before .replayed .ensures)
 
 pub check-spec : {M : Type 1} → statement M
 check-spec =
     tie.close
     (tie.spec
-    list-row-requires
+    slice-aggregate-admit
     admit-requires
     enum-known-a
     enum-known-a-2

@@ -1,4 +1,4 @@
--- `clause::row_of` meets its contract. The row of a literal is below 18, by the kinds of a table. Assumes nothing.
+-- `clause::row_of` meets its contract. The row of a literal, from TRUE's on, is below 16, by the kinds of a table. Assumes nothing.
 use Prim.Native.Nat.{_+_, _*_, _<_}
 use lib.ListN.{getD}
 use Rattle.index.specs.Index.{indexNode}

@@ -1,7 +1,6 @@
 -- `deriving::derive` meets its contract: a refusal is the first row's that refuses, and else the search decides. Assumes nothing.
-use lib.ListN.{getD-replicate}
 use borrow.Author.Needs.{needs}
-use Rattle.index.specs.Index.{indexSize}
+use Rattle.asking.proofs.Lends.{new-index}
 use Rattle.codec.specs.Valid.{Bytes}
 use Rattle.asking.proofs.Nodes.{goals-within}
 use Rattle.deriving.proofs.Answers.{refuses, ends}
@@ -16,7 +15,7 @@ slice-aggregate-ask-within : tie.Need-slice-aggregate-ask-within
 slice-aggregate-ask-within c = search needs
 
 ask-within-requires : tie.Need-ask-within-requires
-ask-within-requires c κs = (search needs, λ i h. getD-replicate indexSize i 0 0 h)
+ask-within-requires c κs = new-index
 
 enum-known-a : tie.Need-enum-known-a
 enum-known-a c = search needs

@@ -4,6 +4,7 @@ use mathlib.Core.List.{List}
 use Prim.Native.Nat.{ℕ}
 use native.Mathlib.Omega.{arith}
 use borrow.Author.Needs.{needs}
+use Rattle.asking.proofs.Lends.{new-index}
 use Rattle.table.specs.Counted.{countedOf}
 use Rattle.text.specs.Text.{ascii, Put}
 use Rattle.text.specs.Listing.{heading}
@@ -22,7 +23,7 @@ slice-aggregate-ask-by-2 : tie.Need-slice-aggregate-ask-by-2
 slice-aggregate-ask-by-2 c = search needs
 
 ask-by-requires : tie.Need-ask-by-requires
-ask-by-requires c κs = search needs
+ask-by-requires c κs = new-index
 
 enum-known-c : tie.Need-enum-known-c
 enum-known-c c = search needs

@@ -1,9 +1,8 @@
 -- `overview::overview` meets its contract: a refusal is the first row's that refuses, and else each goal has its byte. Assumes nothing.
 use Rattle.codec.specs.Valid.{Bytes}
 use Rattle.overview.proofs.Answers.{by-row, refuses, room, ends}
-use lib.ListN.{getD-replicate}
 use borrow.Author.Needs.{needs}
-use Rattle.index.specs.Index.{indexSize}
+use Rattle.asking.proofs.Lends.{new-index}
 use Rattle.overview.proofs.overview.Statement.{statement}
 use Rattle.overview.proofs.overview.Tie as tie
 
@@ -18,7 +17,7 @@ slice-aggregate-ask-within-by : tie.Need-slice-aggregate-ask-within-by
 slice-aggregate-ask-within-by c = search needs
 
 ask-within-by-requires : tie.Need-ask-within-by-requires
-ask-within-by-requires c κs = (search needs, λ i h. getD-replicate indexSize i 0 0 h)
+ask-within-by-requires c κs = new-index
 
 enum-known-a : tie.Need-enum-known-a
 enum-known-a c = search needs

@@ -1,5 +1,7 @@
 -- `repeats::insert` meets its contract: one store for the link, one for the head. Assumes nothing.
 use mathlib.Core.Path.{_∙_, ap}
+use lib.ListN.{length-set}
+use native.Mathlib.Omega.{arith}
 use borrow.Author.Needs.{needs}
 use Rattle.repeats.specs.Chains.{hashOf}
 use Rattle.repeats.proofs.Chains.{inserted}
@@ -9,39 +11,39 @@ use Rattle.repeats.proofs.insert.Tie as tie
 hash-requires : tie.Need-hash-requires
 hash-requires c κs = search needs
 
-mul-next : tie.Need-mul-next
-mul-next c = search needs
+mul-chains : tie.Need-mul-chains
+mul-chains c = search needs
 
-slice-read-next : tie.Need-slice-read-next
-slice-read-next c = search needs
+slice-read-chains : tie.Need-slice-read-chains
+slice-read-chains c = omega (arith, c .before .before .before .before .pre .3 .size, c .before .hash .ensures .1)
 
-mul-next-2 : tie.Need-mul-next-2
-mul-next-2 c = search needs
+add-chains : tie.Need-add-chains
+add-chains c = search needs
 
-slice-write-next : tie.Need-slice-write-next
-slice-write-next c = search needs
+mul-chains-2 : tie.Need-mul-chains-2
+mul-chains-2 c = search needs
 
-add-head : tie.Need-add-head
-add-head c = search needs
+slice-write-chains : tie.Need-slice-write-chains
+slice-write-chains c = omega (arith, c .before .before .before .before .pre .3 .size, c .before .before .before .before .pre .0)
 
-cast-head : tie.Need-cast-head
-cast-head c = search needs
+add-chains-2 : tie.Need-add-chains-2
+add-chains-2 c = search needs
 
-mul-head : tie.Need-mul-head
-mul-head c = search needs
+cast-chains : tie.Need-cast-chains
+cast-chains c = search needs
 
-slice-write-head : tie.Need-slice-write-head
-slice-write-head c = search needs
+mul-chains-3 : tie.Need-mul-chains-3
+mul-chains-3 c = search needs
+
+slice-write-chains-2 : tie.Need-slice-write-chains-2
+slice-write-chains-2 c = simp length-set (omega (arith, c .before .before .before .before .pre .3 .size, c .before .hash .ensures .1))
 
 same-length : tie.Need-same-length
 same-length c = search needs
 
-same-length-2 : tie.Need-same-length-2
-same-length-2 c = search needs
-
 returns : tie.Need-returns
 returns c =
-    let p = c .before .before .before .before .before .pre in
+    let p = c .before .before .before .before .pre in
     let h = c .before .hash .ensures in
     inserted (p .3) (h .1) (p .0) (h .0 ∙ ap hashOf (p .1)) (p .2)
 
@@ -50,14 +52,14 @@ insert-spec =
     tie.close
     (tie.spec
     hash-requires
-    mul-next
-    slice-read-next
-    mul-next-2
-    slice-write-next
-    add-head
-    cast-head
-    mul-head
-    slice-write-head
+    mul-chains
+    slice-read-chains
+    add-chains
+    mul-chains-2
+    slice-write-chains
+    add-chains-2
+    cast-chains
+    mul-chains-3
+    slice-write-chains-2
     same-length
-    same-length-2
     returns)

@@ -1,5 +1,6 @@
 -- `rooms::open` meets its contract: a refusal, or the areas are set up. Assumes nothing.
 use borrow.Author.Needs.{needs}
+use Rattle.asking.proofs.Lends.{new-index}
 use Rattle.rooms.proofs.Ends.{open-refused, open-done}
 use Rattle.rooms.proofs.Rows.{rooms-refused}
 use Rattle.rooms.proofs.open.Statement.{statement}
@@ -9,7 +10,7 @@ slice-aggregate-ask : tie.Need-slice-aggregate-ask
 slice-aggregate-ask c = search needs
 
 ask-requires : tie.Need-ask-requires
-ask-requires c κs = search needs
+ask-requires c κs = new-index
 
 enum-known-a : tie.Need-enum-known-a
 enum-known-a c = search needs

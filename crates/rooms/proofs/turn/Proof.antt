@@ -1,6 +1,7 @@
 -- `rooms::turn` meets its contract: a refusal, or the round goes on. Assumes nothing.
 use mathlib.Core.Path.{refl}
 use borrow.Author.Needs.{needs}
+use Rattle.asking.proofs.Lends.{new-index}
 use Rattle.rooms.proofs.Ends.{none-zero, turn-refused, turn-done, index-went, index-reported}
 use Rattle.rooms.proofs.Rows.{rooms-refused}
 use Rattle.rooms.proofs.turn.Statement.{statement}
@@ -11,7 +12,7 @@ slice-aggregate-ask : tie.Need-slice-aggregate-ask
 slice-aggregate-ask c = search needs
 
 ask-requires : tie.Need-ask-requires
-ask-requires c κs = search needs
+ask-requires c κs = new-index
 
 enum-known-a : tie.Need-enum-known-a
 enum-known-a c = search needs

@@ -12,18 +12,18 @@ use Rattle.table.proofs.block_rows.Statement.{statement}
 use Rattle.table.proofs.block_rows.Tie as tie
 
 -- the test of block j, and that it is fine past the branch
-tested : (c : tie.After-test) → verdictOf (c .test .result) ≡ BlockTest (c .before .before .before .before .before .before .args .t .now) (c .before .before .before .before .before .before .args .j)
+tested : (c : tie.After-test) → verdictOf (c .test .result) ≡ BlockTest (c .before .before .before .before .before .args .t .now) (c .before .before .before .before .before .args .j)
 tested c =
-    let a = c .before .before .before .before .before .before .args in
+    let a = c .before .before .before .before .before .args in
     block-tested _ tables (a .t .now) (a .j) _ (c .before .tables .ensures) (c .test .ensures)
 
-passes : (c : tie.After-enum-told) → let start = c .before .before .before .before .before .before .before .before in
+passes : (c : tie.After-enum-told) → let start = c .before .before .before .before .before .before .before in
     BlockTest (start .args .t .now) (start .args .j) ≡ fine
 passes c = sym (tested (c .before .before)) ∙ ap verdictOf (c .enum-told .given .1)
 
-most : (c : tie.After-enum-told) → let start = c .before .before .before .before .before .before .before .before in
+most : (c : tie.After-enum-told) → let start = c .before .before .before .before .before .before .before in
     getD (start .args .t .now) (512 * start .args .j + 1) 0 ≤ 63
-most c = count-most (c .before .before .before .before .before .before .before .before .args .t .now) (c .before .before .before .before .before .before .before .before .args .j) (passes c)
+most c = count-most (c .before .before .before .before .before .before .before .args .t .now) (c .before .before .before .before .before .before .before .args .j) (passes c)
 
 mul-at : tie.Need-mul-at
 mul-at c = search needs
@@ -57,10 +57,9 @@ enum-told-2 c = search needs
 
 returns : tie.Need-returns
 returns c =
-    let at-rest = c .before .before in
-    let start = at-rest .before .before .before .before .before .before in
+    let start = c .before .before .before .before .before .before .before in
     let told = ap verdictOf (c .enum-told2 .given .1) in
-    refuses _ _ _ _ _ _ told (block-refused (start .args .t .now) (start .args .j) (sym (tested (at-rest)) ∙ told))
+    refuses _ _ _ _ _ told (block-refused (start .args .t .now) (start .args .j) (sym (tested (c .before .before)) ∙ told))
 
 add-count : tie.Need-add-count
 add-count c = search needs
@@ -78,14 +77,13 @@ mul-records-2 : tie.Need-mul-records-2
 mul-records-2 c = search needs
 
 add-records : tie.Need-add-records
-add-records c = omega (arith, most (c .before .before .before))
+add-records c = omega (arith, most (c .before .before))
 
 records-requires : tie.Need-records-requires
 records-requires c κs =
-    let at-rest = c .before .before .before in
-    let start = at-rest .before .before .before .before .before .before .before .before in
+    let start = c .before .before .before .before .before .before .before .before .before in
     let p = start .pre in
-    let k = most (at-rest) in (
+    let k = most (c .before .before) in (
       (omega arith, omega arith, omega (arith, k), omega (arith, p .0, k)),
       (λ n h. within (start .args .t .now) (start .args .j) n (p .1) (omega (arith, h, k)), p .2),
     )
@@ -93,13 +91,10 @@ records-requires c κs =
 same-length : tie.Need-same-length
 same-length c = search needs
 
-same-length-2 : tie.Need-same-length-2
-same-length-2 c = search needs
-
 returns-2 : tie.Need-returns-2
 returns-2 c =
-    let a = c .before .before .before .before .before .before .before .before .before .before .before .before .before .before .before .before .args in
-    block-entered (a .t .now) (a .j) _ _ _ _ (passes (c .before .before .before .before .before .before .before .before)) refl (c .before .before .before .before .records .ensures)
+    let a = c .before .before .before .before .before .before .before .before .before .before .before .before .args in
+    block-entered (a .t .now) (a .j) _ _ _ (passes (c .before .before .before .before .before)) refl (c .before .before .records .ensures)
 
 pub block-rows-spec : {M : Type 1} → statement M
 block-rows-spec =
@@ -124,5 +119,4 @@ block-rows-spec =
     add-records
     records-requires
     same-length
-    same-length-2
     returns-2)

@@ -15,32 +15,31 @@ use Rattle.table.proofs.records.Statement.{statement}
 use Rattle.table.proofs.records.Tie as tie
 
 abbrev Inv-loop : tie.InvT-loop
-Inv-loop t head₀ next₀ base end n₀ at₀ head next n at =
+Inv-loop t chains₀ base end n₀ at₀ chains n at =
     (n ≤ end)
-    × Chains t head next n
+    × Chains t chains n
     × (first (recordTest t) n (end - n) ≡ first (recordTest t) base (end - base))
-    × (length head ≡ length head₀)
-    × (length next ≡ length next₀)
+    × (length chains ≡ length chains₀)
     × (base ≤ n)
     × (at + 8 * base ≡ placeOf base + 8 * n)
 
 abbrev μ-loop : tie.MeasureT-loop
-μ-loop t head₀ next₀ base end n₀ at₀ head next n at = end - n
+μ-loop t chains₀ base end n₀ at₀ chains n at = end - n
 
 place-requires : tie.Need-place-requires Inv-loop μ-loop
-place-requires c κs = omega (arith, c .before .before .before .pre .0)
+place-requires c κs = omega (arith, c .before .before .pre .0)
 
 loop-holds : tie.Need-loop-holds Inv-loop μ-loop
 loop-holds c =
-    let p = c .before .before .before .before .pre in
-    (p .0 .1, p .1 .1, refl, refl, refl, omega arith, omega (arith, c .place .ensures))
+    let p = c .before .before .before .pre in
+    (p .0 .1, p .1 .1, refl, refl, omega arith, omega (arith, c .place .ensures))
 
 record-verdict-requires : tie.Need-record-verdict-requires Inv-loop μ-loop
 record-verdict-requires c κs =
-    let p = c .before .before .before .before .before .before .before .before .pre in
-    let inv = c .before .before .before .loop .inv in
-    let less = c .before .before .loop-test .taken in
-    (omega (arith, p .0, less), omega (arith, p .0, less, inv .5, inv .6), p .1 .0 _ less, inv .1)
+    let p = c .before .before .before .before .before .before .pre in
+    let inv = c .before .before .loop .inv in
+    let less = c .before .loop-test .taken in
+    (omega (arith, p .0, less), omega (arith, p .0, less, inv .4, inv .5), p .1 .0 _ less, inv .1)
 
 enum-told : tie.Need-enum-told Inv-loop μ-loop
 enum-told c = search needs
@@ -49,57 +48,47 @@ enum-told-2 : tie.Need-enum-told-2 Inv-loop μ-loop
 enum-told-2 c = search needs
 
 same-length : tie.Need-same-length Inv-loop μ-loop
-same-length c = c .before .before .before .before .before .before .record-verdict .kept .1 .0 ∙ c .before .before .before .before .before .before .before .before .before .before .loop .inv .3
-
-same-length-2 : tie.Need-same-length-2 Inv-loop μ-loop
-same-length-2 c = c .before .before .before .before .before .before .record-verdict .kept .1 .1 .0 ∙ c .before .before .before .before .before .before .before .before .before .before .loop .inv .4
+same-length c = c .before .before .before .before .record-verdict .kept .1 .0 ∙ c .before .before .before .before .before .before .before .loop .inv .3
 
 returns : tie.Need-returns Inv-loop μ-loop
 returns c =
-    let at-record-verdict = c .before .before .before .before .before .before in
-    let at-loop-test = at-record-verdict .before .before .before in
-    let at-loop = at-loop-test .before in
-    let v = at-record-verdict .record-verdict .ensures .verdict in
+    let v = c .before .before .before .before .record-verdict .ensures .verdict in
     let told = ap verdictOf (c .enum-told2 .given .1) in
-    refuses _ _ _ _ _ _ told (sym (at-loop .loop .inv .2) ∙ stops _ _ _ _ _ (at-loop-test .loop-test .taken) (sym v ∙ told))
+    refuses _ _ _ _ _ told (sym (c .before .before .before .before .before .before .before .loop .inv .2) ∙ stops _ _ _ _ _ (c .before .before .before .before .before .before .loop-test .taken) (sym v ∙ told))
 
 add-n : tie.Need-add-n Inv-loop μ-loop
 add-n c = search needs
 
 add-at : tie.Need-add-at Inv-loop μ-loop
 add-at c =
-    let p = c .before .before .before .before .before .before .before .before .before .before .before .before .before .before .before .pre in
-    let inv = c .before .before .before .before .before .before .before .before .before .before .loop .inv in
-    omega (arith, p .0, inv .5, inv .6)
+    let p = c .before .before .before .before .before .before .before .before .before .before .before .pre in
+    let inv = c .before .before .before .before .before .before .before .loop .inv in
+    omega (arith, p .0, inv .4, inv .5)
 
 loop-less : tie.Need-loop-less Inv-loop μ-loop
 loop-less c = search needs
 
 loop-again : tie.Need-loop-again Inv-loop μ-loop
 loop-again c =
-    let v = c .before .before .before .before .before .before .record-verdict .ensures in
+    let v = c .before .before .before .before .record-verdict .ensures in
     let told = ap verdictOf (c .enum-told .given .1) in
-    let inv = c .before .before .before .before .before .before .before .before .before .before .loop .inv in (
-      omega (arith, c .before .before .before .before .before .before .before .before .before .loop-test .taken),
+    let inv = c .before .before .before .before .before .before .before .loop .inv in (
+      omega (arith, c .before .before .before .before .before .before .loop-test .taken),
       v .entered told,
-      sym (goes _ _ _ (c .before .before .before .before .before .before .before .before .before .loop-test .taken) (sym (v .verdict) ∙ told)) ∙ inv .2,
-      c .before .before .before .before .before .before .record-verdict .kept .1 .0 ∙ inv .3,
-      c .before .before .before .before .before .before .record-verdict .kept .1 .1 .0 ∙ inv .4,
+      sym (goes _ _ _ (c .before .before .before .before .before .before .loop-test .taken) (sym (v .verdict) ∙ told)) ∙ inv .2,
+      c .before .before .before .before .record-verdict .kept .1 .0 ∙ inv .3,
+      omega (arith, inv .4),
       omega (arith, inv .5),
-      omega (arith, inv .6),
     )
 
-same-length-3 : tie.Need-same-length-3 Inv-loop μ-loop
-same-length-3 c = c .before .loop .inv .3
-
-same-length-4 : tie.Need-same-length-4 Inv-loop μ-loop
-same-length-4 c = c .before .loop .inv .4
+same-length-2 : tie.Need-same-length-2 Inv-loop μ-loop
+same-length-2 c = c .before .loop .inv .3
 
 returns-2 : tie.Need-returns-2 Inv-loop μ-loop
 returns-2 c =
     let inv = c .before .loop .inv in
     let all = sym (done (recordTest _) _ _ (c .loop-test .left)) ∙ inv .2 in
-    let e : c .before .before .before .before .before .before .args .end ≡ c .before .loop .n = omega (arith, inv .0, c .loop-test .left) in
+    let e : c .before .before .before .before .before .args .end ≡ c .before .loop .n = omega (arith, inv .0, c .loop-test .left) in
     record { verdict = all; entered = λ _. rw e (inv .1) }
 
 pub records-spec : {M : Type 1} → statement M
@@ -114,12 +103,10 @@ records-spec =
     enum-told
     enum-told-2
     same-length
-    same-length-2
     returns
     add-n
     add-at
     loop-less
     loop-again
-    same-length-3
-    same-length-4
+    same-length-2
     returns-2)

@@ -19,17 +19,16 @@ use Rattle.table.proofs.verdict.Statement.{statement}
 use Rattle.table.proofs.verdict.Tie as tie
 
 abbrev Inv-loop : tie.InvT-loop
-Inv-loop t head₀ next₀ blocks j₀ head next j =
+Inv-loop t chains₀ blocks j₀ chains j =
     (j ≤ blocks)
     × (blocks ≡ length t / 512)
     × (lengthOk (length t) ≡ true)
-    × (j < blocks → Chains t head next (63 * j))
+    × (j < blocks → Chains t chains (63 * j))
     × (first (blockRows t) j (blocks - j) ≡ first (blockRows t) 0 blocks)
-    × (length head ≡ 4096)
-    × (length next ≡ 2016)
+    × (length chains ≡ length chains₀)
 
 abbrev μ-loop : tie.MeasureT-loop
-μ-loop t head₀ next₀ blocks j₀ head next j = blocks - j
+μ-loop t chains₀ blocks j₀ chains j = blocks - j
 
 length-ok-requires : tie.Need-length-ok-requires Inv-loop μ-loop
 length-ok-requires c κs = search needs
@@ -42,23 +41,16 @@ loop-holds c = (
   search needs,
   refl,
   sym (c .before .length-ok .ensures) ∙ not-false _ (c .if1 .left),
-  λ _. no-chains _,
+  λ _. no-chains _ (c .before .before .before .before .pre),
   simp sub-zero,
-  search needs,
-  search needs,
+  refl,
 )
-
-slice-aggregate-block-rows : tie.Need-slice-aggregate-block-rows Inv-loop μ-loop
-slice-aggregate-block-rows c = sym (c .before .before .loop .inv .5)
-
-slice-aggregate-block-rows-2 : tie.Need-slice-aggregate-block-rows-2 Inv-loop μ-loop
-slice-aggregate-block-rows-2 c = sym (c .before .before .before .loop .inv .6)
 
 block-rows-requires : tie.Need-block-rows-requires Inv-loop μ-loop
 block-rows-requires c κs =
-    let inv = c .before .before .before .loop .inv in
+    let inv = c .before .before .loop .inv in
     let size = whole-blocks _ (inv .2) in
-    (omega (arith, size .2, inv .1), omega (arith, size .1, inv .1), inv .3 (c .before .before .loop-test .taken))
+    (omega (arith, size .2, inv .1), omega (arith, size .1, inv .1), inv .3 (c .before .loop-test .taken))
 
 enum-told : tie.Need-enum-told Inv-loop μ-loop
 enum-told c = search needs
@@ -66,12 +58,15 @@ enum-told c = search needs
 enum-told-2 : tie.Need-enum-told-2 Inv-loop μ-loop
 enum-told-2 c = search needs
 
+same-length : tie.Need-same-length Inv-loop μ-loop
+same-length c = c .before .before .before .before .block-rows .kept .1 .0 ∙ c .before .before .before .before .before .before .before .loop .inv .5
+
 returns-2 : tie.Need-returns-2 Inv-loop μ-loop
 returns-2 c =
-    let inv = c .before .before .before .before .before .before .before .before .loop .inv in
+    let inv = c .before .before .before .before .before .before .before .loop .inv in
     let told = ap verdictOf (c .enum-told2 .given .1) in
     let row = sym (c .before .before .before .before .block-rows .ensures .verdict) ∙ told in
-    told ∙ sym (stops _ _ _ _ _ (c .before .before .before .before .before .before .before .loop-test .taken) row) ∙ inv .4 ∙ sym (table-rows _ (inv .2))
+    told ∙ sym (stops _ _ _ _ _ (c .before .before .before .before .before .before .loop-test .taken) row) ∙ inv .4 ∙ sym (table-rows _ (inv .2))
 
 add-j : tie.Need-add-j Inv-loop μ-loop
 add-j c = search needs
@@ -81,18 +76,20 @@ loop-less c = search needs
 
 loop-again : tie.Need-loop-again Inv-loop μ-loop
 loop-again c =
-    let inv = c .before .before .before .before .before .before .before .before .loop .inv in
+    let inv = c .before .before .before .before .before .before .before .loop .inv in
     let v = c .before .before .before .before .block-rows .ensures in
     let told = ap verdictOf (c .enum-told .given .1) in
     let row = sym (v .verdict) ∙ told in (
-      omega (arith, c .before .before .before .before .before .before .before .loop-test .taken),
+      omega (arith, c .before .before .before .before .before .before .loop-test .taken),
       inv .1,
       inv .2,
-      λ l. next-block _ _ _ _ row (v .entered told) (omega (arith, l, inv .1)),
-      sym (goes _ _ _ (c .before .before .before .before .before .before .before .loop-test .taken) row) ∙ inv .4,
+      λ l. next-block _ _ _ row (v .entered told) (omega (arith, l, inv .1)),
+      sym (goes _ _ _ (c .before .before .before .before .before .before .loop-test .taken) row) ∙ inv .4,
       c .before .before .before .before .block-rows .kept .1 .0 ∙ inv .5,
-      c .before .before .before .before .block-rows .kept .1 .1 .0 ∙ inv .6,
     )
+
+same-length-2 : tie.Need-same-length-2 Inv-loop μ-loop
+same-length-2 c = c .before .loop .inv .5
 
 returns-3 : tie.Need-returns-3 Inv-loop μ-loop
 returns-3 c =
@@ -108,13 +105,13 @@ verdict-spec =
     length-ok-requires
     returns
     loop-holds
-    slice-aggregate-block-rows
-    slice-aggregate-block-rows-2
     block-rows-requires
     enum-told
     enum-told-2
+    same-length
     returns-2
     add-j
     loop-less
     loop-again
+    same-length-2
     returns-3)

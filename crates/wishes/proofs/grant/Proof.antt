@@ -1,8 +1,7 @@
 -- `wishes::grant` meets its contract: a refusal is the first row's that refuses, and else the questions decide. Assumes nothing.
-use lib.ListN.{getD-replicate}
 use borrow.Author.Needs.{needs}
+use Rattle.asking.proofs.Lends.{new-index}
 use Rattle.codec.specs.Valid.{Bytes}
-use Rattle.index.specs.Index.{indexSize}
 use Rattle.wishes.proofs.Answers.{refuses, roomy, posed, ends}
 use Rattle.wishes.proofs.grant.Statement.{statement}
 use Rattle.wishes.proofs.grant.Tie as tie
@@ -18,7 +17,7 @@ slice-aggregate-ask-2 : tie.Need-slice-aggregate-ask-2
 slice-aggregate-ask-2 c = search needs
 
 ask-requires : tie.Need-ask-requires
-ask-requires c κs = (search needs, (search needs, λ i h. getD-replicate indexSize i 0 0 h))
+ask-requires c κs = (search needs, new-index)
 
 enum-known-a : tie.Need-enum-known-a
 enum-known-a c = search needs
