@@ -13,7 +13,7 @@ use Rattle.calculus.specs.Decide.{nodesOf, Admitted, askedBy}
 use Rattle.index.specs.Index.{indexSize, indexNode}
 use Rattle.index.specs.Indexed.{Indexed}
 
--- an index before the call: zeros
+-- an index that is not built yet: zeros
 pub record Zeros (x : List ℕ) : Type 0 where
   pub size : length x ≡ indexSize
   pub zeros : (i : ℕ) → i < indexSize → getD x i 0 ≡ 0

@@ -110,7 +110,7 @@ fn load(t: &[u8], nodes: usize, x: &mut [u16])
 }
 
 // The node count of a table to which the goals may be put, or the first row's refusal. The chains of the reading stand where the nodes
-// will; x is zeros.
+// will, and there x is zeros.
 fn admit(t: &[u8], goals: &[u16], area: usize, x: &mut [u16]) -> Counted
     requires { ⌜ (length (now x) ≡ nodeCells) × ((i : ℕ) → i < chainCells → getD (now x) i 0 ≡ 0) ⌝ }
     ensures { λ r. ⌜ Admits (listRow (now (goals .entry))) (now (t .entry)) (now (goals .entry)) 0 0 area r ⌝ }
