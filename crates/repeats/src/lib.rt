@@ -1,5 +1,5 @@
-// Whether a record repeats an earlier one of its table, by chains of records with the same hash: linear in the records. A record is taken as
-// two numbers of 32 bits: kind and a, b and c.
+// Whether a record repeats an earlier one of its table, by chains of records with the same hash: about one look a record, where few records
+// share a hash. A record is taken as two numbers of 32 bits: kind and a, b and c.
 ghost use mathlib.Core.Path.{_≡_};
 ghost use Prim.Native.Nat.{_+_, _<_, _≤_};
 ghost use lib.Dec.{eqb};

@@ -26,7 +26,10 @@ slice-aggregate-load c = search needs
 
 load-requires : tie.Need-load-requires
 load-requires c κs =
-    let b = buildable (c .before .before .before .before .before .before .before .before .before .before .before .args .t .now) (c .before .before .before .before .before .admit .ensures .counted _ (c .before .before .a2 .given .1)) (λ i. c .before .before .before .before .before .before .before .before .before .before .shared-slice-known .given i .fits) in
+    let k = c .before .before .before .before .before in
+    let known = k .before .before .before .before .before .shared-slice-known in
+    let start = k .before .before .before .before .before .before in
+    let b = buildable (start .args .t .now) (k .admit .ensures .counted _ (c .before .before .a2 .given .1)) (λ i. known .given i .fits) in
     (b .0, b .1, search needs)
 
 slice-aggregate-replayed : tie.Need-slice-aggregate-replayed
@@ -34,9 +37,12 @@ slice-aggregate-replayed c = search needs
 
 replayed-requires : tie.Need-replayed-requires
 replayed-requires c κs =
+    let k = c .before .before .before .before .before .before .before .before .before in
+    let known = k .before .before .before .before .before .shared-slice-known in
+    let start = k .before .before .before .before .before .before in
     let q = c .before .before .before .before .before .before .a2 .given .1 in
-    let a = c .before .before .before .before .before .before .before .before .before .admit .ensures .admitted _ q in
-    let p = ready (c .before .before .before .before .before .before .before .before .before .before .before .before .before .before .before .args .t .now) (c .before .before .before .before .before .before .before .before .before .admit .ensures .counted _ q) (λ i. c .before .before .before .before .before .before .before .before .before .before .before .before .before .before .shared-slice-known .given i .fits) _ (c .before .before .before .load .ensures) _ _ a in
+    let a = k .admit .ensures .admitted _ q in
+    let p = ready (start .args .t .now) (k .admit .ensures .counted _ q) (λ i. known .given i .fits) _ (c .before .before .before .load .ensures) _ _ a in
     (p .indexed, (goals-in p, a .work))
 
 returns : tie.Need-returns
@@ -48,10 +54,13 @@ same-length c = search needs
 
 returns-2 : tie.Need-returns-2
 returns-2 c =
+    let k = c .before .before .before .before .before .before .before .before .before .before .before .before in
+    let known = k .before .before .before .before .before .shared-slice-known in
+    let start = k .before .before .before .before .before .before in
     let q = c .before .before .before .before .before .before .before .before .before .a2 .given .1 in
-    let a = c .before .before .before .before .before .before .before .before .before .before .before .before .admit .ensures .admitted _ q in
-    let p = ready (c .before .before .before .before .before .before .before .before .before .before .before .before .before .before .before .before .before .before .args .t .now) (c .before .before .before .before .before .before .before .before .before .before .before .before .admit .ensures .counted _ q) (λ i. c .before .before .before .before .before .before .before .before .before .before .before .before .before .before .before .before .before .shared-slice-known .given i .fits) _ (c .before .before .before .before .before .before .load .ensures) _ _ a in
-    ends _ _ _ _ (λ i. c .before .before .before .before .before .before .before .before .before .before .before .before .before .before .before .before .before .shared-slice-known .given i .fits) p _ (c .before .before .replayed .ensures)
+    let a = k .admit .ensures .admitted _ q in
+    let p = ready (start .args .t .now) (k .admit .ensures .counted _ q) (λ i. known .given i .fits) _ (c .before .before .before .before .before .before .load .ensures) _ _ a in
+    ends _ _ _ _ (λ i. known .given i .fits) p _ (c .before .before .replayed .ensures)
 
 pub check-spec : {M : Type 1} → statement M
 check-spec =
