@@ -40,9 +40,9 @@ module _ (listed : Outcome (Unit {0})) (t goals : List ℕ) (needed points area 
   abbrev counts : Outcome ℕ
   counts = asked_by listed t goals needed points area >>= λ rs. answer (length rs)
 
-  pub table-refuses : {number place : ℕ} → table_count t ≡ refused number place → asked_by listed t goals needed points area ≡ refused number place
+  pub table_refuses : {number place : ℕ} → table_count t ≡ refused number place → asked_by listed t goals needed points area ≡ refused number place
   unfolding table_count asked_by
-  table-refuses e = passed_on (decode t) length _ e
+  table_refuses e = passed_on (decode t) length _ e
 
   asked_in : {nodes : ℕ} → table_count t ≡ answer nodes
       → asked_by listed t goals needed points area ≡ (rows_test listed nodes goals needed points area >> answer (nodes_in t nodes))
@@ -50,9 +50,9 @@ module _ (listed : Outcome (Unit {0})) (t goals : List ℕ) (needed points area 
       by_rows listed t goals needed points area (nodes_read t e)
       ∙ ap (λ (k : ℕ). rows_test listed k goals needed points area >> answer (nodes_in t nodes)) (size_in t nodes)
 
-  pub rows-refuse : {number place nodes : ℕ} → table_count t ≡ answer nodes → rows_test listed nodes goals needed points area ≡ refused number place
+  pub rows_refuse : {number place nodes : ℕ} → table_count t ≡ answer nodes → rows_test listed nodes goals needed points area ≡ refused number place
       → asked_by listed t goals needed points area ≡ refused number place
-  rows-refuse e q = asked_in e ∙ rw q
+  rows_refuse e q = asked_in e ∙ rw q
 
   module _ (f : Refusal) (e : asked_by listed t goals needed points area ≡ refused f.number f.place) where
     refused_as : (g : Refusal) → ◌≡◌ {A = Counted} (Refused f) (Refused g) → asked_by listed t goals needed points area ≡ refused g.number g.place
@@ -72,8 +72,8 @@ module _ (listed : Outcome (Unit {0})) (t goals : List ℕ) (needed points area 
     pub within_none : (x : List ℕ) → Within listed t goals needed points area x (Refused f)
     within_none x = record { refuses = refused_as; reached = λ n q. no-nodes n q }
 
-  pub admits-some : (n : ℕ) → table_count t ≡ answer n → Admitted listed n goals needed points area → Admits listed t goals needed points area (Nodes n)
-  admits-some n e a = record {
+  pub admits_some : (n : ℕ) → table_count t ≡ answer n → Admitted listed n goals needed points area → Admits listed t goals needed points area (Nodes n)
+  admits_some n e a = record {
     refuses = λ f q. absurd (let z : ◌≡◌ {A = ℕ} 0 1 = cc in omega arith);
     counted = λ m q.
         let z : n ≡ m = cc in
@@ -83,8 +83,8 @@ module _ (listed : Outcome (Unit {0})) (t goals : List ℕ) (needed points area 
         rw z at a;
   }
 
-  pub within-some : (x : List ℕ) (n : ℕ) → Reached listed t goals needed points area x n → Within listed t goals needed points area x (Nodes n)
-  within-some x n p = record {
+  pub within_some : (x : List ℕ) (n : ℕ) → Reached listed t goals needed points area x n → Within listed t goals needed points area x (Nodes n)
+  within_some x n p = record {
     refuses = λ f q. absurd (let z : ◌≡◌ {A = ℕ} 0 1 = cc in omega arith);
     reached = λ m q.
         let z : n ≡ m = cc in
@@ -100,10 +100,10 @@ module _ (listed : Outcome (Unit {0})) (t goals : List ℕ) (needed points area 
   }
 
 -- where the row on the list refuses, it is the same whatever the list is
-pub within-other : (listed : Outcome (Unit {0})) (t goals other : List ℕ) (needed points area : ℕ) {x : List ℕ} {r : Counted} {number place : ℕ}
+pub within_other : (listed : Outcome (Unit {0})) (t goals other : List ℕ) (needed points area : ℕ) {x : List ℕ} {r : Counted} {number place : ℕ}
     → listed ≡ refused number place → Within listed t goals needed points area x r → Within listed t other needed points area x r
 unfolding asked_by rows_test
-within-other listed t goals other needed points area e a = record {
+within_other listed t goals other needed points area e a = record {
   refuses = λ f q.
       let z : asked_by listed t other needed points area ≡ asked_by listed t goals needed points area = rw e in
       z ∙ a.refuses f q;

@@ -34,10 +34,10 @@ use Rattle.checking.proofs.Nodes.{Ready}
 -- ---- rows 40 to 47
 
 -- the derivation's form is refused
-pub form-refused : (t : ℕ → Node) (n : ℕ) (goals w d : List ℕ) (f : Refusal) → step_count d ≡ refused f.number f.place
+pub form_refused : (t : ℕ → Node) (n : ℕ) (goals w d : List ℕ) (f : Refusal) → step_count d ≡ refused f.number f.place
     → Replayed t n goals w d w (Refused f)
 unfolding step_count
-form-refused t n goals w d f e = record { answered = sym (passed_on (decode_steps d) length _ e); work = λ number place q. refl }
+form_refused t n goals w d f e = record { answered = sym (passed_on (decode_steps d) length _ e); work = λ number place q. refl }
 
 -- a derivation that was counted
 module _ (d : List ℕ) {count : ℕ} (e : step_count d ≡ answer count) where
@@ -48,17 +48,17 @@ module _ (d : List ℕ) {count : ℕ} (e : step_count d ≡ answer count) where
       let q : length s.0 ≡ count = cc s.2 in
       s.1 ∙ ap answer (read_steps d s.0 s.1 ∙ ap (list_from (step_at d) 0) (sym (read_length d s.0 s.1) ∙ q))
 
-  pub steps-within : (k : ℕ) → k < count → place_of k + 4 ≤ length d
+  pub steps_within : (k : ℕ) → k < count → place_of k + 4 ≤ length d
   unfolding step_count
-  steps-within k h =
+  steps_within k h =
       let s = bound (decode_steps d) (λ ss. answer (length ss)) e in
       let q : length s.0 ≡ count = cc s.2 in
       step_within d (read-fine d s.0 s.1) k (omega (arith, read_length d s.0 s.1, q))
 
   -- what the steps come to is the answer; a refusal is none of 40 to 44 and 65
-  pub steps-end : {t : ℕ → Node} {n : ℕ} {goals w w' : List ℕ} {r : Checked}
+  pub steps_end : {t : ℕ → Node} {n : ℕ} {goals w w' : List ℕ} {r : Checked}
       → checked_of r ≡ accepts (version_of d) (expand t) goals n (list_from (step_at d) 0 count) → Replayed t n goals w d w' r
-  steps-end {t} {n} {goals} q =
+  steps_end {t} {n} {goals} q =
       record {
         answered = q ∙ ap (◌>>= accepts (version_of d) (expand t) goals n) (sym steps_read);
         work = λ number place s. refused_no (sym s ∙ steps_read);
@@ -67,45 +67,45 @@ module _ (d : List ℕ) {count : ℕ} (e : step_count d ≡ answer count) where
 -- ---- row 64 of the head, and the steps after it
 
 module _ (v : Version) (e : ℕ → List (List ℕ)) (goals : List ℕ) (n : ℕ) (f : ℕ → Step) (count : ℕ) where
-  abbrev all-steps : List Step
-  all-steps = list_from f 0 count
+  abbrev all_steps : List Step
+  all_steps = list_from f 0 count
 
   -- the names are refused
-  pub head-refused : {number place : ℕ} → refused number place ≡ head_of v goals (names all-steps) → refused number place ≡ accepts v e goals n all-steps
+  pub head_refused : {number place : ℕ} → refused number place ≡ head_of v goals (names all_steps) → refused number place ≡ accepts v e goals n all_steps
   unfolding accepts
-  head-refused q = go (names_test v goals (names all-steps)) q
+  head_refused q = go (names_test v goals (names all_steps)) q
     where
-      go : (o : Outcome (Unit {0})) {number place : ℕ} → refused number place ≡ (o >> answer (length (names all-steps)))
-          → refused number place ≡ (o >> run v e goals n (length (names all-steps)) (body all-steps) (running root []))
+      go : (o : Outcome (Unit {0})) {number place : ℕ} → refused number place ≡ (o >> answer (length (names all_steps)))
+          → refused number place ≡ (o >> run v e goals n (length (names all_steps)) (body all_steps) (running root []))
       go (answer u) q = refused_no q
       go (refused m p) q = cc
 
-  module _ {from : ℕ} (q : answer from ≡ head_of v goals (names all-steps)) where
-    named : length (names all-steps) ≡ from
+  module _ {from : ℕ} (q : answer from ≡ head_of v goals (names all_steps)) where
+    named : length (names all_steps) ≡ from
     named =
-        let z = then_next (names_test v goals (names all-steps)) (answer (length (names all-steps))) (sym q) in
+        let z = then_next (names_test v goals (names all_steps)) (answer (length (names all_steps))) (sym q) in
         cc
 
     pub head-within : from ≤ count
     head-within = omega (arith, names_most f count 0, named)
 
     -- the other steps decide
-    pub head-runs : run v e goals n from (list_from f from (count - from)) (running root []) ≡ accepts v e goals n all-steps
+    pub head-runs : run v e goals n from (list_from f from (count - from)) (running root []) ≡ accepts v e goals n all_steps
     unfolding accepts
     head-runs =
         let z : 0 + from ≡ from = omega arith in
         let body_is = body-from f count 0 from named in
-        rw (then_first (names_test v goals (names all-steps)) (answer (length (names all-steps))) (sym q), named, body_is, z)
+        rw (then_first (names_test v goals (names all_steps)) (answer (length (names all_steps))) (sym q), named, body_is, z)
 
 -- by the version that the bytes have
-pub in-version : (e : ℕ → List (List ℕ)) (goals : List ℕ) (n : ℕ) (ss : List Step) {v u : Version} → v ≡ u → accepts v e goals n ss ≡ accepts u e goals n ss
-in-version e goals n ss q = ap (λ (v : Version). accepts v e goals n ss) q
+pub in_version : (e : ℕ → List (List ℕ)) (goals : List ℕ) (n : ℕ) (ss : List Step) {v u : Version} → v ≡ u → accepts v e goals n ss ≡ accepts u e goals n ss
+in_version e goals n ss q = ap (λ (v : Version). accepts v e goals n ss) q
 
 -- ---- the answer, and what it means
 
-checked-accepted : (r : Checked) → checked_of r ≡ fine → r ≡ Accepted
-checked-accepted Accepted e = refl
-checked-accepted (Refused f) e = refused_no e
+checked_accepted : (r : Checked) → checked_of r ≡ fine → r ≡ Accepted
+checked_accepted Accepted e = refl
+checked_accepted (Refused f) e = refused_no e
 
 module _ (t goals w d : List ℕ) (all : Bytes t) where
   -- the answer of the definition has the definition's meaning
@@ -115,17 +115,17 @@ module _ (t goals w d : List ℕ) (all : Bytes t) where
     answered = e;
     work = kept;
     never = λ q. check_never t all goals w d (sym e ∙ ap checked_of q);
-    ours = λ v rs a q h s. checked-accepted r (e ∙ ap (check t goals w) s ∙ own_accepted t all goals v w rs a q h);
+    ours = λ v rs a q h s. checked_accepted r (e ∙ ap (check t goals w) s ∙ own_accepted t all goals v w rs a q h);
     only = λ q g u others v c. check-names d g t u goals others w v (sym e ∙ ap checked_of q) c;
     published = λ q. check_derives t goals w d (sym e ∙ ap checked_of q);
   }
 
-  refused-by : {number place : ℕ} → asked t goals 0 0 (length w) ≡ refused number place → check t goals w d ≡ refused number place
+  refused_by : {number place : ℕ} → asked t goals 0 0 (length w) ≡ refused number place → check t goals w d ≡ refused number place
   unfolding check
-  refused-by q = rw q
+  refused_by q = rw q
 
   pub refuses : (f : Refusal) → asked t goals 0 0 (length w) ≡ refused f.number f.place → Checks t goals w d w (Refused f)
-  refuses f q = checks (Refused f) (sym (refused-by q)) (λ number place z. refl)
+  refuses f q = checks (Refused f) (sym (refused_by q)) (λ number place z. refl)
 
   module _ {x : List ℕ} {n : ℕ} (p : Ready t goals (length w) x n) where
     -- the run over the index is that over the nodes

@@ -66,8 +66,8 @@ module _ (t : List ℕ) (rs : List Node) (all : Bytes t) (e : decode t ≡ answe
   answers-grow = clashes-grow Setting (says t) (FilledBy rs) (λ l. l < 2 * length rs) (answered rs) D goals b
 
   -- 63 is said exactly when a setting makes all goals true
-  pub possible-exact : (is_impossible (answered rs goals) ≡ false) ⇔ ((v : List ℕ) × Satisfies t goals v)
-  possible-exact = (
+  pub possible_exact : (is_impossible (answered rs goals) ≡ false) ⇔ ((v : List ℕ) × Satisfies t goals v)
+  possible_exact = (
     λ q.
         let s = not-impossible Setting (says t) (FilledBy rs) (λ l. l < 2 * length rs) (answered rs) D goals b q in
         (s.0.0, made t goals s.0 s.1),
@@ -98,9 +98,9 @@ module _ (t goals w : List ℕ) (bytes : Bytes t) where
   clash-asked q = rw q
 
   -- an answer is the walk's, of goals that are impossible together
-  of-walk : {is : List ℕ} → clash t goals w ≡ answer is → Clashing t goals is
+  of_walk : {is : List ℕ} → clash t goals w ≡ answer is → Clashing t goals is
   unfolding clash
-  of-walk {is} q =
+  of_walk {is} q =
       let r = bound (asked t goals 0 0 (length w)) _ q in
       let a = asked-read t goals 0 0 (length w) r.1 in
       go r.0 a (is_impossible (answered r.0 goals)) refl r.2
@@ -113,13 +113,13 @@ module _ (t goals w : List ℕ) (bytes : Bytes t) where
       go rs a false z q = refused_no q
 
   kept_by : (o : Outcome (List ℕ)) → clash t goals w ≡ o → (clashed_of o).number ≡ 0 → Clashing t goals (take (clashed_of o).count (clashed_of o).kept)
-  kept_by (answer is) q z = rw (shown is) (of-walk q)
+  kept_by (answer is) q z = rw (shown is) (of_walk q)
   kept_by (refused number place) q z = absurd (omega (arith, (clash-numbered t goals w).positive number place q))
 
   exact_by : (rs : List Node) → asked t goals 0 0 (length w) ≡ answer rs → ((clashed_of (argued (answered rs) goals)).number ≡ 63) ⇔ ((v : List ℕ) × Satisfies t goals v)
   exact_by rs q =
       let a = asked-read t goals 0 0 (length w) q in
-      go (is_impossible (answered rs goals)) refl (possible-exact t rs bytes a.0 goals a.1.below (list_met goals a.1.list).0)
+      go (is_impossible (answered rs goals)) refl (possible_exact t rs bytes a.0 goals a.1.below (list_met goals a.1.list).0)
     where
       go : (b : Bool) → is_impossible (answered rs goals) ≡ b → (is_impossible (answered rs goals) ≡ false) ⇔ ((v : List ℕ) × Satisfies t goals v)
           → ((clashed_of (require b 63 0 >> answer (walk (clashes (answered rs) goals) (length goals) []))).number ≡ 63) ⇔ ((v : List ℕ) × Satisfies t goals v)

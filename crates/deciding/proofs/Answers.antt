@@ -29,15 +29,15 @@ use Rattle.deciding.specs.declared.Decided.TheVariants.{Possible, Refused}
 
 -- ---- the contract, where its first three fields hold
 
-word-impossible : (a : Answer) → (word_of a ≡ cannot) ⇔ (a ≡ impossible)
-word-impossible (possible G) = (λ e. absurd (let z : ◌≡◌ {A = ℕ} 0 1 = cc in omega arith), λ e. absurd (let z : ◌≡◌ {A = ℕ} 0 1 = cc in omega arith))
-word-impossible impossible = (λ e. refl, λ e. refl)
-word-impossible unfinished = (λ e. absurd (let z : ◌≡◌ {A = ℕ} 0 1 = cc in omega arith), λ e. absurd (let z : ◌≡◌ {A = ℕ} 0 1 = cc in omega arith))
+word_impossible : (a : Answer) → (word_of a ≡ cannot) ⇔ (a ≡ impossible)
+word_impossible (possible G) = (λ e. absurd (let z : ◌≡◌ {A = ℕ} 0 1 = cc in omega arith), λ e. absurd (let z : ◌≡◌ {A = ℕ} 0 1 = cc in omega arith))
+word_impossible impossible = (λ e. refl, λ e. refl)
+word_impossible unfinished = (λ e. absurd (let z : ◌≡◌ {A = ℕ} 0 1 = cc in omega arith), λ e. absurd (let z : ◌≡◌ {A = ℕ} 0 1 = cc in omega arith))
 
-word-possible : {P : Type 0} (a : Answer) → word_of a ≡ can → ((G : List ℕ) → a ≡ possible G → P) → P
-word-possible (possible G) e f = f G refl
-word-possible impossible e f = absurd (let z : ◌≡◌ {A = ℕ} 0 1 = cc in omega arith)
-word-possible unfinished e f = absurd (let z : ◌≡◌ {A = ℕ} 0 1 = cc in omega arith)
+word_possible : {P : Type 0} (a : Answer) → word_of a ≡ can → ((G : List ℕ) → a ≡ possible G → P) → P
+word_possible (possible G) e f = f G refl
+word_possible impossible e f = absurd (let z : ◌≡◌ {A = ℕ} 0 1 = cc in omega arith)
+word_possible unfinished e f = absurd (let z : ◌≡◌ {A = ℕ} 0 1 = cc in omega arith)
 
 module _ (t goals s w : List ℕ) (all : Bytes t) (r : Decided) {s' : List ℕ}
     (answers : decided_of r ≡ (decide t goals s w >>= λ d. answer (said_of d))) (bytes : s' ≡ settings_after s (decide t goals s w)) where
@@ -51,7 +51,7 @@ module _ (t goals s w : List ℕ) (all : Bytes t) (r : Decided) {s' : List ℕ}
       let z : answer (said_of b.0) ≡ answer (record { word = can; splits = n }) = b.2 in
       let y : said_of b.0 ≡ record { word = can; splits = n } = cc in
       let v : word_of b.0.verdict ≡ can = ap (λ (x : Said). x.word) y in
-      word-possible b.0.verdict v
+      word_possible b.0.verdict v
       (λ G g. rw (bytes ∙ ap (settings_after s) b.1) (decide_evaluates t goals s w all b.1 g))
 
   pub decides : {w' : List ℕ} → ((f : Refusal) → r ≡ Refused f → w' ≡ w) → Decides t goals s w s' w' r
@@ -65,7 +65,7 @@ module _ (t goals s w : List ℕ) (all : Bytes t) (r : Decided) {s' : List ℕ}
         let z : answer (said_of b.0) ≡ answer said = b.2 in
         let y : said_of b.0 ≡ said = cc in
         let v : word_of b.0.verdict ≡ said.word = ap (λ (x : Said). x.word) y in
-        let i = word-impossible b.0.verdict in
+        let i = word_impossible b.0.verdict in
         let x = decide_exact t goals s w all b.1 in
         (λ c. x.0 (i.0 (v ∙ c)), λ none. sym v ∙ i.1 (x.1 none));
     satisfied = satisfies;
@@ -76,29 +76,29 @@ module _ (t goals s w : List ℕ) (all : Bytes t) (r : Decided) {s' : List ℕ}
 
 module _ {row : Outcome (Unit {0})} {t goals : List ℕ} {needed lent area : ℕ} {x : List ℕ} {n : ℕ} (p : Reached row t goals needed lent area x n) (s : List ℕ) where
   -- the setting of what the search over the index ends on
-  set-in : (a : Answer) → a ≡ answer_of (tree (expand (index_node x)) goals n []) → settings_on (list_from (index_node x) 0 n) s a ≡ settings_on p.nodes s a
-  set-in (possible G) e = ap (◌++ drop 1024 s) (setting_within p (sym e))
-  set-in impossible e = refl
-  set-in unfinished e = refl
+  set_in : (a : Answer) → a ≡ answer_of (tree (expand (index_node x)) goals n []) → settings_on (list_from (index_node x) 0 n) s a ≡ settings_on p.nodes s a
+  set_in (possible G) e = ap (◌++ drop 1024 s) (setting_within p (sym e))
+  set_in impossible e = refl
+  set_in unfinished e = refl
 
   -- the search over the index is that over the nodes
-  given-in : given_by (index_node x) n goals s ≡ decided p.nodes goals s
-  given-in =
+  given_in : given_by (index_node x) n goals s ≡ decided p.nodes goals s
+  given_in =
       let j : Jumped = jump 128 (expand (index_node x)) goals n 0 [] in
       let e : j ≡ jump_of p.nodes goals =
       jump-same 128 n (index_node x) (nodes_of p.nodes) goals p.indexed.table p.below p.closed p.alike n (length p.nodes) 0 [] tt tt (omega arith) p.some in
-      let b = set-in (end_answer j.end) (same_answer 128 n (index_node x) goals p.indexed.table p.below) in
+      let b = set_in (end_answer j.end) (same_answer 128 n (index_node x) goals p.indexed.table p.below) in
       ap (λ (y : List ℕ). record { verdict = end_answer j.end; settings = y; splits = stopped j.splits }) b
       ∙ ap (λ (k : Jumped). decided_by p.nodes s (end_answer k.end) k.splits) e
 
 module _ (t goals s w : List ℕ) (all : Bytes t) where
-  refused-by : {number place : ℕ} → asked t goals 1024 (length s) (length w) ≡ refused number place → decide t goals s w ≡ refused number place
+  refused_by : {number place : ℕ} → asked t goals 1024 (length s) (length w) ≡ refused number place → decide t goals s w ≡ refused number place
   unfolding decide
-  refused-by q = rw q
+  refused_by q = rw q
 
   pub refuses : (f : Refusal) → asked t goals 1024 (length s) (length w) ≡ refused f.number f.place → Decides t goals s w s w (Refused f)
   refuses f q =
-      let d = refused-by q in
+      let d = refused_by q in
       decides t goals s w all (Refused f) (rw d) (rw d) (λ g z. refl)
 
   module _ {x : List ℕ} {n : ℕ} (p : Reached (list_row goals) t goals 1024 (length s) (length w) x n) where
@@ -111,7 +111,7 @@ module _ (t goals s w : List ℕ) (all : Bytes t) where
 
     pub ends : {s' w' : List ℕ} (r : Decided) → Solved (index_node x) n goals s s' r → Decides t goals s w s' w' r
     ends r h =
-        let g = given-in p s in
+        let g = given_in p s in
         decides t goals s w all r
         (h.verdict ∙ ap (λ (d : Given). answer (said_of d)) g ∙ ap (◌>>= λ d. answer (said_of d)) (sym ends_on))
         (h.settings ∙ ap (λ (d : Given). d.settings) g ∙ ap (settings_after s) (sym ends_on))

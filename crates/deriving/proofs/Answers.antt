@@ -62,13 +62,13 @@ module _ (v : Version) (t goals w d : List ℕ) (all : Bytes t) where
 
   -- ---- where derive ends
 
-  refused-by : {number place : ℕ} → asked t goals 0 0 (length w) ≡ refused number place → derive v t goals w d ≡ refused number place
+  refused_by : {number place : ℕ} → asked t goals 0 0 (length w) ≡ refused number place → derive v t goals w d ≡ refused number place
   unfolding derive
-  refused-by q = rw q
+  refused_by q = rw q
 
   pub refuses : (f : Refusal) → asked t goals 0 0 (length w) ≡ refused f.number f.place → Derives v t goals w d w d (Refused f)
   refuses f q =
-      let z = refused-by q in
+      let z = refused_by q in
       derives (Refused f) (rw z) (rw z) (λ number place a. refl)
 
   module _ {x : List ℕ} {n : ℕ} (p : Reached (list_row goals) t goals 0 0 (length w) x n) where

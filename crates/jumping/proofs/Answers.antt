@@ -33,19 +33,19 @@ module _ (cap n : ℕ) (t : ℕ → Node) (goals : List ℕ) (T : Table n t) (B 
       go (closed s) m = sym m.0
       go short m = absurd m
 
-  pub never-short : jumped.end ≡ short → ⊥
-  never-short e = go jumped.end e agrees.matches
+  pub never_short : jumped.end ≡ short → ⊥
+  never_short e = go jumped.end e agrees.matches
     where
       go : (w : End) → w ≡ short → Matches cap n t goals [] w (answer_of plain) → ⊥
       go (found G) q m = let z : ◌≡◌ {A = ℕ} 0 1 = cc in omega arith
       go (closed s) q m = let z : ◌≡◌ {A = ℕ} 0 1 = cc in omega arith
       go short q m = m
 
-  pub fewer-splits : jumped.splits ≤ splits_of plain
-  fewer-splits = agrees.fewer
+  pub fewer_splits : jumped.splits ≤ splits_of plain
+  fewer_splits = agrees.fewer
 
-  pub fewer-stopped : stopped jumped.splits ≤ stopped (splits_of plain)
-  fewer-stopped = most_less 4294967295 jumped.splits (splits_of plain) fewer-splits
+  pub fewer_stopped : stopped jumped.splits ≤ stopped (splits_of plain)
+  fewer_stopped = most_less 4294967295 jumped.splits (splits_of plain) fewer_splits
 
 -- what decide answers, beside the plain order
 pub decided-plain : (rs : List Node) (goals s : List ℕ) → Table (length rs) (nodes_of rs) → Below (length rs) goals
@@ -53,5 +53,5 @@ pub decided-plain : (rs : List Node) (goals s : List ℕ) → Table (length rs) 
 decided-plain rs goals s T B = record {
   verdict = same_answer 128 (length rs) (nodes_of rs) goals T B;
   settings = ap (settings_on rs s) (same_answer 128 (length rs) (nodes_of rs) goals T B);
-  splits = fewer-stopped 128 (length rs) (nodes_of rs) goals T B;
+  splits = fewer_stopped 128 (length rs) (nodes_of rs) goals T B;
 }

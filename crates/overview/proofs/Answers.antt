@@ -36,10 +36,10 @@ use Rattle.overview.specs.Overviews.{Told, Overviews}
 -- ---- what a byte means
 
 -- 0 is that of impossible alone
-byte-impossible : (a : Answer) → (a ≡ unfinished → ⊥) → (byte_of a ≡ 0) ⇔ (a ≡ impossible)
-byte-impossible (possible G) n = (λ e. absurd (omega arith), λ e. absurd (let z : ◌≡◌ {A = ℕ} 0 1 = cc in omega arith))
-byte-impossible impossible n = (λ e. refl, λ e. refl)
-byte-impossible unfinished n = absurd (n refl)
+byte_impossible : (a : Answer) → (a ≡ unfinished → ⊥) → (byte_of a ≡ 0) ⇔ (a ≡ impossible)
+byte_impossible (possible G) n = (λ e. absurd (omega arith), λ e. absurd (let z : ◌≡◌ {A = ℕ} 0 1 = cc in omega arith))
+byte_impossible impossible n = (λ e. refl, λ e. refl)
+byte_impossible unfinished n = absurd (n refl)
 
 module _ (t : List ℕ) (rs : List Node) (all : Bytes t) (e : decode t ≡ answer rs) (g : ℕ) (below : g < 2 * length rs) where
   alone : (s w : List ℕ) → 1024 ≤ length s → 32768 ≤ length w → decide t (g ∷ []) s w ≡ answer (decided rs (g ∷ []) s)
@@ -50,7 +50,7 @@ module _ (t : List ℕ) (rs : List Node) (all : Bytes t) (e : decode t ≡ answe
 
   pub tells : (w : List ℕ) → 32768 ≤ length w → {byte : ℕ} → byte ≡ byte_of (answered rs (g ∷ [])) → Told t w g byte
   tells w k q =
-      let i = byte-impossible (answered rs (g ∷ [])) (λ z. never_cut (length rs) (nodes_of rs) (g ∷ []) (table_of t rs all e) (below, tt) z) in
+      let i = byte_impossible (answered rs (g ∷ [])) (λ z. never_cut (length rs) (nodes_of rs) (g ∷ []) (table_of t rs all e) (below, tt) z) in
       let x = search-exact t rs all e (g ∷ []) (below, tt) in
       record {
         decided = λ s h. (decided rs (g ∷ []) s, alone s w h k, q ∙ ap byte_of (sym (decided-plain rs (g ∷ []) s (table_of t rs all e) (below, tt)).verdict));
@@ -79,9 +79,9 @@ module _ (t goals b w : List ℕ) (all : Bytes t) where
       get_or-append (bytes_of (answered rs) goals) (drop (length goals) b) 0 i (omega (arith, length-map goals (λ g. byte_of (answered rs (g ∷ [])))))
       ∙ get_d_map (λ g. byte_of (answered rs (g ∷ []))) goals i 0 0 h
 
-  told-each : {after : List ℕ} → overview t goals b w ≡ answer after → (i : ℕ) → i < length goals → Told t w (get_or goals i 0) (get_or after i 0)
+  told_each : {after : List ℕ} → overview t goals b w ≡ answer after → (i : ℕ) → i < length goals → Told t w (get_or goals i 0) (get_or after i 0)
   unfolding overview
-  told-each {after} q i h =
+  told_each {after} q i h =
       let r = bound (asked_by (overview_row goals (length b)) t goals 0 0 (length w)) _ q in
       let a = by_read (overview_row goals (length b)) t goals 0 0 (length w) r.1 in
       let z : answer (bytes_of (answered r.0) goals ++ drop (length goals) b) ≡ answer after = r.2 in
@@ -93,7 +93,7 @@ module _ (t goals b w : List ℕ) (all : Bytes t) where
       → r ≡ Fine → (i : ℕ) → i < length goals → Told t w (get_or goals i 0) (get_or b' i 0)
   each_by r {b'} a c e i h =
       let x = bound (overview t goals b w) (λ after. answer tt) (sym a ∙ ap verdict_of e) in
-      rw (c ∙ ap (answers_after b) x.1) (told-each x.1 i h)
+      rw (c ∙ ap (answers_after b) x.1) (told_each x.1 i h)
 
   overviews : (r : Verdict) {b' w' : List ℕ} → verdict_of r ≡ (overview t goals b w >>= λ after. answer tt) → b' ≡ answers_after b (overview t goals b w)
       → ((f : Refusal) → r ≡ Refused f → w' ≡ w) → Overviews t goals b w b' w' r
@@ -106,13 +106,13 @@ module _ (t goals b w : List ℕ) (all : Bytes t) where
       → Within (overview_row goals (length b)) t goals 0 0 (length w) x r
   by_row e a = rw e at a
 
-  refused-by : {number place : ℕ} → asked_by (overview_row goals (length b)) t goals 0 0 (length w) ≡ refused number place → overview t goals b w ≡ refused number place
+  refused_by : {number place : ℕ} → asked_by (overview_row goals (length b)) t goals 0 0 (length w) ≡ refused number place → overview t goals b w ≡ refused number place
   unfolding overview
-  refused-by q = rw q
+  refused_by q = rw q
 
   pub refuses : (f : Refusal) → asked_by (overview_row goals (length b)) t goals 0 0 (length w) ≡ refused f.number f.place → Overviews t goals b w b w (Refused f)
   refuses f q =
-      let d = refused-by q in
+      let d = refused_by q in
       overviews (Refused f) (rw d) (rw d) (λ g z. refl)
 
   module _ {x : List ℕ} {n : ℕ} (p : Reached (overview_row goals (length b)) t goals 0 0 (length w) x n) where

@@ -167,9 +167,9 @@ module _ (t : List ℕ) where
 
   -- the record of a literal: a refusal of the count; 20; the record
   module _ (l : ℕ) where
-    pub literal-refused : {number place : ℕ} → table_count t ≡ refused number place → table_record t l ≡ refused number place
+    pub literal_refused : {number place : ℕ} → table_count t ≡ refused number place → table_record t l ≡ refused number place
     unfolding table_record table_count
-    literal-refused e = passed_on (decode t) length (λ rs. require (ltb l (2 * length rs)) 20 0 >> answer (get_or rs (l / 2) no_node)) e
+    literal_refused e = passed_on (decode t) length (λ rs. require (ltb l (2 * length rs)) 20 0 >> answer (get_or rs (l / 2) no_node)) e
 
     -- the nodes of a table that reads
     nodes : table_test t ≡ fine → decode t ≡ answer (list_from (node_at t) 0 (records_in tables t))

@@ -27,9 +27,9 @@ unfolding table_count evaluate
 table_refused t s l number place e = sym (passed_on (decode t) length _ e)
 
 -- a setting that passed has a byte for each point
-pub setting-long : (s : List ℕ) → settings_test s ≡ fine → 1024 ≤ length s
+pub setting_long : (s : List ℕ) → settings_test s ≡ fine → 1024 ≤ length s
 unfolding settings_test
-setting-long s e =
+setting_long s e =
     leb-true 1024 (length s) (required (leb 1024 (length s)) 21 0
     (then_first (require (leb 1024 (length s)) 21 0) (first (λ (p : ℕ). require (ltb (get_or s p 0) 3) 22 p) 0 1024) e))
 
@@ -55,8 +55,8 @@ module _ (t s : List ℕ) (l n : ℕ) (e : table_count t ≡ answer n) where
       rw (c.0, ← c.1, h)
 
   -- row 20
-  pub literal-refused : 2 * n ≤ l → refused 20 0 ≡ evaluate t l s
-  literal-refused h = sym (rows ∙ simp (le-ltb l (2 * n) h))
+  pub literal_refused : 2 * n ≤ l → refused 20 0 ≡ evaluate t l s
+  literal_refused h = sym (rows ∙ simp (le-ltb l (2 * n) h))
 
   module _ (h : l < 2 * n) where
     -- row 21 or 22

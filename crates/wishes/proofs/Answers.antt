@@ -36,8 +36,8 @@ use Rattle.wishes.proofs.Lists.{rows_met}
 module _ (t goals wishes : List ℕ) (m : ℕ) (s w : List ℕ) (all : Bytes t) (r : Wished) {s' : List ℕ}
     (said : wished_of r ≡ (grant t goals wishes m s w >>= λ d. answer (grant_of d.wished))) (bytes : s' ≡ granted_after s (grant t goals wishes m s w)) where
   -- what was granted is what the definition grants
-  granted-as : {g : Grant} → wished_of r ≡ answer g → (d : Granted) × (grant t goals wishes m s w ≡ answer d) × (grant_of d.wished ≡ g)
-  granted-as q =
+  granted_as : {g : Grant} → wished_of r ≡ answer g → (d : Granted) × (grant t goals wishes m s w ≡ answer d) × (grant_of d.wished ≡ g)
+  granted_as q =
       let b = bound (grant t goals wishes m s w) (λ d. answer (grant_of d.wished)) (sym said ∙ q) in
       (b.0, b.1, cc)
 
@@ -49,9 +49,9 @@ module _ (t goals wishes : List ℕ) (m : ℕ) (s w : List ℕ) (all : Bytes t) 
       go (answer d) e = refused_no (sym e)
       go (refused a b) e = cc
 
-  pub wishes-told : {w' : List ℕ} → ((number place : ℕ) → wishes_asked t goals wishes (length s) (length w) ≡ refused number place → w' ≡ w)
+  pub wishes_told : {w' : List ℕ} → ((number place : ℕ) → wishes_asked t goals wishes (length s) (length w) ≡ refused number place → w' ≡ w)
       → Wishes t goals wishes m s w s' w' r
-  wishes-told kept = record {
+  wishes_told kept = record {
     answered = said;
     settings = bytes;
     work = kept;
@@ -59,14 +59,14 @@ module _ (t goals wishes : List ℕ) (m : ℕ) (s w : List ℕ) (all : Bytes t) 
         let n = none-granted t goals wishes s w all rs a m in
         (λ q. n.0 (refused_as.0 q), λ none. refused_as.1 (n.1 none));
     met = λ g q rs e f h.
-        let b = granted-as q in
+        let b = granted_as q in
         rw (← b.2) (wishes-met t goals wishes s w (answers t goals wishes s w b.1) all rs e f (rw (bytes ∙ ap (granted_after s) b.1) at h));
-    bound = λ g q rs e v h. let b = granted-as q in rw (← b.2) (wishes-most t goals wishes s w (answers t goals wishes s w b.1) all rs e v h);
-    within = λ g q. let b = granted-as q in rw (← b.2) (within t goals wishes s w (answers t goals wishes s w b.1));
-    stopped = λ g q. let b = granted-as q in rw (← b.2) (stopped t goals wishes s w (answers t goals wishes s w b.1));
-    sooner = λ g q l h. let b = granted-as q in not_sooner t goals wishes s w (answers t goals wishes s w b.1) l (rw (← b.2) at h);
-    larger = λ g q l h. let b = granted-as q in rw (← b.2) (larger t goals wishes s w (answers t goals wishes s w b.1) l h);
-    enough = λ g q h. let b = granted-as q in rw (← b.2) (enough t goals wishes s w (answers t goals wishes s w b.1) h);
+    bound = λ g q rs e v h. let b = granted_as q in rw (← b.2) (wishes-most t goals wishes s w (answers t goals wishes s w b.1) all rs e v h);
+    within = λ g q. let b = granted_as q in rw (← b.2) (within t goals wishes s w (answers t goals wishes s w b.1));
+    stopped = λ g q. let b = granted_as q in rw (← b.2) (stopped t goals wishes s w (answers t goals wishes s w b.1));
+    sooner = λ g q l h. let b = granted_as q in not_sooner t goals wishes s w (answers t goals wishes s w b.1) l (rw (← b.2) at h);
+    larger = λ g q l h. let b = granted_as q in rw (← b.2) (larger t goals wishes s w (answers t goals wishes s w b.1) l h);
+    enough = λ g q h. let b = granted_as q in rw (← b.2) (enough t goals wishes s w (answers t goals wishes s w b.1) h);
   }
 
 -- ---- where the call ends
@@ -74,7 +74,7 @@ module _ (t goals wishes : List ℕ) (m : ℕ) (s w : List ℕ) (all : Bytes t) 
 module _ (t goals wishes : List ℕ) (m : ℕ) (s w : List ℕ) (all : Bytes t) where
   pub refuses : (f : Refusal) → wishes_asked t goals wishes (length s) (length w) ≡ refused f.number f.place → Wishes t goals wishes m s w s w (Refused f)
   unfolding grant
-  refuses f q = wishes-told t goals wishes m s w all (Refused f) (rw q) (rw q) (λ number place e. refl)
+  refuses f q = wishes_told t goals wishes m s w all (Refused f) (rw q) (rw q) (λ number place e. refl)
 
   module _ {x : List ℕ} {n : ℕ} (p : Reached (lists_row goals wishes) t (goals ++ wishes) 1024 (length s) (length w) x n) where
     pub roomy : Room x n s w
@@ -141,20 +141,20 @@ module _ (t goals wishes : List ℕ) (m : ℕ) (s w : List ℕ) (all : Bytes t) 
     sets : (ls : List ℕ) → Below n ls → All Both ls → Ends ls
     sets ls b a G e = settings_within p ls b a e
 
-    set-in : (a : Answer) → asks (index_node x) n goals ≡ a
+    set_in : (a : Answer) → asks (index_node x) n goals ≡ a
         → settings_by (list_from (index_node x) 0 n) s (wished (asks (index_node x) n) goals wishes m a) ≡ settings_by p.nodes s (wished (asks (index_node x) n) goals wishes m a)
-    set-in (possible G) e =
+    set_in (possible G) e =
         ap (◌++ drop 1024 s)
         (stands (question (asks (index_node x) n) goals wishes) G (λ F size. Sets F) (alone Ends sets G e) all-queries (asked Ends sets) m)
-    set-in impossible e = refl
-    set-in unfinished e = refl
+    set_in impossible e = refl
+    set_in unfinished e = refl
 
     pub ends : {s' w' : List ℕ} (r : Wished) → Answered x n goals wishes m s s' r → Wishes t goals wishes m s w s' w' r
     unfolding grant
     ends {s'} r h =
-        wishes-told t goals wishes m s w all r
+        wishes_told t goals wishes m s w all r
         (h.answered ∙ rw (wished-in, p.answered) (numbers (wished (answered p.nodes) goals wishes m (answered p.nodes goals))))
-        (h.settings ∙ set-in (asks (index_node x) n goals) refl ∙ rw (wished-in, p.answered) (written (wished (answered p.nodes) goals wishes m (answered p.nodes goals))))
+        (h.settings ∙ set_in (asks (index_node x) n goals) refl ∙ rw (wished-in, p.answered) (written (wished (answered p.nodes) goals wishes m (answered p.nodes goals))))
         (λ number place e. refused_no (sym e ∙ p.answered))
       where
         numbers : (o : Outcome Result) → (o >>= λ d. answer (grant_of d)) ≡ ((o >>= made t goals wishes s w p.nodes) >>= λ d. answer (grant_of d.wished))

@@ -15,7 +15,7 @@ use Rattle.table.specs.declared.Counted.{Counted}
 use Rattle.calculus.specs.Decide.{list_row}
 use Rattle.calculus.proofs.Asked.{list_met}
 use Rattle.asking.specs.Within.{Within}
-use Rattle.asking.proofs.Answers.{within-other}
+use Rattle.asking.proofs.Answers.{within_other}
 use Rattle.wishing.specs.Call.{most_wishes, lists_row}
 use Rattle.wishes.specs.Wishes.{Copied, Gathers, WishesAsk}
 
@@ -89,4 +89,4 @@ module _ (goals wishes : List ℕ) where
 
       go : (o : Outcome (Unit {0})) → lists_row goals wishes ≡ o → Within (lists_row goals wishes) t (goals ++ wishes) 1024 points area x c
       go (answer tt) e = rw (whole, g.both e) at a
-      go (refused number place) e = within-other (lists_row goals wishes) t (take (r - 0) list) (goals ++ wishes) 1024 points area e a
+      go (refused number place) e = within_other (lists_row goals wishes) t (take (r - 0) list) (goals ++ wishes) 1024 points area e a

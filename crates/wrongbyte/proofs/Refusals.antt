@@ -78,24 +78,24 @@ module _ (t u : List ℕ) (k : ℕ) (old : Bytes t) (new : Bytes u) (o : OneByte
         (λ n a b. record_tested t u k o n (omega (arith, most)) ∙ fine_each (record_test t) (get_or (block_at t j) 1 0) (63 * j) records n a b))
 
     -- its own block is refused
-    rows-refuse : block_rows u (k / 512) ≡ refused 11 (k / 512)
+    rows_refuse : block_rows u (k / 512) ≡ refused 11 (k / 512)
     unfolding block_rows
-    rows-refuse =
+    rows_refuse =
         let ok = (passed tables (block_at t (k / 512)) (k / 512) _ (pass t old test (k / 512) within)).check in
         rw (block_refuses within ok tables (k / 512) (eqb (suc (k / 512)) (length u / 512)))
 
-    pub table-refuses : table_test u ≡ refused 11 (k / 512)
+    pub table_refuses : table_test u ≡ refused 11 (k / 512)
     unfolding table_test
-    table-refuses =
+    table_refuses =
         let ok = (row (length_ok (length t)) 10 0 (first (block_rows t) 0 (length t / 512)) test).0 in
         rw (o.long, ok)
         (first_refuses (block_rows u) 11 (k / 512) (length t / 512) 0 (k / 512) within (λ j a b. rows_pass j (omega arith))
-        (rw zero-add rows-refuse))
+        (rw zero-add rows_refuse))
 
   -- 'For every readable table .. refusal 11 .. at that block'
   pub decode_refuses : (rs : List Node) → decode t ≡ answer rs → decode u ≡ refused 11 (k / 512)
   unfolding decode
-  decode_refuses rs e = rw (table-refuses (answers t rs e).0)
+  decode_refuses rs e = rw (table_refuses (answers t rs e).0)
 
   -- '.. from every call that gets as far': whatever a call does with the nodes
   pub call_refuses : {A : Type 0} (next : List Node → Outcome A) (rs : List Node) → decode t ≡ answer rs → (decode u >>= next) ≡ refused 11 (k / 512)

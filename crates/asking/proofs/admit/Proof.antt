@@ -6,7 +6,7 @@ use Rattle.codec.specs.Valid.{Bytes}
 use Rattle.table.specs.Counted.{counted_of}
 use Rattle.calculus.proofs.Asked.{rows_met}
 use Rattle.asking.proofs.Nodes.{few}
-use Rattle.asking.proofs.Answers.{table-refuses, rows-refuse, admits-none, admits-some}
+use Rattle.asking.proofs.Answers.{table_refuses, rows_refuse, admits-none, admits_some}
 use Rattle.asking.proofs.admit.Statement.{statement}
 use Rattle.asking.proofs.admit.Tie as tie
 
@@ -36,7 +36,7 @@ same_length : tie.Need-same-length
 same_length c = search rules
 
 returns : tie.Need-returns
-returns c = admits-none _ _ _ _ _ _ _ (table-refuses _ _ _ _ _ _ (sym c.before.before.before.before.before.count_by.ensures ∙ ap counted_of c.before.c.given.1))
+returns c = admits-none _ _ _ _ _ _ _ (table_refuses _ _ _ _ _ _ (sym c.before.before.before.before.before.count_by.ensures ∙ ap counted_of c.before.c.given.1))
 
 same-length-2 : tie.Need-same-length-2
 same-length-2 c = search rules
@@ -44,14 +44,14 @@ same-length-2 c = search rules
 returns-2 : tie.Need-returns-2
 returns-2 c =
     admits-none _ _ _ _ _ _ _
-    (rows-refuse _ _ _ _ _ _ (sym c.before.before.before.before.before.before.before.before.before.count_by.ensures ∙ ap counted_of c.before.before.before.before.before.c2.given.1) (sym c.before.before.before.rows.ensures ∙ ap verdict_of c.before.v.given.1))
+    (rows_refuse _ _ _ _ _ _ (sym c.before.before.before.before.before.before.before.before.before.count_by.ensures ∙ ap counted_of c.before.before.before.before.before.c2.given.1) (sym c.before.before.before.rows.ensures ∙ ap verdict_of c.before.v.given.1))
 
 same-length-3 : tie.Need-same-length-3
 same-length-3 c = search rules
 
 returns-3 : tie.Need-returns-3
 returns-3 c =
-    admits-some _ _ _ _ _ _ _ (sym c.before.before.before.before.before.before.before.before.count_by.ensures ∙ ap counted_of c.before.before.before.before.c2.given.1)
+    admits_some _ _ _ _ _ _ _ (sym c.before.before.before.before.before.before.before.before.count_by.ensures ∙ ap counted_of c.before.before.before.before.c2.given.1)
     (rows_met _ _ _ _ _ _ (sym c.before.before.rows.ensures ∙ ap verdict_of c.enum_told.given.1))
 
 pub admit-spec : {M : Type 1} → statement M

@@ -2,7 +2,7 @@
 use borrow.Author.Rules.{rules}
 use Rattle.codec.specs.Valid.{Bytes}
 use Rattle.asking.proofs.Nodes.{buildable-few, reaches}
-use Rattle.asking.proofs.Answers.{within_none, within-some}
+use Rattle.asking.proofs.Answers.{within_none, within_some}
 use Rattle.asking.proofs.ask_within_by.Statement.{statement}
 use Rattle.asking.proofs.ask_within_by.Tie as tie
 
@@ -44,7 +44,7 @@ returns-2 c =
     let e = c.before.before.before.before.before.before.before.before.before.admit-over.ensures.0 in
     let q = c.before.before.before.before.before.enum_told.given.1 in
     let r = c.before.before.before.before.reach.ensures in
-    within-some _ _ _ _ _ _ _ _
+    within_some _ _ _ _ _ _ _ _
     (reaches _ (e.counted _ q) (bytes c.before.before.before.before.before.before.before.before.before.before.before.before.before) _ (r.least _ (e.admitted _ q).below) _ (search rules) _ _ _ _ _
     (e.admitted _ q) r.below c.before.before.build-below.ensures)
 

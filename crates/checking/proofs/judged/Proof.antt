@@ -7,7 +7,7 @@ use Rattle.calculus.specs.Expansion.{expand}
 use Rattle.index.specs.Index.{index_node}
 use Rattle.rules.specs.Steps.{step_at}
 use Rattle.naming.specs.Named.{named_of}
-use Rattle.checking.proofs.Answers.{head-refused, head-within, head-runs, in-version}
+use Rattle.checking.proofs.Answers.{head_refused, head-within, head-runs, in_version}
 use Rattle.checking.proofs.judged.Statement.{statement}
 use Rattle.checking.proofs.judged.Tie as tie
 
@@ -40,9 +40,9 @@ returns : tie.Need-returns
 returns c =
     let s = c.before.before.before.before.before.before.before.before.before in
     let e = expand (index_node s.args.x.now) in
-    head-refused c.before.before.before.before.version_of.result e s.args.goals.now s.args.n (step_at s.args.d.now) s.args.count
+    head_refused c.before.before.before.before.version_of.result e s.args.goals.now s.args.n (step_at s.args.d.now) s.args.count
     (sym (ap named_of c.before.head2.given.1) ∙ c.before.before.before.head.ensures)
-    ∙ in-version e s.args.goals.now s.args.n _ c.before.before.before.before.version_of.ensures
+    ∙ in_version e s.args.goals.now s.args.n _ c.before.before.before.before.version_of.ensures
 
 same_length : tie.Need-same-length
 same_length c = search rules
@@ -54,7 +54,7 @@ returns-2 c =
     let q = sym (ap named_of c.before.before.before.before.before.before.before.head3.given.1) ∙ c.before.before.before.before.before.before.before.before.before.head.ensures in
     sym (ap verdict_of c.enum_told.given.1) ∙ c.before.before.before.before.check-run.ensures
     ∙ head-runs c.before.before.before.before.before.before.before.before.before.before.version_of.result e s.args.goals.now s.args.n (step_at s.args.d.now) s.args.count q
-    ∙ in-version e s.args.goals.now s.args.n _ c.before.before.before.before.before.before.before.before.before.before.version_of.ensures
+    ∙ in_version e s.args.goals.now s.args.n _ c.before.before.before.before.before.before.before.before.before.before.version_of.ensures
 
 same-length-2 : tie.Need-same-length-2
 same-length-2 c = search rules
@@ -66,7 +66,7 @@ returns-3 c =
     let q = sym (ap named_of c.before.before.before.before.before.before.before.before.head3.given.1) ∙ c.before.before.before.before.before.before.before.before.before.before.head.ensures in
     sym (ap verdict_of c.before.v.given.1) ∙ c.before.before.before.before.before.check-run.ensures
     ∙ head-runs c.before.before.before.before.before.before.before.before.before.before.before.version_of.result e s.args.goals.now s.args.n (step_at s.args.d.now) s.args.count q
-    ∙ in-version e s.args.goals.now s.args.n _ c.before.before.before.before.before.before.before.before.before.before.before.version_of.ensures
+    ∙ in_version e s.args.goals.now s.args.n _ c.before.before.before.before.before.before.before.before.before.before.before.version_of.ensures
 
 pub judged-spec : {M : Type 1} → statement M
 judged-spec =

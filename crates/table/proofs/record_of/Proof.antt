@@ -11,7 +11,7 @@ use Rattle.scope.proofs.Records.{part_record}
 use Rattle.codec.specs.Valid.{Bytes}
 use Rattle.codec.proofs.Tables.{few-records, record_reads}
 use Rattle.table.specs.Counted.{counted_of}
-use Rattle.table.proofs.Rows.{counted, literal-refused, literal-over, literal_node, record_within}
+use Rattle.table.proofs.Rows.{counted, literal_refused, literal-over, literal_node, record_within}
 use native.Mathlib.Omega.{arith}
 use borrow.Author.Rules.{rules}
 use Rattle.table.proofs.record_of.Statement.{statement}
@@ -69,7 +69,7 @@ read-record-requires : tie.Need-read-record-requires
 read-record-requires c κs = search rules
 
 returns-2 : tie.Need-returns-2
-returns-2 c = sym (literal-refused _ _ (sym c.before.before.before.count.ensures ∙ ap counted_of c.before.c.given.1))
+returns-2 c = sym (literal_refused _ _ (sym c.before.before.before.count.ensures ∙ ap counted_of c.before.c.given.1))
 
 returns-3 : tie.Need-returns-3
 returns-3 c =

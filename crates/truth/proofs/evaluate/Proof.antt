@@ -9,7 +9,7 @@ use Rattle.codec.proofs.Tables.{few-records}
 use Rattle.table.specs.Counted.{counted_of}
 use Rattle.table.proofs.Rows.{counted}
 use Rattle.truth.proofs.Levels.{blank_levels}
-use Rattle.truth.proofs.Answers.{table_refused, setting-long, literal-refused, setting-refused, truth-answered}
+use Rattle.truth.proofs.Answers.{table_refused, setting_long, literal_refused, setting-refused, truth-answered}
 use Rattle.truth.proofs.evaluate.Statement.{statement}
 use Rattle.truth.proofs.evaluate.Tie as tie
 
@@ -42,7 +42,7 @@ returns : tie.Need-returns
 returns c =
     let literal = c.before.before.before.before.before.before.before.args.literal in
     let over : 2 * c.before.before.c2.given.0.0 ≤ literal = omega (arith, c.if1.true) in
-    literal-refused _ _ _ _ (answered c.before) over
+    literal_refused _ _ _ _ (answered c.before) over
 
 settings-verdict-requires : tie.Need-settings-verdict-requires
 settings-verdict-requires c κs = search rules
@@ -67,7 +67,7 @@ node-levels-requires c κs =
       record {
         readable = q.0;
         inside = omega (arith, h, q.1);
-        points = setting-long _ (settled c.before);
+        points = setting_long _ (settled c.before);
         room = omega (arith, h, few told);
       },
       blank_levels 4032,
