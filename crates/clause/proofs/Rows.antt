@@ -107,7 +107,7 @@ module _ {x : List ℕ} {n l j : ℕ} (I : Indexed x n) (p : (l < 2 * n) × (j <
   -- its literals
   chosen-clause : get_or (expand t l) j [] ≡ map (chosen node) choices
   unfolding expand
-  chosen-clause = ListN.get_d_map (map (chosen node)) row_of_lem j []
+  chosen-clause = ListN.get_or-map (map (chosen node)) row_of_lem j []
 
   -- of so many choices
   literals_are : (k : ℕ) → length choices ≡ k → map (chosen node) (list_from (at choices) 0 k) ≡ get_or (expand t l) j []
