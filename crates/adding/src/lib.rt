@@ -1,4 +1,6 @@
 // The builder: adds a record to a table, or finds the one that is already there.
+#![tactic(auto)]
+
 ghost use Rattle.std.specs.Prelude.{◌≡◌, true, ◌++◌, ◌+◌, ◌*◌, ◌-◌, ◌<◌, ◌≤◌, length, take, drop, get_or};
 ghost use Rattle.scope.specs.Outcome.{answer};
 ghost use Rattle.scope.specs.Block.{block_of};
@@ -13,14 +15,14 @@ use scope::{Node, Refusal};
 use table::Counted;
 
 // Where a record stands after add: its literal, and the used length.
-#[derive(Drop)]
+#[derive(Clone, Copy)]
 pub struct Mark {
     pub literal: usize,
     pub used: usize,
 }
 
 // What add answers.
-#[derive(Drop)]
+#[derive(Clone, Copy)]
 pub enum Added {
     At(Mark),
     Refused(Refusal),

@@ -1,5 +1,7 @@
 // The work area of the derivation checker, which shares no code with the solver: the trail, the clauses one after the other, the strikes
 // and the way back from them, and the open splits. The layout is in specs/Area.antt.
+#![tactic(auto)]
+
 ghost use Rattle.std.specs.Prelude.{◌≡◌, cond, ◌&&◌, ℕ, suc, ◌+◌, ◌-◌, ◌*◌, ◌%◌, ◌<◌, ◌≤◌, eqb, length};
 ghost use Rattle.calculus.specs.Order.{value_of};
 ghost use Rattle.calculus.specs.Model.{Fresh};
@@ -8,7 +10,7 @@ ghost use Rattle.area.specs.Area.{area_size, most_nodes, most_clauses, most_slot
 ghost use Rattle.area.specs.Strikes.{Reaches, Unwound};
 
 // What a clause has left: how many literals, and the slot of the first, 0 where there is none.
-#[derive(Drop)]
+#[derive(Clone, Copy)]
 pub struct Left {
     pub count: u16,
     pub first: u16,

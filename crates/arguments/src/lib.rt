@@ -1,11 +1,13 @@
 // What the programs read and write: arguments, files by name, standard input and output. Where one cannot be read or written, standard
 // error has a line that says why.
+#![tactic(auto)]
+
 ghost use Rattle.arguments.specs.Loaded.{Holds};
 
 use text::Numeral;
 
 // What loading a file answers: how many bytes of it the buffer has, all of them unless the buffer is full.
-#[derive(Drop)]
+#[derive(Clone, Copy)]
 pub enum Loaded {
     Bytes(usize),
     Failed,

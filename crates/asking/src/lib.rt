@@ -1,5 +1,7 @@
 // What the calls that search ask before: rows 10 to 17, a row on the list (62 for goals), 20, 21 and 23 in one place; and the index of the
 // table's nodes, which they work on, or of those below the goals.
+#![tactic(auto)]
+
 ghost use Rattle.std.specs.Prelude.{◌≡◌, ◌≤◌, ◌&&◌, leb, ltb, length};
 ghost use Rattle.scope.specs.Outcome.{verdict_of};
 ghost use Rattle.calculus.specs.Model.{most_goals};

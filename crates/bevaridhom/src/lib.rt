@@ -1,4 +1,6 @@
 // The calls for a host in C: numbers and byte slices in, a struct by value out. A slice is a pointer and a length.
+#![tactic(auto)]
+
 ghost use Rattle.std.specs.Prelude.{◌≡◌};
 ghost use Rattle.scope.specs.Calls.{table_count, table_record, evaluate, add, bytes_after};
 ghost use Rattle.steps.specs.Opened.{step_count};
@@ -22,7 +24,7 @@ use wishes::Wished;
 
 // In each answer: number 0 and the values, or the refusal's number and place and every value 0.
 #[repr(C)]
-#[derive(Drop)]
+#[derive(Clone, Copy)]
 pub struct BevCount {
     pub number: u16,
     pub place: usize,
@@ -30,7 +32,7 @@ pub struct BevCount {
 }
 
 #[repr(C)]
-#[derive(Drop)]
+#[derive(Clone, Copy)]
 pub struct BevRecord {
     pub number: u16,
     pub place: usize,
@@ -41,7 +43,7 @@ pub struct BevRecord {
 }
 
 #[repr(C)]
-#[derive(Drop)]
+#[derive(Clone, Copy)]
 pub struct BevTruth {
     pub number: u16,
     pub place: usize,
@@ -49,7 +51,7 @@ pub struct BevTruth {
 }
 
 #[repr(C)]
-#[derive(Drop)]
+#[derive(Clone, Copy)]
 pub struct BevAdded {
     pub number: u16,
     pub place: usize,
@@ -158,7 +160,7 @@ pub extern "C" fn bev_add(buf: &mut [u8], used: usize, r: &[u8; 8]) -> BevAdded
 }
 
 #[repr(C)]
-#[derive(Drop)]
+#[derive(Clone, Copy)]
 pub struct BevDecided {
     pub number: u16,
     pub place: usize,
@@ -219,7 +221,7 @@ pub extern "C" fn bev_clash(t: &[u8], goals: &[u16], w: &mut [u16]) -> BevClashe
 }
 
 #[repr(C)]
-#[derive(Drop)]
+#[derive(Clone, Copy)]
 pub struct BevAnswered {
     pub number: u16,
     pub place: usize,
@@ -294,7 +296,7 @@ pub extern "C" fn bev_rooms_turn(
 }
 
 #[repr(C)]
-#[derive(Drop)]
+#[derive(Clone, Copy)]
 pub struct BevDerived {
     pub number: u16,
     pub place: usize,
@@ -339,7 +341,7 @@ pub extern "C" fn bev_derive(
 }
 
 #[repr(C)]
-#[derive(Drop)]
+#[derive(Clone, Copy)]
 pub struct BevChecked {
     pub number: u16,
     pub place: usize,
@@ -364,7 +366,7 @@ pub extern "C" fn bev_check(t: &[u8], goals: &[u16], w: &mut [u16], d: &[u8]) ->
 }
 
 #[repr(C)]
-#[derive(Drop)]
+#[derive(Clone, Copy)]
 pub struct BevWished {
     pub number: u16,
     pub place: usize,
@@ -406,7 +408,7 @@ pub extern "C" fn bev_wishes(
 }
 
 #[repr(C)]
-#[derive(Drop)]
+#[derive(Clone, Copy)]
 pub struct BevOpened {
     pub number: u16,
     pub place: usize,
@@ -447,7 +449,7 @@ pub extern "C" fn bev_open(d: &[u8]) -> BevOpened
 }
 
 #[repr(C)]
-#[derive(Drop)]
+#[derive(Clone, Copy)]
 pub struct BevStep {
     pub number: u16,
     pub place: usize,

@@ -1,4 +1,6 @@
 // The tests of a block, shared by tables and derivations: check, heading, padding.
+#![tactic(auto)]
+
 ghost use Rattle.std.specs.Prelude.{◌≡◌, ◌-◌, ◌≤◌, length};
 ghost use Rattle.scope.specs.Outcome.{verdict_of};
 ghost use Rattle.scope.specs.Block.{check_ok, head_ok, zeros, block_test};

@@ -1,5 +1,7 @@
 // The open branch of a derivation that is replayed, and the way back to its open splits: what joins it brings its clauses, by kind and
 // sign, and what is undone leaves the work area as it was.
+#![tactic(auto)]
+
 ghost use Rattle.std.specs.Prelude.{◌≡◌, [], ◌∷◌, suc, ◌+◌, ◌-◌, ◌*◌, ◌/◌, ◌%◌, ◌≤◌, ◌<◌, length, get_or};
 ghost use Rattle.scope.specs.Table.{arity};
 ghost use Rattle.calculus.specs.Expansion.{neg, chosen, templates, expand};

@@ -1,7 +1,8 @@
 // The search's moves. What they mean stands in specs/, one file to a section of the scope paper.
+#![tactic(auto)]
 
 // What the solver's order does next. A clause goes by its number in the clause list.
-#[derive(Drop)]
+#[derive(Clone, Copy)]
 pub enum Move {
     // All literals of a clause are false.
     Conflict(u16),

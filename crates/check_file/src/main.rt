@@ -1,5 +1,7 @@
 // Checks a derivation of goals of a table: `check_file TABLE GOAL.. DERIVATION`. It prints `accepted`, or the line of a refusal. The
 // derivation stands in one buffer on the stack, so one of more than 4,194,304 bytes (8,192 of the 65,536 blocks) is turned away.
+#![tactic(auto)]
+
 ghost use Rattle.std.specs.Prelude.{◌≡◌, ◌≤◌, min, length};
 ghost use Rattle.check_file.specs.Said.{Verified};
 

@@ -1,5 +1,7 @@
 // Check: whether a derivation, of any author, shows that no setting makes all goals true. Nothing is written to the work area before
 // the table, the goals, the area and the derivation's form have passed.
+#![tactic(auto)]
+
 ghost use Rattle.std.specs.Prelude.{◌≡◌, ℕ, ◌+◌, ◌<◌, ◌≤◌, length, get_or};
 ghost use Rattle.index.specs.Index.{most_nodes, index_node};
 ghost use Rattle.index.specs.Built.{Recorded, Records};
@@ -25,7 +27,7 @@ use table::Counted;
 const CHAINS: usize = 6112;
 
 // What check answers.
-#[derive(Drop)]
+#[derive(Clone, Copy)]
 pub enum Checked {
     Accepted,
     Refused(Refusal),

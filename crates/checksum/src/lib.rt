@@ -2,6 +2,8 @@
 // four parts, and what the check itself adds is taken off again. The compiler makes a row into vector code whose factors are 16-bit
 // numbers with a sign: so of a power from 32,768 on, what it lacks to 65,521 is taken away instead. Rows are summed five times over, so
 // that no power in a row is one of 2, which would be a shift and no product.
+#![tactic(auto)]
+
 ghost use Rattle.std.specs.Prelude.{◌≡◌, ◌+◌, ◌*◌, ◌%◌, ◌<◌, ◌≤◌, length, drop};
 ghost use Rattle.scope.specs.Block.{weighted, check_of};
 ghost use Rattle.checksum.specs.Sums.{Rows, rows_sum};

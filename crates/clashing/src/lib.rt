@@ -1,6 +1,8 @@
 // Clash: which of goals that are impossible together to argue about. From last to first, a goal is dropped if the others left are still
 // impossible together: where fewer goals are, all behind them are dropped at once. The table is read once, and of its nodes those below the
 // goals are indexed.
+#![tactic(auto)]
+
 ghost use Rattle.std.specs.Prelude.{◌≡◌, [], ◌≤◌, ◌<◌, length, take, drop};
 ghost use Rattle.scope.specs.Outcome.{answer, refused};
 ghost use Rattle.calculus.specs.Model.{most_goals, Goals};

@@ -1,4 +1,6 @@
 // The clauses of a literal by TEMPLATES, and what they come to: its code, under the values of its node's operands, and its class, by an edge.
+#![tactic(auto)]
+
 ghost use Rattle.std.specs.Prelude.{◌≡◌, [], ◌+◌, ◌-◌, ◌*◌, ◌/◌, ◌≤◌, ◌<◌, length, get_or};
 ghost use Rattle.calculus.specs.Expansion.{neg, chosen, expand};
 ghost use Rattle.calculus.specs.Order.{holds, value_of};
@@ -14,7 +16,7 @@ ghost use Rattle.clause.specs.Coded.{tail, g_of, Valued, row_place, states_of, C
 ghost use Rattle.clause.specs.Classed.{kept_by, Classed};
 
 // A clause: how many literals it has, 0 to 3, and which.
-#[derive(Drop)]
+#[derive(Clone, Copy)]
 pub struct Clause {
     pub len: u8,
     pub first: u16,

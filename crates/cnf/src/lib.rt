@@ -1,7 +1,8 @@
 // The words of a DIMACS text. What they mean stands in specs/, one file to a part of the request.
+#![tactic(auto)]
 
 // What a word of the body says.
-#[derive(Drop)]
+#[derive(Clone, Copy)]
 pub enum Word {
     // No number of the format, or a variable over V.
     Malformed,

@@ -1,4 +1,6 @@
 // The nodes of a DIMACS file's table, one after another in a table under way: points, false, a clause's ORs, the ANDs.
+#![tactic(auto)]
+
 ghost use Rattle.std.specs.Prelude.{◌≡◌, ◌<◌, ◌≤◌, take};
 ghost use Rattle.growing.specs.Growing.{state, Under, Grows};
 ghost use Rattle.cnf.specs.Fold.{opposite, put, points, no_literal, or_clause, and_join, empty};
@@ -8,7 +10,7 @@ use growing::{Grown, Spot};
 use scope::Refusal;
 
 // Two literals in order of their nodes.
-#[derive(Drop)]
+#[derive(Clone, Copy)]
 pub struct Pair {
     pub low: usize,
     pub high: usize,

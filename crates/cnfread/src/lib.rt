@@ -1,4 +1,6 @@
 // The reader of DIMACS files: the nodes are made as the text is read, and the table is written once the text is known to be in order.
+#![tactic(auto)]
+
 ghost use Rattle.std.specs.Prelude.{[], ◌<◌, ◌≤◌, length, take};
 ghost use Rattle.growing.specs.Growing.{state, Under, Grows};
 ghost use Rattle.cnf.specs.Fold.{goal_of, build};
@@ -13,7 +15,7 @@ use growing::{Grown, Spot};
 use scope::Refusal;
 
 // A clause's literals without repeats: how many, whether both signs of a variable are among them, and where the text goes on.
-#[derive(Drop)]
+#[derive(Clone, Copy)]
 pub struct Gathered {
     pub count: usize,
     pub both: bool,
@@ -21,7 +23,7 @@ pub struct Gathered {
 }
 
 // What stands next in a body: a clause, nothing more, or what is no clause.
-#[derive(Drop)]
+#[derive(Clone, Copy)]
 pub enum Gathering {
     Clause(Gathered),
     Done,
@@ -29,7 +31,7 @@ pub enum Gathering {
 }
 
 // A body read: the goal in a table under way, or its refusal; or that the body is malformed.
-#[derive(Drop)]
+#[derive(Clone, Copy)]
 pub enum Folded {
     Table(Grown),
     Malformed,

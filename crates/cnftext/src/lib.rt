@@ -1,4 +1,6 @@
 // The text of a DIMACS file, tested and not kept: comments, the heading, and whether the body's clauses are as many as it says.
+#![tactic(auto)]
+
 ghost use Rattle.std.specs.Prelude.{◌≡◌, ◌≤◌, length, drop};
 ghost use Rattle.cnf.specs.Text.{starts_with};
 ghost use Rattle.cnftext.specs.Scanned.{Passed, Digits, Counts, Heads, Headed, Tallies, turned_away, Scans};
@@ -7,7 +9,7 @@ use cnfwords::{Number, Token};
 use scope::Refusal;
 
 // The heading's numbers, and where the body starts.
-#[derive(Drop)]
+#[derive(Clone, Copy)]
 pub struct Heading {
     pub variables: usize,
     pub clauses: usize,
@@ -15,28 +17,28 @@ pub struct Heading {
 }
 
 // What a text is: in order, or turned away.
-#[derive(Drop)]
+#[derive(Clone, Copy)]
 pub enum Scanned {
     Fine(Heading),
     Refused(Refusal),
 }
 
 // A number of the heading and the place behind the byte that follows it, or none.
-#[derive(Drop)]
+#[derive(Clone, Copy)]
 pub enum Count {
     Number(usize, usize),
     Malformed,
 }
 
 // The heading, or none.
-#[derive(Drop)]
+#[derive(Clone, Copy)]
 pub enum Head {
     At(Heading),
     Malformed,
 }
 
 // How many clauses a body has, or that it is malformed.
-#[derive(Drop)]
+#[derive(Clone, Copy)]
 pub enum Tally {
     Clauses(usize),
     Malformed,

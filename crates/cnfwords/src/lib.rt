@@ -1,4 +1,6 @@
 // The words of a DIMACS text's body, one after another: each is 0, a literal, or malformed.
+#![tactic(auto)]
+
 ghost use Rattle.std.specs.Prelude.{◌≡◌, ◌+◌, ◌≤◌, ◌<◌, length};
 ghost use Rattle.cnf.specs.Text.{digit, separator, word_of};
 ghost use Rattle.cnfwords.specs.Words.{number_of, said, Skipped, Parted, Signed, Runs, Ends, token_of, TokenAt};
@@ -6,14 +8,14 @@ ghost use Rattle.cnfwords.specs.Words.{number_of, said, Skipped, Parted, Signed,
 use cnf::Word;
 
 // A number of 1 to 9 digits, or none.
-#[derive(Drop)]
+#[derive(Clone, Copy)]
 pub enum Number {
     Value(usize),
     Malformed,
 }
 
 // What stands next in a body: nothing more, a malformed word, a clause's end, or a literal; and where the text goes on behind it.
-#[derive(Drop)]
+#[derive(Clone, Copy)]
 pub enum Token {
     Done,
     Malformed,
@@ -22,7 +24,7 @@ pub enum Token {
 }
 
 // The value of a run of digits, and where it ends.
-#[derive(Drop)]
+#[derive(Clone, Copy)]
 pub struct Run {
     pub value: usize,
     pub end: usize,

@@ -1,1 +1,2 @@
 // No code: theorems about tables and their bytes, in proofs/.
+#![tactic(auto)]

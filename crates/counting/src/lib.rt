@@ -1,5 +1,7 @@
 // How many steps the derivation in the solver's order has, up to a limit. The search runs as decide's does and writes nothing; where a
 // model is found there is no derivation. The count stops at its limit, and the search goes on.
+#![tactic(auto)]
+
 ghost use Rattle.std.specs.Prelude.{◌≡◌, ◌+◌, ◌*◌, ◌<◌, ◌≤◌};
 ghost use Rattle.calculus.specs.Model.{Goals};
 ghost use Rattle.index.specs.Index.{index_node};
@@ -27,14 +29,14 @@ const GOALS: usize = 8064;
 const SIZES: u64 = 33728925696;
 
 // Where the units end, and the count up to there.
-#[derive(Drop)]
+#[derive(Clone, Copy)]
 struct Told {
     stop: Stop,
     count: usize,
 }
 
 // What a search comes to: a model, or every branch closes, with the count.
-#[derive(Drop)]
+#[derive(Clone, Copy)]
 pub enum Tally {
     Open,
     Closed(usize),

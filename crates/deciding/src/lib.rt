@@ -1,4 +1,6 @@
 // Decide: whether one setting makes all goals true, and such a setting.
+#![tactic(auto)]
+
 ghost use Rattle.std.specs.Prelude.{◌≡◌, ◌++◌, ◌/◌, ◌<◌, ◌≤◌, length, drop};
 ghost use Rattle.scope.specs.Table.{list_from};
 ghost use Rattle.calculus.specs.Order.{setting_of};
@@ -14,7 +16,7 @@ use searching::Ended;
 use table::Counted;
 
 // What decide answers.
-#[derive(Drop)]
+#[derive(Clone, Copy)]
 pub enum Decided {
     Possible(u32),
     Impossible(u32),

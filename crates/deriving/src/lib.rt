@@ -1,6 +1,8 @@
 // Derive: the derivation of impossible goals in the solver's order, in blocks of a lent buffer. A first pass counts the steps, so
 // that nothing is written before it is known that the goals are impossible and that the blocks fit; the second writes them. Of the nodes
 // those below the goals are indexed.
+#![tactic(auto)]
+
 ghost use Rattle.std.specs.Prelude.{◌≡◌, ◌*◌, ◌/◌, ◌≤◌, min, length};
 ghost use Rattle.calculus.specs.Model.{Goals};
 ghost use Rattle.index.specs.Index.{index_node};
@@ -16,7 +18,7 @@ use table::Counted;
 const NO_UNIT: u32 = 4294967295;
 
 // What derive answers.
-#[derive(Drop)]
+#[derive(Clone, Copy)]
 pub enum Derived {
     Steps(usize),
     Refused(Refusal),

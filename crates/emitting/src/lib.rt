@@ -1,6 +1,8 @@
 // The writing pass of derive: the steps of a search that closes, in blocks of a lent buffer. The writer is taken and returned by value; its
 // block is lent to the recursion, which carries two counts, a call for each branch of a split. A phase is the moves up to a conflict or a
 // split. `forms` are the clause templates.
+#![tactic(auto)]
+
 ghost use Rattle.std.specs.Prelude.{◌≡◌, cond, [], ◌∷◌, ◌++◌, map, ◌+◌, ◌*◌, ◌<◌, ◌≤◌, ltb, length};
 ghost use Rattle.calculus.specs.Expansion.{expand};
 ghost use Rattle.calculus.specs.Model.{Below, Goals};
@@ -27,14 +29,14 @@ use rules::{Step, Version};
 const NO_UNIT: u32 = 4294967295;
 
 // Where a phase ends: at a conflict, or at a split on a literal.
-#[derive(Drop)]
+#[derive(Clone, Copy)]
 pub enum Turn {
     Closed,
     Fork(u16),
 }
 
 // Where a phase ends, and the counts there.
-#[derive(Drop)]
+#[derive(Clone, Copy)]
 pub struct Told {
     pub turn: Turn,
     pub at: At,

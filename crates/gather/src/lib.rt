@@ -1,6 +1,8 @@
 // Writing a derivation: steps gather in one block until it holds 126, and then the block is written, with the letter in its byte 0. The
 // writer is a struct, taken and returned by value. The steps of a search are added to its block, which is lent, with two counts by value: a
 // struct of that size is copied at each call.
+#![tactic(auto)]
+
 ghost use Rattle.std.specs.Prelude.{◌≡◌, [], ◌∷◌, ◌++◌, map, ◌+◌, ◌*◌, ◌<◌, ◌≤◌, length, get_or, take, drop};
 ghost use Rattle.scope.specs.Block.{block_of};
 ghost use Rattle.rules.specs.Steps.{G as name, step_bytes, step};
@@ -17,7 +19,7 @@ pub struct Writer {
 }
 
 // How many steps a writer's block holds, and how many blocks are written.
-#[derive(Drop)]
+#[derive(Clone, Copy)]
 pub struct At {
     pub count: usize,
     pub blocks: usize,

@@ -1,5 +1,7 @@
 // The walk through the subsets of the wishes: the questions are put one by one, each a list of the goals and of the wishes chosen, and none
 // is stored but the one at hand.
+#![tactic(auto)]
+
 ghost use Rattle.std.specs.Prelude.{◌≡◌, ◌⊎◌, true, false, ◌*◌, ◌<◌, length};
 ghost use Rattle.calculus.specs.Model.{Goals};
 ghost use Rattle.index.specs.Index.{most_nodes};
@@ -42,7 +44,7 @@ const COUNTS: [[u16; 16]; 16] = [
 ];
 
 // On the way, with the questions put and the allowance left; or stopped, with the wishes met and the bound.
-#[derive(Drop)]
+#[derive(Clone, Copy)]
 pub struct Stage {
     pub stopped: bool,
     pub met: usize,
@@ -52,7 +54,7 @@ pub struct Stage {
 }
 
 // What an allowance comes to.
-#[derive(Drop)]
+#[derive(Clone, Copy)]
 pub struct Grant {
     pub met: usize,
     pub bound: usize,

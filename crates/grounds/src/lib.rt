@@ -1,4 +1,6 @@
 // What the clause of a unit or a conflict rests on: what its false literals do, and the literal whose expansion gave it.
+#![tactic(auto)]
+
 ghost use Rattle.std.specs.Prelude.{◌≡◌, ◌+◌, ◌*◌, ◌/◌, ◌<◌, ◌≤◌, length};
 ghost use Rattle.scope.specs.Table.{arity};
 ghost use Rattle.calculus.specs.Expansion.{expand};

@@ -1,4 +1,6 @@
 // A table under way as numbers, one for each node, found by chains of the same hash. Its blocks are written once, when it is complete.
+#![tactic(auto)]
+
 ghost use Rattle.std.specs.Prelude.{◌≡◌, ◌++◌, ◌+◌, ◌*◌, ◌<◌, ◌≤◌, length, set, take, drop};
 ghost use Rattle.scope.specs.Outcome.{answer};
 ghost use Rattle.scope.specs.Block.{block_of};
@@ -9,14 +11,14 @@ ghost use Rattle.growing.specs.Growing.{node_in, records_in, room_of, Held, Unde
 use scope::Refusal;
 
 // A literal of a table under way, and how many nodes that has.
-#[derive(Drop)]
+#[derive(Clone, Copy)]
 pub struct Spot {
     pub literal: usize,
     pub nodes: usize,
 }
 
 // What one node more comes to.
-#[derive(Drop)]
+#[derive(Clone, Copy)]
 pub enum Grown {
     At(Spot),
     Refused(Refusal),

@@ -1,5 +1,7 @@
 // The index of a table, built once a call: the nodes' fields as numbers, four a node, each node's edges, so that its parents are found
 // without a look at the others, and the codes and classes, which say what the clauses of a literal come to.
+#![tactic(auto)]
+
 ghost use Rattle.std.specs.Prelude.{◌≡◌, ◌+◌, ◌-◌, ◌/◌, ◌%◌, ◌<◌, ◌≤◌, length};
 ghost use Rattle.record.specs.Place.{place_of};
 ghost use Rattle.scope.specs.Table.{operands, node_at};
@@ -393,7 +395,7 @@ fn meet(x: &mut [u16], p: usize)
 }
 
 // How far the way down has come: where the next node's edges start, and the node met last, or how many there are where none was.
-#[derive(Drop)]
+#[derive(Clone, Copy)]
 struct Descent {
     start: u16,
     last: usize,

@@ -1,6 +1,8 @@
 // Lists a table that is read on standard input: a heading, and for each node its number and the answers for both its literals. What
 // is written gathers in one buffer, a line behind the other, and each line is written as soon as it stands there. So the buffer's
 // contract is that of the whole listing. Where a line cannot be written, standard error says so, once, and no more is written.
+#![tactic(auto)]
+
 ghost use Rattle.std.specs.Prelude.{◌≡◌, ◌+◌, ◌*◌, ◌<◌, ◌≤◌, length};
 ghost use Rattle.text.specs.Text.{Put};
 ghost use Rattle.text.specs.Listing.{listing};

@@ -1,4 +1,6 @@
 // What add does with a record before any byte changes: turn an implication into an OR, order the operands, and look for the node.
+#![tactic(auto)]
+
 ghost use Rattle.std.specs.Prelude.{◌≡◌, true, [], ◌∷◌, ℕ, ◌+◌, ◌*◌, ◌/◌, ◌<◌, ◌≤◌, length};
 ghost use Rattle.scope.specs.Table.{neg, with_operands, range_ok, same_node, node_at, list_from};
 ghost use Rattle.scope.specs.Calls.{placed, ordered, turned, normalized, index_of};

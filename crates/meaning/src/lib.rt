@@ -1,1 +1,2 @@
 // No code: what the answers of decide, derive and check mean, by their definitions, in proofs/.
+#![tactic(auto)]

@@ -1,4 +1,6 @@
 // The next move in the solver's order, and the clause that it is on. Conflicts and units are looked up; a split looks from the cursor on.
+#![tactic(auto)]
+
 ghost use Rattle.std.specs.Prelude.{◌≡◌, ◌+◌, ◌/◌, ◌%◌, ◌≤◌, ◌<◌, length};
 ghost use Rattle.calculus.specs.Expansion.{expand};
 ghost use Rattle.calculus.specs.Order.{move};
@@ -18,14 +20,14 @@ use calculus::Move;
 use clause::Clause;
 
 // A unit: the number of its clause, and its literal.
-#[derive(Drop)]
+#[derive(Clone, Copy)]
 pub struct Forced {
     pub number: u16,
     pub literal: u16,
 }
 
 // What is left where there is no conflict and no unit: nothing, or a split on a literal.
-#[derive(Drop)]
+#[derive(Clone, Copy)]
 pub enum Choice {
     Done,
     Split(u16),

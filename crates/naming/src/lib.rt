@@ -1,4 +1,6 @@
 // The goals that a derivation names: row 64 at its head, before its other steps are tried.
+#![tactic(auto)]
+
 ghost use Rattle.std.specs.Prelude.{◌≡◌, ◌&&◌, ℕ, ◌+◌, ◌<◌, ◌≤◌, ltb, length};
 ghost use Rattle.scope.specs.Outcome.{refused};
 ghost use Rattle.rules.specs.Steps.{step_at};
@@ -10,7 +12,7 @@ use rules::Version;
 use scope::Refusal;
 
 // How many goals a derivation names, or its refusal.
-#[derive(Drop)]
+#[derive(Clone, Copy)]
 pub enum Named {
     Goals(usize),
     Refused(Refusal),

@@ -1,4 +1,6 @@
 // Overview: up to 256 goals of one table, each by itself. The table is read and indexed once.
+#![tactic(auto)]
+
 ghost use Rattle.std.specs.Prelude.{◌≡◌, ◌&&◌, [], ◌∷◌, ◌++◌, ◌*◌, ◌<◌, ◌≤◌, leb, ltb, length, drop};
 ghost use Rattle.scope.specs.Outcome.{verdict_of};
 ghost use Rattle.calculus.specs.Model.{Below};

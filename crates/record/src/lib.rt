@@ -1,4 +1,6 @@
 // Records: where they stand in a table, and reading one; and a quick test of one that is read as two numbers of 32 bits.
+#![tactic(auto)]
+
 ghost use Rattle.std.specs.Prelude.{◌≡◌, ◌%◌, ◌<◌, length, true};
 ghost use Rattle.scope.specs.Outcome.{verdict_of};
 ghost use Rattle.scope.specs.Table.{node_of, form_ok, range_ok, order_ok, read_record};
@@ -9,7 +11,7 @@ ghost use Rattle.record.specs.Read.{read_of, read_verdict};
 use scope::{Node, Refusal, Verdict};
 
 // What reading a record answers: the node or its refusal.
-#[derive(Drop)]
+#[derive(Clone, Copy)]
 pub enum NodeRead {
     Found(Node),
     Refused(Refusal),

@@ -1,5 +1,7 @@
 // Whether a record repeats an earlier one of its table, by chains of records with the same hash: about one look a record, where few records
 // share a hash. A record is taken as two numbers of 32 bits: kind and a, b and c.
+#![tactic(auto)]
+
 ghost use Rattle.std.specs.Prelude.{◌≡◌, ◌+◌, ◌<◌, ◌≤◌, eqb, length};
 ghost use Rattle.scope.specs.Table.{repeats};
 ghost use Rattle.repeats.specs.Chains.{joint, key_at, hash_of, Plain, Chains};

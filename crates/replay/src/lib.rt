@@ -1,4 +1,6 @@
 // The derivation checker's rules, one step at a time, and the run of a whole derivation. It shares no code with the solver.
+#![tactic(auto)]
+
 ghost use Rattle.std.specs.Prelude.{◌≡◌, cond, [], ℕ, ◌+◌, ◌-◌, ◌≤◌, ◌<◌, ltb, length};
 ghost use Rattle.calculus.specs.Expansion.{expand};
 ghost use Rattle.index.specs.Index.{index_node};
@@ -16,7 +18,7 @@ use scope::{Refusal, Verdict};
 use seen::Seen;
 
 // What a rule leaves: the derivation goes on, is complete, or the rule's condition fails.
-#[derive(Drop)]
+#[derive(Clone, Copy)]
 pub enum Status {
     Running,
     Complete,

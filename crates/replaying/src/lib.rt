@@ -1,5 +1,7 @@
 // One question's search, which stops after any turn: it is taken up by replaying the literals that its area holds, and makes turns one after
 // another. The solver's contracts are used as they are, so that an area of any contents is safe: literals that do not replay are dropped.
+#![tactic(auto)]
+
 ghost use Rattle.std.specs.Prelude.{◌≡◌, [], ◌∷◌, ◌≤◌, ◌<◌, length, get_or};
 ghost use Rattle.calculus.specs.Expansion.{expand};
 ghost use Rattle.calculus.specs.Order.{move};
@@ -15,7 +17,7 @@ ghost use Rattle.replaying.specs.Standing.{stack_size, stack_of, Stands, Copied,
 use calculus::Move;
 
 // Turns made one after another: what the search has then come to, and how many they were.
-#[derive(Drop)]
+#[derive(Clone, Copy)]
 pub struct Ran {
     pub verdict: u8,
     pub made: usize,

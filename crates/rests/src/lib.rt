@@ -1,4 +1,6 @@
 // What literals and conflicts rest on, as two 64-bit words a slot: split i is bit i % 64 of word 2 * slot + i / 64, and i is below 128.
+#![tactic(auto)]
+
 ghost use Rattle.std.specs.Prelude.{◌≡◌, true, not, ◌&&◌, ◌<◌, ltb};
 ghost use Rattle.calculus.specs.Jump.{both, only, less};
 ghost use Rattle.rests.specs.Words.{rest_at, There, Put, Cleared, word_of};

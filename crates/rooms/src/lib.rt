@@ -1,4 +1,6 @@
 // The calls for rooms under one allowance: up to 8 questions of one table, each with a work area and 1,024 setting bytes of its own.
+#![tactic(auto)]
+
 ghost use Rattle.std.specs.Prelude.{◌≡◌, ◌&&◌, ℕ, ◌*◌, ◌≤◌, leb, ltb, length, get_or};
 ghost use Rattle.scope.specs.Table.{list_from};
 ghost use Rattle.calculus.specs.Expansion.{expand};

@@ -1,5 +1,7 @@
 // Questions under one allowance: turns go round over the unfinished ones. Searches don't touch each other, so each question makes its turns of
 // all full laps in a row, and only what is then left of the allowance goes round turn by turn.
+#![tactic(auto)]
+
 ghost use Rattle.std.specs.Prelude.{◌≡◌, ◌∷◌, [], ℕ, ◌+◌, ◌-◌, ◌*◌, ◌≤◌, ◌<◌, eqb, ltb, length, get_or};
 ghost use Rattle.calculus.specs.Count.{one, tally};
 ghost use Rattle.calculus.specs.Expansion.{expand};

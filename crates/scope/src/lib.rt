@@ -1,14 +1,15 @@
 // The data types that the calls share. What they mean stands in specs/, one file to a section of the scope paper.
+#![tactic(auto)]
 
 // A refusal: its number, and the place where it shows.
-#[derive(Drop)]
+#[derive(Clone, Copy)]
 pub struct Refusal {
     pub number: u16,
     pub place: usize,
 }
 
 // What a test answers: fine, or the first refusal.
-#[derive(Drop)]
+#[derive(Clone, Copy)]
 pub enum Verdict {
     Fine,
     Refused(Refusal),
@@ -16,7 +17,7 @@ pub enum Verdict {
 
 // What tables and derivations each say of their blocks: the letter, the width of a record in bytes, how many records a full
 // block has, and the number of the first of a block's three refusals.
-#[derive(Drop)]
+#[derive(Clone, Copy)]
 pub struct Format {
     pub letter: u8,
     pub width: usize,
@@ -25,7 +26,7 @@ pub struct Format {
 }
 
 // A node of a table: the fields of its record.
-#[derive(Drop)]
+#[derive(Clone, Copy)]
 pub struct Node {
     pub kind: u8,
     pub a: u16,
@@ -34,7 +35,7 @@ pub struct Node {
 }
 
 // A literal's truth under a setting in which points may go either way.
-#[derive(Drop)]
+#[derive(Clone, Copy)]
 pub enum Truth {
     Yes,
     No,

@@ -1,6 +1,8 @@
 // The search: recursive, a call for each branch of a split, so the number of undecided nodes falls at each call. The work area is carried
 // along, and taken back to a split before its right branch. Each literal held, and the last conflict, has the set of the splits that it
 // rests on: a right branch is skipped where the left one's conflict does not rest on the split.
+#![tactic(auto)]
+
 ghost use Rattle.std.specs.Prelude.{◌≡◌, [], suc, ◌+◌, ◌≤◌, length};
 ghost use Rattle.calculus.specs.Model.{Goals};
 ghost use Rattle.calculus.specs.Jump.{stopped};
@@ -18,7 +20,7 @@ use calculus::Move;
 use moves::Choice;
 
 // Where goals and units end: at a conflict or a false goal, at a model, or at a split on a literal.
-#[derive(Drop)]
+#[derive(Clone, Copy)]
 pub enum Stop {
     Closed,
     Model,
@@ -26,14 +28,14 @@ pub enum Stop {
 }
 
 // What a search finds: a model, or that every branch closes.
-#[derive(Drop)]
+#[derive(Clone, Copy)]
 pub enum Found {
     Model,
     Closed,
 }
 
 // The same, with the splits made.
-#[derive(Drop)]
+#[derive(Clone, Copy)]
 pub enum Ended {
     Model(u32),
     Closed(u32),

@@ -1,11 +1,13 @@
 // What a clause of the checker's work area is under the literals held, by its true and its undecided literals: all that version two of the
 // steps asks. No strike is looked at. The literals are summed by weight, with no branch on their values, which cannot be guessed.
+#![tactic(auto)]
+
 ghost use Rattle.std.specs.Prelude.{◌≡◌, cond, ℕ, ◌+◌, ◌*◌, ◌<◌, ◌≤◌, eqb};
 ghost use Rattle.area.specs.Area.{most_nodes, clause_count, base_at, slot_at, trail_at, Vals, Ranged};
 ghost use Rattle.seen.specs.Seen.{seen_of, weight_by, state_by, state_in};
 
 // A literal is true; all are false; none is true, and one is undecided; or several are, and this is the first.
-#[derive(Drop)]
+#[derive(Clone, Copy)]
 pub enum Seen {
     Met,
     Empty,

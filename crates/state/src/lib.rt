@@ -1,4 +1,6 @@
 // The trail in the work area: a literal joins or the newest leaves, with their values. The layout is in specs/Work.antt.
+#![tactic(auto)]
+
 ghost use Rattle.std.specs.Prelude.{◌≡◌, ◌+◌, ◌-◌, ◌*◌, ◌≤◌, ◌<◌, length};
 ghost use Rattle.calculus.specs.Model.{Fresh};
 ghost use Rattle.calculus.specs.Order.{value_of};

@@ -1,5 +1,7 @@
 // A reader over a derivation's bytes, which hands out one step at a time: a struct with the byte slice, a step index and what opening
 // says of the form, and thin functions over a covered one that takes these by themselves.
+#![tactic(auto)]
+
 ghost use Rattle.std.specs.Prelude.{◌≡◌, ◌+◌, ◌-◌, ◌/◌, ◌<◌, ◌≤◌, min, length};
 ghost use Rattle.scope.specs.Outcome.{verdict_of};
 ghost use Rattle.scope.specs.Block.{records_in};
@@ -18,7 +20,7 @@ pub struct Reader<'a> {
 }
 
 // What is handed out: a step, that none is left, or a refusal.
-#[derive(Drop)]
+#[derive(Clone, Copy)]
 pub enum Handed {
     Step(Step),
     Done,

@@ -1,4 +1,6 @@
 // Reading a derivation: its version, the first refusal of 40 to 44 and 65, the step count, the step at an index.
+#![tactic(auto)]
+
 ghost use Rattle.std.specs.Prelude.{◌≡◌, true, cond, ℕ, ◌+◌, ◌*◌, ◌/◌, ◌<◌, ◌≤◌, ◌^◌, min, length};
 ghost use Rattle.scope.specs.Outcome.{verdict_of, first};
 ghost use Rattle.scope.specs.Block.{records_in};
@@ -10,7 +12,7 @@ use rules::{Step, Version};
 use scope::{Format, Refusal, Verdict};
 
 // What opening a derivation answers.
-#[derive(Drop)]
+#[derive(Clone, Copy)]
 pub enum Opened {
     Steps(usize),
     Refused(Refusal),

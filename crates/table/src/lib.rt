@@ -1,4 +1,6 @@
 // Reading a table: the first refusal of 10 to 17, the node count, the record of a literal's node.
+#![tactic(auto)]
+
 ghost use Rattle.std.specs.Prelude.{◌≡◌, ℕ, ◌+◌, ◌*◌, ◌-◌, ◌%◌, ◌<◌, ◌≤◌, length, get_or};
 ghost use Rattle.scope.specs.Outcome.{verdict_of, first};
 ghost use Rattle.scope.specs.Block.{block_at};
@@ -15,7 +17,7 @@ use record::NodeRead;
 use scope::{Format, Refusal, Verdict};
 
 // What counting a table's nodes answers.
-#[derive(Drop)]
+#[derive(Clone, Copy)]
 pub enum Counted {
     Nodes(usize),
     Refused(Refusal),

@@ -1,4 +1,6 @@
 // Tests of the table calls on hand-made and damaged tables: each answer is a line, and the lines are compared.
+#![tactic(auto)]
+
 use adding::Added;
 use record::NodeRead;
 use scope::{Refusal, Truth};

@@ -1,11 +1,13 @@
 // Text of the programs for people, put into a lent buffer one part behind the other: bytes, decimal numbers, the line of a refusal.
+#![tactic(auto)]
+
 ghost use Rattle.std.specs.Prelude.{◌≡◌, ◌+◌, ◌≤◌, length};
 ghost use Rattle.text.specs.Text.{decimal, refused_line, Put, numeral_of, read_number};
 
 use scope::Refusal;
 
 // What a text says as a number.
-#[derive(Drop)]
+#[derive(Clone, Copy)]
 pub enum Numeral {
     Number(usize),
     Not,

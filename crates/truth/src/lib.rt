@@ -1,5 +1,7 @@
 // Evaluation: the truth of a literal under a setting, each node's truth found once. Truths are levels here, no 0, unknown 1, yes 2, a
 // level for each literal: so a negation is what is left of 2, and is not worked out again.
+#![tactic(auto)]
+
 ghost use Rattle.std.specs.Prelude.{◌≡◌, [], ◌∷◌, true, ℕ, ◌+◌, ◌*◌, ◌/◌, ◌<◌, ◌≤◌, length, get_or};
 ghost use Rattle.scope.specs.Outcome.{verdict_of};
 ghost use Rattle.scope.specs.Truth.{joined};
@@ -11,7 +13,7 @@ use scope::{Node, Refusal, Truth, Verdict};
 use table::Counted;
 
 // What evaluate answers.
-#[derive(Drop)]
+#[derive(Clone, Copy)]
 pub enum Evaluated {
     Told(Truth),
     Refused(Refusal),

@@ -1,5 +1,7 @@
 // A set of positions below 2,048, as bits of 32 words, and a word more, SUM, whose bit b tells whether word b is not 0: so the least
 // position is found by two looks. Callers know it by membership alone (specs/Units.antt).
+#![tactic(auto)]
+
 ghost use Rattle.std.specs.Prelude.{◌≡◌, true, false, ◌<◌, length};
 ghost use Rattle.units.specs.Units.{positions, words, member, Units, Some, Empty, Putted, First};
 

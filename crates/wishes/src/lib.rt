@@ -1,4 +1,6 @@
 // Wishes within an allowance of questions: the goals alone, then the goals with wishes, all first and then ever fewer.
+#![tactic(auto)]
+
 ghost use Rattle.std.specs.Prelude.{◌≡◌, ◌+◌, ◌≤◌, length};
 ghost use Rattle.scope.specs.Outcome.{verdict_of};
 ghost use Rattle.calculus.specs.Model.{question_size};
@@ -17,7 +19,7 @@ use searching::Found;
 use table::Counted;
 
 // What the call answers.
-#[derive(Drop)]
+#[derive(Clone, Copy)]
 pub enum Wished {
     Granted(Grant),
     Refused(Refusal),

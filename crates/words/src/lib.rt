@@ -1,5 +1,7 @@
 // The numbers in bytes, low byte first: 16-bit ones in a block's heading and check, in records and in steps; 32-bit ones where a record is
 // read as two numbers.
+#![tactic(auto)]
+
 ghost use Rattle.std.specs.Prelude.{◌≡◌, ◌+◌, ◌*◌, ◌≤◌, length};
 ghost use Rattle.scope.specs.Block.{word_at};
 

@@ -1,4 +1,6 @@
 // Writing a block: a new one, and one more record in a block that stands.
+#![tactic(auto)]
+
 ghost use Rattle.std.specs.Prelude.{◌≡◌, ◌++◌, ◌+◌, ◌<◌, ◌≤◌, length, drop, get_or};
 ghost use Rattle.std.proofs.Math.Seq.{paste};
 ghost use Rattle.scope.specs.Block.{seal, block_of};

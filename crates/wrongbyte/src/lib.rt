@@ -1,1 +1,2 @@
 // No code: files with one wrong byte, in specs/, and that every call refuses them, in proofs/.
+#![tactic(auto)]
