@@ -1,0 +1,21 @@
+-- `lookup::place_first` meets its contract. Assumes nothing.
+use Prim.Native.Nat.{◌/◌}
+use borrow.Author.Tests.{lt-ltb, le-ltb}
+use Rattle.scope.specs.Table.{with_operands}
+use Rattle.scope.specs.Calls.{placed}
+use Rattle.lookup.proofs.place_first.Goals as goal
+
+pub returns-then-x : goal.returns-then-x
+unfolding with_operands placed
+returns-then-x c = let x = c.args.x in
+    rw (le-ltb (x.b / 2) (x.a / 2) c.if-x.true)
+
+pub returns-then-x-2 : goal.returns-then-x-2
+unfolding with_operands placed
+returns-then-x-2 c = let x = c.args.x in
+    rw (lt-ltb (x.b / 2) (x.a / 2) c.if-x.false, le-ltb (x.c / 2) (x.a / 2) c.if-x-2.true)
+
+pub returns : goal.returns
+unfolding with_operands placed
+returns c = let x = c.args.x in
+    rw (lt-ltb (x.b / 2) (x.a / 2) c.if-x.false, lt-ltb (x.c / 2) (x.a / 2) c.if-x-2.false)
