@@ -114,16 +114,27 @@ unstruck-later k p xs f q h = f q (omega arith)
 unstruck_struck : (k p : ℕ) (xs : List Place) → Unstruck k p xs → Unstruck k (suc p) (place k p ∷ xs)
 unstruck_struck k p xs f q h = among_other k p q xs (λ e. omega arith) ∙ f q (omega arith)
 
+-- one literal further on
+struck-more : (G : List ℕ) (k p l : ℕ) (c : List ℕ) (xs : List Place) → is_fails (value_of G l) ≡ true → struck G k p (l ∷ c) xs ≡ struck G k (suc p) c (place k p ∷ xs)
+unfolding struck
+struck-more G k p l c xs t = rw t
+
+struck-past : (G : List ℕ) (k p l : ℕ) (c : List ℕ) (xs : List Place) → is_fails (value_of G l) ≡ false → struck G k p (l ∷ c) xs ≡ struck G k (suc p) c xs
+unfolding struck
+struck-past G k p l c xs t = rw t
+
 -- after the removals, the unstruck literals are those that G does not make false
 unstruck-kept : (G cs : List ℕ) (k p : ℕ) (c : List ℕ) (xs : List Place) → Unstruck k p xs → unstruck (branch G cs (struck G k p c xs)) k p c ≡ kept G c
-unfolding unstruck struck kept
+unfolding unstruck kept
 unstruck-kept G cs k p [] xs f = refl
 unstruck-kept G cs k p (l ∷ c) xs f =
     by_test (is_fails (value_of G l))
-    (λ t. rw (t, among_before G k (suc p) p c (place k p ∷ xs) (omega arith), among_same k p xs)
-    (unstruck-kept G cs k (suc p) c (place k p ∷ xs) (unstruck_struck k p xs f)))
-    (λ t. rw (t, among_before G k (suc p) p c xs (omega arith), f p (omega arith))
-    (ap (l ∷◌) (unstruck-kept G cs k (suc p) c xs (unstruck-later k p xs f))))
+    (λ t. subst (λ (ys : List Place). unstruck (branch G cs ys) k p (l ∷ c) ≡ kept G (l ∷ c)) (sym (struck-more G k p l c xs t))
+    (rw (t, among_before G k (suc p) p c (place k p ∷ xs) (omega arith), among_same k p xs)
+    (unstruck-kept G cs k (suc p) c (place k p ∷ xs) (unstruck_struck k p xs f))))
+    (λ t. subst (λ (ys : List Place). unstruck (branch G cs ys) k p (l ∷ c) ≡ kept G (l ∷ c)) (sym (struck-past G k p l c xs t))
+    (rw (t, among_before G k (suc p) p c xs (omega arith), f p (omega arith))
+    (ap (l ∷◌) (unstruck-kept G cs k (suc p) c xs (unstruck-later k p xs f)))))
 
 -- ---- clauses with a true literal
 
