@@ -1,2 +1,4 @@
 -- Assumes nothing.
+mod Counting
+mod Powers
 pub mod Text

@@ -10,8 +10,8 @@ use lib.Dec.{leb, ltb, lit<}
 use lib.ListN.{length, take, drop, length-append, take-append-drop, get_or, drop_of_length-le}
 use lib.Seq.{paste, length-paste, take-length, length-take-le, take_at, drop_at, drop-drop, drop-cons}
 use borrow.Author.Tests.{ne_eqb, le-leb, lt-leb, lt-ltb, le-ltb, leb-true, leb-false}
-use Rattle.io.specs.Counts.{IsPrefixLen}
-use Rattle.io.specs.Digits.{hex_digit_ascii, last_digits, IsDigitCount}
+use Rattle.text.specs.Counts.{IsPrefixLen}
+use Rattle.text.specs.Digits.{hex_digit_ascii, last_digits, IsDigitCount}
 use Rattle.text.specs.Text.{digits_of, decimal, over, Put, number, none, read_from, read_number}
 
 -- a copy of a whole text

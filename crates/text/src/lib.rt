@@ -1,6 +1,8 @@
 // Text of the programs for people, put into a lent buffer one part behind the other: bytes, decimal numbers, the line of a refusal.
 #![tactic(auto)]
 
+mod digits;
+
 ghost use Rattle.std.specs.Prelude.{◌≡◌, ◌+◌, ◌≤◌, length};
 ghost use Rattle.text.specs.Text.{decimal, refused_line, Put, numeral_of, read_number};
 
@@ -33,7 +35,7 @@ pub fn number(out: &mut [u8], at: usize, n: usize) -> usize
     ensures upper_bound { result ≤ at + 20 }
 {
     let mut digits = [0u8; 20];
-    let k = io::decimal(n as u64, &mut digits);
+    let k = digits::decimal(n as u64, &mut digits);
     put(out, at, &digits[..k])
 }
 
