@@ -1,4 +1,3 @@
--- What a reader hands out, in the terms of `decode_steps`, and what the walks share. Assumes nothing.
+-- What a reader hands out, in the terms of `decode_steps`. Assumes nothing.
 pub mod Steps
 pub mod Looks
-mod Held
