@@ -2,7 +2,7 @@
 use mathlib.Core.Path.{◌≡◌, subst}
 use mathlib.Core.List.{List}
 use Prim.Native.Nat.{ℕ}
-use Rattle.io.specs.Counts.{IsPrefixLen}
+use Rattle.text.specs.Counts.{IsPrefixLen}
 use Rattle.arguments.specs.declared.Loaded.{Loaded}
 use Rattle.arguments.specs.declared.Loaded.TheVariants.{Bytes}
 use Rattle.arguments.specs.Loaded.{Holds}

@@ -1,6 +1,6 @@
 -- What loading a file answers. Assumes nothing.
 use Rattle.std.specs.Prelude.{List, ℕ}
-use Rattle.io.specs.Counts.{IsPrefixLen}
+use Rattle.text.specs.Counts.{IsPrefixLen}
 use Rattle.arguments.specs.declared.Loaded.{Loaded}
 use Rattle.arguments.specs.declared.Loaded.TheVariants.{Bytes, Failed}
 

@@ -2,8 +2,15 @@
 // error has a line that says why.
 #![tactic(auto)]
 
+ghost use Rattle.std.specs.Prelude.{IfOk};
+ghost use Rattle.text.specs.Counts.{IsPrefixLen};
 ghost use Rattle.arguments.specs.Loaded.{Holds};
 
+use std::env::FillError;
+use std::fs::File;
+use std::io;
+use std::io::Read;
+use std::rt::{Env, Files};
 use text::Numeral;
 
 // What loading a file answers: how many bytes of it the buffer has, all of them unless the buffer is full.
@@ -13,66 +20,129 @@ pub enum Loaded {
     Failed,
 }
 
-// Argument i as a number.
-pub fn number(i: usize) -> Numeral {
-    let mut word = [0u8; 64];
-    let n = os::arg(i, &mut word);
-    if os::errno() != 0 {
-        return Numeral::Not;
+// How many arguments there are, the program's own name among them.
+pub fn count(rt: &impl Env) -> usize {
+    let mut word = [0u8; 1];
+    for i in 0..usize::MAX {
+        if let Err(FillError::NotPresent) = rt.arg(i, &mut word) {
+            return i;
+        }
     }
-    text::value(&word[..n])
+    usize::MAX
 }
 
-// Whether the file could be read as far as it was: a read that ends early has met the end, or failed.
-fn is_read(fd: i32) -> bool {
+// Argument i as a number.
+pub fn number(rt: &impl Env, i: usize) -> Numeral {
+    let mut word = [0u8; 64];
+    match rt.arg(i, &mut word) {
+        Ok(n) => text::value(&word[..n]),
+        Err(_) => Numeral::Not,
+    }
+}
+
+// A line on standard error: what failed, and the system's words for why.
+fn fail(rt: &(impl Eprint + Alloc), what: &str, error: io::Error) {
+    let _ = match error.to_string(rt.alloc()) {
+        Ok(words) => match words.as_str().split_once(" (os error ") {
+            Some((reason, _)) => eprintln!(rt; "{what}: {reason}"),
+            None => eprintln!(rt; "{what}: {words}"),
+        },
+        Err(_) => eprintln!(rt; "{what}: {error}"),
+    };
+}
+
+// Reads until the buffer is full or there is no more, and answers how many bytes it put at the buffer's start.
+fn read_full(file: &mut impl Read, buf: &mut [u8]) -> io::Result<usize>
+    ensures { IfOk result (λ n. IsPrefixLen n buf.new) }
+{
+    let mut done = 0;
+    while done < buf.len() {
+        let n = file.read(&mut buf[done..])?;
+        if n == 0 {
+            break;
+        }
+        done += n;
+    }
+    Ok(done)
+}
+
+// As read_full, of a file that could be read as far as it was: a last read meets the end, or more than the buffer holds.
+fn read_all(file: &mut impl Read, buf: &mut [u8]) -> io::Result<usize>
+    ensures { IfOk result (λ n. IsPrefixLen n buf.new) }
+{
+    let n = read_full(file, buf)?;
     let mut more = [0u8; 1];
-    libc::read(fd, &mut more) >= 0
+    file.read(&mut more)?;
+    Ok(n)
 }
 
 // The open file's bytes.
-fn read_open(fd: i32, path: &[u8], buf: &mut [u8]) -> Loaded
+fn read_open(rt: &(impl Eprint + Alloc), file: &mut impl Read, path: &str, buf: &mut [u8]) -> Loaded
     ensures { Holds result buf.new }
 {
-    let n = io::read_full(fd, buf);
-    if is_read(fd) {
-        libc::close(fd);
-        return Loaded::Bytes(n);
+    match read_all(file, buf) {
+        Ok(n) => Loaded::Bytes(n),
+        Err(e) => {
+            fail(rt, path, e);
+            Loaded::Failed
+        }
     }
-    os::fail(path);
-    libc::close(fd);
-    Loaded::Failed
 }
 
+// The system's numbers of errors (EINVAL, ENAMETOOLONG, EILSEQ) for an argument that is missing, that is too long for a path, and that is
+// no text, as a path here has to be.
+const MISSING: i32 = 22;
+
+const TOO_LONG: i32 = 36;
+
+const NO_TEXT: i32 = 84;
+
 // The bytes of the file that argument i names.
-pub fn load(i: usize, buf: &mut [u8]) -> Loaded
+pub fn load(rt: &(impl Env + Files + Eprint + Alloc), i: usize, buf: &mut [u8]) -> Loaded
     ensures { Holds result buf.new }
 {
-    let mut path = io::buffer();
-    let n = os::arg(i, &mut path);
-    if os::errno() != 0 {
-        os::fail(b"path");
-        return Loaded::Failed;
+    let mut word = [0u8; 4096];
+    let n = match rt.arg(i, &mut word) {
+        Ok(n) => n,
+        Err(e) => {
+            let code = match e {
+                FillError::NotPresent => MISSING,
+                FillError::TooLong => TOO_LONG,
+            };
+            fail(rt, "path", io::Error::from_raw_os_error(code));
+            return Loaded::Failed;
+        }
+    };
+    let path = match str::from_utf8(&word[..n]) {
+        Ok(path) => path,
+        Err(_) => {
+            fail(rt, "path", io::Error::from_raw_os_error(NO_TEXT));
+            return Loaded::Failed;
+        }
+    };
+    match File::open(rt, path) {
+        Ok(mut file) => read_open(rt, &mut file, path, buf),
+        Err(e) => {
+            fail(rt, path, e);
+            Loaded::Failed
+        }
     }
-    let fd = os::open_read(&path[..n]);
-    if fd < 0 {
-        os::fail(&path[..n]);
-        return Loaded::Failed;
-    }
-    read_open(fd, &path[..n], buf)
 }
 
 // The bytes of standard input.
-pub fn input(buf: &mut [u8]) -> Loaded
+pub fn input(rt: &(impl Input + Eprint + Alloc), buf: &mut [u8]) -> Loaded
     ensures { Holds result buf.new }
 {
-    read_open(0, b"standard input", buf)
+    read_open(rt, &mut rt.reader(), "standard input", buf)
 }
 
 // Writes to standard output, and answers whether all the bytes are written.
-pub fn say(bytes: &[u8]) -> bool {
-    let done = io::write_all(1, bytes);
-    if !done {
-        os::fail(b"standard output");
+pub fn say(rt: &(impl Print + Eprint + Alloc), bytes: &[u8]) -> bool {
+    match rt.write_all(bytes) {
+        Ok(()) => true,
+        Err(e) => {
+            fail(rt, "standard output", e);
+            false
+        }
     }
-    done
 }
