@@ -1,0 +1,11 @@
+use Prim.Native.Nat.{◌-◌, ◌≤◌}
+use lib.ListN.{length, get_or}
+use Rattle.area.specs.Area.{slots_from}
+use Rattle.branch.specs.Clauses.{Filled}
+use Rattle.branch.proofs.aim.Given as goal
+
+abbrev pub invariant-loop-k : goal.invariant-loop-k
+invariant-loop-k l = (l.k ≤ length l.goals) × Filled slots_from l.k (λ i. get_or l.goals i 0) l.initial.work l.work
+
+abbrev pub decreases-loop-k : goal.decreases-loop-k
+decreases-loop-k l = length l.goals - l.k
