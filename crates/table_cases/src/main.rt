@@ -7,63 +7,63 @@ use scope::{Refusal, Truth};
 use table::Counted;
 use truth::Evaluated;
 
-fn say(text: &[u8]) {
-    io::write_all(1, text);
+fn say(rt: &impl Print, text: &[u8]) {
+    let _ = rt.write_all(text);
 }
 
-fn number(n: usize) {
-    io::print_decimal(1, n as u64);
+fn number(rt: &impl Print, n: usize) {
+    let _ = rt.print(n);
 }
 
-fn refused(f: Refusal) {
-    say(b"refused ");
-    number(f.number as usize);
-    say(b" at ");
-    number(f.place);
-    say(b"\n");
+fn refused(rt: &impl Print, f: Refusal) {
+    say(rt, b"refused ");
+    number(rt, f.number as usize);
+    say(rt, b" at ");
+    number(rt, f.place);
+    say(rt, b"\n");
 }
 
-fn show_count(t: &[u8]) {
+fn show_count(rt: &impl Print, t: &[u8]) {
     let c = table::count(t);
     match c {
         Counted::Nodes(n) => {
-            number(n);
-            say(b" nodes\n");
+            number(rt, n);
+            say(rt, b" nodes\n");
         }
-        Counted::Refused(f) => refused(f),
+        Counted::Refused(f) => refused(rt, f),
     }
 }
 
-fn show_record(t: &[u8], literal: usize) {
+fn show_record(rt: &impl Print, t: &[u8], literal: usize) {
     let c = table::record_of(t, literal);
     match c {
         NodeRead::Found(x) => {
-            number(x.kind as usize);
-            say(b" ");
-            number(x.a as usize);
-            say(b" ");
-            number(x.b as usize);
-            say(b" ");
-            number(x.c as usize);
-            say(b"\n");
+            number(rt, x.kind as usize);
+            say(rt, b" ");
+            number(rt, x.a as usize);
+            say(rt, b" ");
+            number(rt, x.b as usize);
+            say(rt, b" ");
+            number(rt, x.c as usize);
+            say(rt, b"\n");
         }
-        NodeRead::Refused(f) => refused(f),
+        NodeRead::Refused(f) => refused(rt, f),
     }
 }
 
-fn say_truth(v: Truth) {
+fn say_truth(rt: &impl Print, v: Truth) {
     match v {
-        Truth::Yes => say(b"yes\n"),
-        Truth::No => say(b"no\n"),
-        Truth::Unknown => say(b"unknown\n"),
+        Truth::Yes => say(rt, b"yes\n"),
+        Truth::No => say(rt, b"no\n"),
+        Truth::Unknown => say(rt, b"unknown\n"),
     }
 }
 
-fn show_truth(t: &[u8], literal: usize, s: &[u8]) {
+fn show_truth(rt: &impl Print, t: &[u8], literal: usize, s: &[u8]) {
     let c = truth::evaluate(t, literal, s);
     match c {
-        Evaluated::Told(v) => say_truth(v),
-        Evaluated::Refused(f) => refused(f),
+        Evaluated::Told(v) => say_truth(rt, v),
+        Evaluated::Refused(f) => refused(rt, f),
     }
 }
 
@@ -93,17 +93,17 @@ fn put(buf: &mut [u8], used: usize, r: [u8; 8]) -> usize {
     }
 }
 
-fn show_add(buf: &mut [u8], used: usize, r: [u8; 8]) {
+fn show_add(rt: &impl Print, buf: &mut [u8], used: usize, r: [u8; 8]) {
     let v = adding::add(buf, used, r);
     match v {
         Added::At(m) => {
-            say(b"literal ");
-            number(m.literal);
-            say(b" used ");
-            number(m.used);
-            say(b"\n");
+            say(rt, b"literal ");
+            number(rt, m.literal);
+            say(rt, b" used ");
+            number(rt, m.used);
+            say(rt, b"\n");
         }
-        Added::Refused(f) => refused(f),
+        Added::Refused(f) => refused(rt, f),
     }
 }
 
@@ -128,10 +128,10 @@ fn table_a(other: u8) -> [u8; 600] {
 }
 
 // Table A with one byte changed and, where asked, its check made anew.
-fn edited(at: usize, value: u8, seal: bool) {
+fn edited(rt: &impl Print, at: usize, value: u8, seal: bool) {
     let mut t = changed(table_a(0), at, value);
     resealed(&mut t, seal);
-    show_count(front(&t, 512));
+    show_count(rt, front(&t, 512));
 }
 
 fn changed(t: [u8; 600], at: usize, value: u8) -> [u8; 600] {
@@ -165,123 +165,123 @@ fn wide(b: u8) -> usize {
 }
 
 // The check of the first block, its last byte of padding, and the byte behind it.
-fn show_ends(t: &[u8]) {
+fn show_ends(rt: &impl Print, t: &[u8]) {
     if t.len() < 513 {
         return;
     }
-    number(wide(t[510]));
-    say(b" ");
-    number(wide(t[511]));
-    say(b" ");
-    number(wide(t[509]));
-    say(b" ");
-    number(wide(t[512]));
-    say(b"\n");
+    number(rt, wide(t[510]));
+    say(rt, b" ");
+    number(rt, wide(t[511]));
+    say(rt, b" ");
+    number(rt, wide(t[509]));
+    say(rt, b" ");
+    number(rt, wide(t[512]));
+    say(rt, b"\n");
 }
 
 // A block of one record in a buffer that held other bytes.
-fn alone(kind: u8) {
+fn alone(rt: &impl Print, kind: u8) {
     let mut t = [238u8; 600];
-    show_add(&mut t, 0, node(kind, 0, 0));
-    show_ends(&t);
+    show_add(rt, &mut t, 0, node(kind, 0, 0));
+    show_ends(rt, &t);
 }
 
-fn samples() {
-    say(b"samples\n");
-    alone(1);
-    alone(2);
+fn samples(rt: &impl Print) {
+    say(rt, b"samples\n");
+    alone(rt, 1);
+    alone(rt, 2);
 }
 
-fn damaged() {
-    say(b"damaged\n");
-    edited(4, 2, true);
-    edited(100, 1, false);
-    edited(0, 68, true);
-    edited(2, 1, true);
-    edited(1, 0, true);
-    edited(1, 64, true);
-    edited(1, 9, true);
-    edited(509, 1, true);
-    edited(4, 0, true);
-    edited(4, 7, true);
-    edited(5, 1, true);
-    edited(8, 1, true);
-    edited(11, 1, true);
-    edited(54, 1, true);
-    edited(7, 4, true);
-    edited(22, 4, true);
-    edited(24, 1, true);
-    edited(14, 0, true);
+fn damaged(rt: &impl Print) {
+    say(rt, b"damaged\n");
+    edited(rt, 4, 2, true);
+    edited(rt, 100, 1, false);
+    edited(rt, 0, 68, true);
+    edited(rt, 2, 1, true);
+    edited(rt, 1, 0, true);
+    edited(rt, 1, 64, true);
+    edited(rt, 1, 9, true);
+    edited(rt, 509, 1, true);
+    edited(rt, 4, 0, true);
+    edited(rt, 4, 7, true);
+    edited(rt, 5, 1, true);
+    edited(rt, 8, 1, true);
+    edited(rt, 11, 1, true);
+    edited(rt, 54, 1, true);
+    edited(rt, 7, 4, true);
+    edited(rt, 22, 4, true);
+    edited(rt, 24, 1, true);
+    edited(rt, 14, 0, true);
 }
 
-fn show_records(t: &[u8]) {
+fn show_records(rt: &impl Print, t: &[u8]) {
     let mut literal = 0;
     while literal < 21 {
-        show_record(t, literal);
+        show_record(rt, t, literal);
         literal += 1;
     }
 }
 
-fn show_truths(t: &[u8], s: &[u8]) {
+fn show_truths(rt: &impl Print, t: &[u8], s: &[u8]) {
     let mut literal = 0;
     while literal < 21 {
-        show_truth(t, literal, s);
+        show_truth(rt, t, literal, s);
         literal += 1;
     }
 }
 
-fn reads() {
-    say(b"reads\n");
+fn reads(rt: &impl Print) {
+    say(rt, b"reads\n");
     let t = table_a(0);
-    show_records(front(&t, 512));
-    show_count(front(&t, 0));
-    show_count(front(&t, 511));
+    show_records(rt, front(&t, 512));
+    show_count(rt, front(&t, 0));
+    show_count(rt, front(&t, 511));
 }
 
 // Every literal of table A under the setting of points 0 and 1.
-fn evaluates(first: u8, second: u8) {
-    say(b"points ");
-    number(wide(first));
-    say(b" ");
-    number(wide(second));
-    say(b"\n");
+fn evaluates(rt: &impl Print, first: u8, second: u8) {
+    say(rt, b"points ");
+    number(rt, wide(first));
+    say(rt, b" ");
+    number(rt, wide(second));
+    say(rt, b"\n");
     let t = table_a(0);
     let mut s = [0u8; 1024];
     s[0] = first;
     s[1] = second;
-    show_truths(front(&t, 512), &s);
-    show_truth(front(&t, 512), 0, front(&s, 1023));
+    show_truths(rt, front(&t, 512), &s);
+    show_truth(rt, front(&t, 512), 0, front(&s, 1023));
 }
 
-fn adds() {
-    say(b"adds\n");
+fn adds(rt: &impl Print) {
+    say(rt, b"adds\n");
     let mut t = table_a(238);
-    show_add(&mut t, 512, node(4, 2, 0));
-    show_add(&mut t, 512, node(5, 2, 0));
-    show_add(&mut t, 512, node(5, 0, 2));
-    show_add(&mut t, 512, node(5, 0, 2));
-    show_add(&mut t, 512, node(4, 2, 1));
-    show_add(&mut t, 512, node(5, 3, 1));
-    show_add(&mut t, 512, node(5, 4, 5));
-    show_add(&mut t, 512, node(5, 99, 0));
-    show_add(&mut t, 512, node3(8, 5, 2, 0));
-    show_add(&mut t, 512, node3(8, 0, 5, 2));
-    show_add(&mut t, 512, node3(7, 0, 2, 5));
-    show_add(&mut t, 512, node3(7, 4, 0, 5));
-    show_add(&mut t, 512, node3(8, 0, 2, 98));
-    show_add(&mut t, 512, node3(6, 0, 2, 5));
-    show_records(front(&t, 512));
-    show_record(front(&t, 512), 24);
-    show_add(&mut t, 601, node(1, 0, 0));
-    show_add(&mut t, 600, node(1, 0, 0));
-    show_add(&mut t, 512, node(7, 0, 0));
-    show_add(&mut t, 512, node(9, 0, 0));
-    show_add(&mut t, 512, node(2, 1024, 0));
-    show_add(&mut t, 512, node(2, 1023, 0));
-    show_add(&mut t, 512, node(3, 99, 0));
-    show_add(&mut t, 512, node(6, 4, 5));
+    show_add(rt, &mut t, 512, node(4, 2, 0));
+    show_add(rt, &mut t, 512, node(5, 2, 0));
+    show_add(rt, &mut t, 512, node(5, 0, 2));
+    show_add(rt, &mut t, 512, node(5, 0, 2));
+    show_add(rt, &mut t, 512, node(4, 2, 1));
+    show_add(rt, &mut t, 512, node(5, 3, 1));
+    show_add(rt, &mut t, 512, node(5, 4, 5));
+    show_add(rt, &mut t, 512, node(5, 99, 0));
+    show_add(rt, &mut t, 512, node3(8, 5, 2, 0));
+    show_add(rt, &mut t, 512, node3(8, 0, 5, 2));
+    show_add(rt, &mut t, 512, node3(7, 0, 2, 5));
+    show_add(rt, &mut t, 512, node3(7, 4, 0, 5));
+    show_add(rt, &mut t, 512, node3(8, 0, 2, 98));
+    show_add(rt, &mut t, 512, node3(6, 0, 2, 5));
+    show_records(rt, front(&t, 512));
+    show_record(rt, front(&t, 512), 24);
+    show_add(rt, &mut t, 601, node(1, 0, 0));
+    show_add(rt, &mut t, 600, node(1, 0, 0));
+    show_add(rt, &mut t, 512, node(7, 0, 0));
+    show_add(rt, &mut t, 512, node(9, 0, 0));
+    show_add(rt, &mut t, 512, node(2, 1024, 0));
+    show_add(rt, &mut t, 512, node(2, 1023, 0));
+    show_add(rt, &mut t, 512, node(3, 99, 0));
+    show_add(rt, &mut t, 512, node(6, 4, 5));
     t[9] = 1;
-    show_add(&mut t, 512, node(1, 0, 0));
+    show_add(rt, &mut t, 512, node(1, 0, 0));
 }
 
 // ATOMs 0 to count - 1 behind the used part; the used length.
@@ -315,39 +315,39 @@ fn ands(buf: &mut [u8], from: usize, count: u16) -> usize {
 }
 
 // 63 nodes with no room for a second block: 52 for a new one, and an old one is found.
-fn full_block() {
+fn full_block(rt: &impl Print) {
     let mut t = [238u8; 1023];
     let used = atoms(&mut t, 0, 63);
-    show_add(&mut t, used, node(1, 0, 0));
-    show_add(&mut t, used, node(2, 62, 0));
+    show_add(rt, &mut t, used, node(1, 0, 0));
+    show_add(rt, &mut t, used, node(2, 62, 0));
 }
 
 // 2,016 nodes: 51 for a new one, and an old one is found; 16,384 bytes read, 16,896 are 10.
-fn full_table() {
+fn full_table(rt: &impl Print) {
     let mut t = [238u8; 16896];
     let most = atoms(&mut t, 0, 1024);
     let used = ands(&mut t, most, 992);
-    number(used);
-    say(b" used\n");
-    show_add(&mut t, used, node(4, 0, 2));
-    show_add(&mut t, used, node(3, 1982, 1984));
-    show_count(front(&t, 16384));
-    show_count(&t);
-    show_count(front(&t, 15872));
+    number(rt, used);
+    say(rt, b" used\n");
+    show_add(rt, &mut t, used, node(4, 0, 2));
+    show_add(rt, &mut t, used, node(3, 1982, 1984));
+    show_count(rt, front(&t, 16384));
+    show_count(rt, &t);
+    show_count(rt, front(&t, 15872));
 }
 
-fn main() {
-    samples();
-    damaged();
-    reads();
-    evaluates(0, 0);
-    evaluates(1, 0);
-    evaluates(0, 1);
-    evaluates(1, 1);
-    evaluates(2, 1);
-    evaluates(1, 255);
-    adds();
-    say(b"full\n");
-    full_block();
-    full_table();
+fn main(rt: HostRuntime) {
+    samples(&rt);
+    damaged(&rt);
+    reads(&rt);
+    evaluates(&rt, 0, 0);
+    evaluates(&rt, 1, 0);
+    evaluates(&rt, 0, 1);
+    evaluates(&rt, 1, 1);
+    evaluates(&rt, 2, 1);
+    evaluates(&rt, 1, 255);
+    adds(&rt);
+    say(&rt, b"full\n");
+    full_block(&rt);
+    full_table(&rt);
 }
