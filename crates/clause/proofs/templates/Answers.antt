@@ -3,12 +3,8 @@ use mathlib.Core.Path.{refl}
 use Rattle.scope.specs.Table.{list_from}
 use Rattle.calculus.specs.Expansion.{templates}
 use Rattle.clause.specs.Templates.{rows}
-use Rattle.clause.proofs.templates.Statement.{statement}
-use Rattle.clause.proofs.templates.Tie as tie
+use Rattle.clause.proofs.templates.Goals as goal
 
-returns : tie.Need-returns
-unfolding list_from templates rows
+pub returns : goal.returns
+unfolding list_from rows templates
 returns c = refl
-
-pub templates-spec : {M : Type 1} → statement M
-templates-spec = tie.close (tie.spec returns)
