@@ -1,4 +1,5 @@
 # make: the command target/bev over the static library, which the Rattle kit proves and builds where it is older than the crates.
+# make programs: the proved programs crates/listing/out/listing and crates/check_file/out/check_file, likewise.
 # make sanitized: the same with the sanitizers. make install PREFIX=DIR: bev, the library, its header and its pkg-config file.
 PREFIX ?= /usr/local
 CC = gcc
@@ -8,14 +9,21 @@ WARN = -std=c11 -Wall -Wextra -Wpedantic -Wshadow -Wconversion -Werror
 LIB = target/staticlib/libbevaridhom.a
 SOURCES = $(addprefix host/, bev.c files.c refuse.c records.c show.c tables.c rebuild.c goals.c clash.c wishes.c overview.c rooms.c steps.c cnf.c dimacs.c)
 HEADERS = host/bev.h host/refusals.h include/bevaridhom.h
+PROGRAMS = crates/listing/out/listing crates/check_file/out/check_file
 CRATES := $(shell find crates -path '*/src/*.rt')
 VERSION = $(shell awk '/BEV_VERSION_(MAJOR|MINOR) / { v = v dot $$3; dot = "." } END { print v }' include/bevaridhom.h)
 
 all: target/bev
 
 $(LIB): $(CRATES)
-	rt staticlib bevaridhom
-	touch $@
+	tools/archive
+
+# rt run builds a program and runs it, here on nothing
+$(PROGRAMS): $(CRATES)
+	rm -f $@
+	cd $(@D)/.. && { rt run < /dev/null > /dev/null || test -x out/$(@F); }
+
+programs: $(PROGRAMS)
 
 target/bev: $(SOURCES) $(HEADERS) $(LIB)
 	$(CC) $(WARN) $(CFLAGS) $(SOURCES) $(LIB) -o $@
@@ -37,4 +45,4 @@ install: target/bev target/bevaridhom.pc
 
 FORCE:
 
-.PHONY: all sanitized install FORCE
+.PHONY: all programs sanitized install FORCE
