@@ -6,7 +6,7 @@ use Prim.Native.Nat.{ℕ, ◌+◌}
 use native.Mathlib.Nat.{add-zero}
 use native.Mathlib.Omega.{arith}
 use lib.ListN.{length, drop}
-use Rattle.scope.specs.Outcome.{Outcome, answer, refused, ◌>>◌, ◌>>=◌}
+use Rattle.scope.specs.Outcome.{Outcome, answer, refused, ◌>>=◌}
 use Rattle.cnf.specs.declared.Word.TheVariants.{Malformed, End, Literal}
 use Rattle.cnf.specs.Text.{words, is_empty, clauses_from}
 use Rattle.cnfwords.specs.Words.{Next}

@@ -12,7 +12,7 @@ use borrow.Author.Tests.{eq-eqb, ne_eqb, le-leb, lt-leb}
 use Rattle.scope.specs.declared.Refusal.{Refusal}
 use Rattle.scope.specs.Outcome.{Outcome, answer, refused, require, ◌>>◌, ◌>>=◌}
 use Rattle.scope.proofs.Tests.{and_right, bound, passed_on}
-use Rattle.cnf.specs.Text.{starts_with, behind, few, all_digits, Counted, counted, Heading as Head, opening, space, feed, heading, words, clauses_from, File, file_of}
+use Rattle.cnf.specs.Text.{starts_with, behind, all_digits, Counted, counted, Heading as Head, opening, space, feed, heading, words, clauses_from, File, file_of}
 use Rattle.cnfwords.specs.declared.Number.TheVariants.{Value, Malformed as None}
 use Rattle.cnfwords.specs.Words.{number_of, part}
 use Rattle.cnfwords.proofs.Numbers.{value_said, no_value}
