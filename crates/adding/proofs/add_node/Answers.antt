@@ -1,6 +1,6 @@
 -- `adding::add_node` meets its contract: each return is the place of `Results` that its tests led to. Assumes nothing.
 use mathlib.Core.Path.{◌≡◌, ◌∙◌, sym}
-use Prim.Native.Nat.{◌+◌, ◌*◌, ◌-◌, ◌/◌, ◌%◌, ◌<◌, ◌≤◌}
+use Prim.Native.Nat.{◌+◌, ◌*◌, ◌/◌, ◌%◌, ◌<◌, ◌≤◌}
 use lib.ListN.{length}
 use lib.Seq.{length-take-le}
 use Rattle.adding.proofs.Results.{used_is, record_within, finds, over-nodes, over-buffer, writes, opened, last-count, extended}

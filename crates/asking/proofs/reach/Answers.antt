@@ -1,6 +1,5 @@
 -- `asking::reach` meets its contract. Assumes nothing.
 use native.Mathlib.Omega.{arith}
-use Prim.Native.Nat.{◌-◌}
 use Rattle.asking.proofs.Reaches.{reaching_none, reaching_more, reaching_all}
 use Rattle.asking.proofs.reach.Goals as goal
 

@@ -1,4 +1,3 @@
-use Prim.Native.Nat.{◌-◌}
 use Rattle.repeats.specs.Chains.{joint}
 use Rattle.repeats.proofs.Chains.{Left}
 use Rattle.repeats.proofs.seen.Given as goal

@@ -1,7 +1,6 @@
 -- `table::records` meets its contract: what is left of the tests at n is the answer, and the nodes below n are in the chains.
 -- Assumes nothing.
 use mathlib.Core.Path.{◌≡◌, ◌∙◌, ap, sym, refl}
-use Prim.Native.Nat.{◌-◌}
 use Rattle.scope.specs.Outcome.{verdict_of}
 use Rattle.scope.specs.Table.{record_test}
 use Rattle.scope.proofs.First.{stops, goes, done}

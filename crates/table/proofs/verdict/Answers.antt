@@ -1,11 +1,8 @@
 -- `table::verdict` meets its contract: what is left of the blocks at j is the answer, and the nodes before block j are in the chains.
 -- Assumes nothing.
 use mathlib.Core.Path.{◌∙◌, ap, sym, refl}
-use mathlib.Core.Bool.{true}
-use Prim.Native.Nat.{◌-◌}
 use native.Mathlib.Nat.{sub-zero}
 use Rattle.scope.specs.Outcome.{verdict_of}
-use Rattle.scope.specs.Table.{length_ok}
 use Rattle.scope.proofs.First.{stops, goes, done}
 use Rattle.codec.proofs.Tables.{whole-blocks}
 use Rattle.repeats.proofs.Chains.{no_chains}

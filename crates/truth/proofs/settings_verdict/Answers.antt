@@ -1,13 +1,10 @@
 -- `truth::settings_verdict` meets its contract: what is left of the tests at p is the answer. Assumes nothing.
 use mathlib.Core.Path.{◌∙◌, sym}
-use mathlib.Core.List.{List}
-use Prim.Native.Nat.{ℕ, ◌<◌, ◌≤◌, ◌-◌}
+use Prim.Native.Nat.{◌<◌, ◌≤◌}
 use native.Mathlib.Omega.{arith}
 use lib.ListN.{get_or}
-use lib.Dec.{ltb}
 use borrow.Author.Rules.{rules}
 use borrow.Author.Tests.{lt-ltb, le-ltb, lt-leb, le-leb}
-use Rattle.scope.specs.Outcome.{Outcome, require}
 use Rattle.scope.specs.Calls.{settings_test}
 use Rattle.scope.proofs.First.{stops, goes, done, all_fine}
 use Rattle.scope.proofs.Tests.{met}
