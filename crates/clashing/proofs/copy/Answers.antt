@@ -1,5 +1,4 @@
 -- `clashing::copy` meets its contract: before each turn the goals passed stand in the list, behind 64 places. Assumes nothing.
-use Prim.Native.Nat.{◌-◌}
 use Rattle.clashing.proofs.Copies.{copying_none, copying_more, copying_all}
 use native.Mathlib.Omega.{arith}
 use Rattle.clashing.proofs.copy.Goals as goal

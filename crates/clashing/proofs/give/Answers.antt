@@ -1,5 +1,4 @@
 -- `clashing::give` meets its contract: before each turn the indices passed stand at the front, and 0 behind them. Assumes nothing.
-use Prim.Native.Nat.{◌-◌}
 use Rattle.clashing.proofs.Copies.{giving-more, giving_all}
 use native.Mathlib.Omega.{arith}
 use Rattle.clashing.proofs.give.Goals as goal

@@ -1,6 +1,6 @@
 -- `overview::put_each` meets its contract: before each turn the goals passed have their bytes, and no other has changed. Assumes nothing.
 use mathlib.Core.Path.{refl}
-use Prim.Native.Nat.{◌-◌, ◌*◌, ◌<◌}
+use Prim.Native.Nat.{◌*◌, ◌<◌}
 use native.Mathlib.Omega.{arith}
 use Rattle.calculus.proofs.Lists.{all_at}
 use Rattle.overview.proofs.Puts.{putting_none, putting_more, putting_all}
