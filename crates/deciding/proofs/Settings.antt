@@ -1,5 +1,5 @@
 -- Writing a setting: all points either way, and then literal by literal. Assumes nothing.
-use mathlib.Core.Path.{◌≡◌, refl, sym, ap, ap₂, ◌∙◌}
+use mathlib.Core.Path.{◌≡◌, refl, sym, ap, ap₂, subst, ◌∙◌}
 use mathlib.Core.List.{List, [], ◌∷◌, ◌++◌}
 use mathlib.Core.Bool.{Bool, true, false, ◌&&◌, ◌||◌}
 use Prim.Native.Nat.{ℕ, suc, ◌+◌, ◌/◌, ◌%◌, ◌<◌, ◌≤◌}
@@ -119,7 +119,7 @@ module _ {n : ℕ} {f : ℕ → Node} (T : Table n f) where
     byte-own k b =
         let h : l / 2 < length rs = omega (arith, low, long) in
         let e = node (l / 2) h in
-        rw e at (setting-held rs (l ∷ G) listed (l / 2) h (rw e k) (rw e b) (rw long g) l refl (mem_same G l l refl)) ∙ omega arith
+        rw e at (setting-held rs (l ∷ G) listed (l / 2) h (rw e k) (rw e b) (subst (λ (m : ℕ). Good m (l ∷ G)) (sym long) g) l refl (mem_same G l l refl)) ∙ omega arith
 
     filled_more : {s s₁ : List ℕ} → ((f (l / 2)).kind ≡ 2 → (f (l / 2)).a < 1024) → 1024 ≤ length s → Filled rs G s s₁ → Filled rs (l ∷ G) s (point_set (f (l / 2)) l s₁)
     filled_more {s} {s₁} points room a = go (ℕ_discrete (f (l / 2)).kind 2)
