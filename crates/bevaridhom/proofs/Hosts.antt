@@ -44,11 +44,11 @@ use Rattle.overview.specs.Overview.{overview}
 use Rattle.overview.specs.Overviews.{Told, Overviews}
 use Rattle.overview.proofs.Answers.{overview-numbered}
 use Rattle.rules.specs.Derive.{derive}
-use Rattle.deriving.specs.declared.Derived.{Derived}
-use Rattle.deriving.specs.declared.Derived.TheVariants.{Steps, Refused as NotDerived}
+use Rattle.deriver.specs.declared.Derived.{Derived}
+use Rattle.deriver.specs.declared.Derived.TheVariants.{Steps, Refused as NotDerived}
 use Rattle.rules.specs.declared.Version.{Version}
 use Rattle.rules.specs.declared.Version.TheVariants.{One, Two}
-use Rattle.deriving.specs.Derives.{derived_of, Derives}
+use Rattle.deriver.specs.Derives.{derived_of, Derives}
 use Rattle.checking.specs.declared.Checked.{Checked}
 use Rattle.checking.specs.declared.Checked.TheVariants.{Accepted, Refused as NotAccepted}
 use Rattle.checking.specs.Checks.{checked_of, Checks}

@@ -12,7 +12,7 @@ ghost use Rattle.bevaridhom.specs.Answers.{countAnswer, recordAnswer, truthNumbe
 use adding::Added;
 use checking::Checked;
 use deciding::Decided;
-use deriving::Derived;
+use deriver::Derived;
 use record::NodeRead;
 use rules::Version;
 use scope::{Truth, Verdict};
@@ -325,7 +325,7 @@ pub extern "C" fn bev_derive(
 ) -> BevDerived
     ensures { HostDerives (versionAsked wanted) t.now goals.now w.old d.old w.new d.new result }
 {
-    let c = deriving::derive(version_asked(wanted), t, goals, w, d);
+    let c = deriver::derive(version_asked(wanted), t, goals, w, d);
     match c {
         Derived::Steps(steps) => BevDerived {
             number: 0,

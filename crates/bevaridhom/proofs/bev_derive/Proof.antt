@@ -1,4 +1,4 @@
--- `bevaridhom::bev_derive` meets its contract: the answer of `deriving::derive`, case by case, and its bytes. Assumes nothing.
+-- `bevaridhom::bev_derive` meets its contract: the answer of `deriver::derive`, case by case, and its bytes. Assumes nothing.
 use Rattle.bevaridhom.proofs.Hosts.{derives_asked, told-derive}
 use borrow.Author.Rules.{rules}
 use Rattle.bevaridhom.proofs.bev_derive.Statement.{statement}

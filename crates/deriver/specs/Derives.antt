@@ -11,8 +11,8 @@ use Rattle.rules.specs.Steps.{encode_steps}
 use Rattle.rules.specs.Derivation.{named_steps}
 use Rattle.rules.specs.Derive.{is_impossible, Derived as Given, blocks, derive, derived_after, check}
 use Rattle.published.specs.Bytes.{PublishedBytes}
-use Rattle.deriving.specs.declared.Derived.{Derived}
-use Rattle.deriving.specs.declared.Derived.TheVariants.{Steps, Refused}
+use Rattle.deriver.specs.declared.Derived.{Derived}
+use Rattle.deriver.specs.declared.Derived.TheVariants.{Steps, Refused}
 
 -- the number and the values of every case of a `Derived`
 abbrev pub derived_of : Derived → Outcome ℕ

@@ -7,7 +7,7 @@ ghost use Rattle.std.specs.Prelude.{◌≡◌, ◌*◌, ◌/◌, ◌≤◌, min,
 ghost use Rattle.calculus.specs.Model.{Goals};
 ghost use Rattle.index.specs.Index.{index_node};
 ghost use Rattle.index.specs.Indexed.{Indexed};
-ghost use Rattle.deriving.specs.Derives.{Produced, Derives};
+ghost use Rattle.deriver.specs.Derives.{Produced, Derives};
 
 use counting::Tally;
 use rules::Version;

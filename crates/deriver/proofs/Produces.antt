@@ -22,8 +22,8 @@ use Rattle.counting.specs.declared.Tally.{Tally}
 use Rattle.counting.specs.declared.Tally.TheVariants.{Open, Closed as Shut}
 use Rattle.calculus.proofs.Limits.{most_under, most_over, most_low}
 use Rattle.emitting.specs.Trace.{Fits, written}
-use Rattle.deriving.specs.Derives.{given, row31, produced, Produced}
-use Rattle.deriving.specs.declared.Derived.TheVariants.{Steps, Refused}
+use Rattle.deriver.specs.Derives.{given, row31, produced, Produced}
+use Rattle.deriver.specs.declared.Derived.TheVariants.{Steps, Refused}
 
 -- ---- how many steps fit
 

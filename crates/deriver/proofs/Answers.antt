@@ -18,10 +18,10 @@ use Rattle.rules.specs.Derive.{derivation_of, Derived as Given, blocks, derived,
 use Rattle.asking.specs.Within.{Reached}
 use Rattle.asking.proofs.Nodes.{searches_within}
 use Rattle.meaning.proofs.Derivations.{derive-open, derive-never, derived-accepted, derived-published}
-use Rattle.deriving.specs.Derives.{derived_of, produced_by, produced, Produced, Derives}
-use Rattle.deriving.specs.declared.Derived.{Derived}
-use Rattle.deriving.specs.declared.Derived.TheVariants.{Steps, Refused}
-use Rattle.deriving.proofs.Same.{derivation_same}
+use Rattle.deriver.specs.Derives.{derived_of, produced_by, produced, Produced, Derives}
+use Rattle.deriver.specs.declared.Derived.{Derived}
+use Rattle.deriver.specs.declared.Derived.TheVariants.{Steps, Refused}
+use Rattle.deriver.proofs.Same.{derivation_same}
 
 module _ (v : Version) (t goals w d : List ℕ) (all : Bytes t) where
   -- ---- the contract, where its first three fields hold
