@@ -16,13 +16,19 @@ use searching::Found;
 use table::Counted;
 
 // Writes the bytes of the buffer from one place up to another, where those before them are written; whether they all are.
-fn say(out: &[u8], from: usize, to: usize, written: bool) -> bool
+fn say(
+    rt: &(impl Print + Eprint + Alloc),
+    out: &[u8],
+    from: usize,
+    to: usize,
+    written: bool,
+) -> bool
     requires { (from ≤ to) × (to ≤ length out.now) }
 {
     if !written {
         return false;
     }
-    arguments::say(&out[from..to])
+    arguments::say(rt, &out[from..to])
 }
 
 // A literal as a 16-bit number.
@@ -83,6 +89,7 @@ fn line(x: &[u16; 22626], n: usize, m: usize, out: &mut [u8], at: usize, work: &
 
 // The lines of all nodes, each written as soon as it is known, where the heading is.
 fn lines(
+    rt: &(impl Print + Eprint + Alloc),
     x: &[u16; 22626],
     nodes: usize,
     out: &mut [u8],
@@ -99,7 +106,7 @@ fn lines(
     let mut m = 0;
     while m < nodes {
         let next = line(x, nodes, m, out, end, work);
-        written = say(out, end, next, written);
+        written = say(rt, out, end, next, written);
         end = next;
         m += 1;
     }
@@ -107,7 +114,7 @@ fn lines(
 }
 
 // The listing of a table, written; its length in the buffer. The table is read and indexed once.
-fn list(t: &[u8], out: &mut [u8]) -> usize
+fn list(rt: &(impl Print + Eprint + Alloc), t: &[u8], out: &mut [u8]) -> usize
     requires { 98304 ≤ length out.old }
     ensures { Put out.old 0 (listing t.now) out.new result }
 {
@@ -117,29 +124,29 @@ fn list(t: &[u8], out: &mut [u8]) -> usize
     match c {
         Counted::Refused(f) => {
             let end = text::refused(out, 0, f);
-            say(out, 0, end, true);
+            say(rt, out, 0, end, true);
             end
         }
         Counted::Nodes(nodes) => {
             let first = text::put(out, 0, b"node yes no\n");
-            let headed = say(out, 0, first, true);
+            let headed = say(rt, out, 0, first, true);
             let mut work = [0u16; 32768];
-            lines(&x, nodes, out, first, headed, &mut work)
+            lines(rt, &x, nodes, out, first, headed, &mut work)
         }
     }
 }
 
-fn print(t: &[u8]) {
+fn print(rt: &(impl Print + Eprint + Alloc), t: &[u8]) {
     let mut out = [0u8; 98304];
-    list(t, &mut out);
+    list(rt, t, &mut out);
 }
 
 // A table of more than 16,384 bytes fills the buffer, and is refused by its length.
-fn main() {
+fn main(rt: HostRuntime) {
     let mut table = [0u8; 16385];
-    let l = arguments::input(&mut table);
+    let l = arguments::input(&rt, &mut table);
     match l {
-        Loaded::Bytes(n) => print(&table[..n]),
+        Loaded::Bytes(n) => print(&rt, &table[..n]),
         Loaded::Failed => {}
     }
 }
