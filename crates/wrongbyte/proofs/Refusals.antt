@@ -9,7 +9,7 @@ use lib.Dec.{eqb}
 use lib.ListN.{length, get_or, drop}
 use Rattle.scope.specs.declared.Format.{Format}
 use Rattle.scope.specs.declared.Node.{Node}
-use Rattle.scope.specs.Outcome.{Outcome, answer, refused, fine, first, ◌>>◌, ◌>>=◌}
+use Rattle.scope.specs.Outcome.{Outcome, answer, refused, fine, first, ◌>>=◌}
 use Rattle.scope.specs.Block.{block_at, check_ok, block_test}
 use Rattle.scope.specs.Table.{tables, record_test, length_ok, block_rows, table_test, decode}
 use Rattle.scope.specs.OneByte.{OneByte}
