@@ -297,9 +297,6 @@ by_row N row r {w} {w'} e a = subst (λ (i : ℕ). Appended (map (map (chosen N)
 pub past : {r row : ℕ} → r ≤ row → (row ≡ r → ⊥) → suc r ≤ row
 past h n = omega (arith, h, n)
 
-pub last_row : (row : ℕ) → 17 ≤ row → row < 18 → row ≡ 17
-last_row row h b = omega (arith, h, b)
-
 pub row_most : {row r m : ℕ} → row ≡ r → m ≤ r → m ≤ row
 row_most e h = omega (arith, e, h)
 
