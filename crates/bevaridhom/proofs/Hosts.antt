@@ -61,7 +61,7 @@ use Rattle.cnfread.specs.Reads.{Reads}
 use Rattle.bevaridhom.specs.declared.BevClashed.{BevClashed}
 use Rattle.bevaridhom.specs.declared.BevAnswered.{BevAnswered}
 use Rattle.bevaridhom.specs.declared.BevOpened.{BevOpened}
-use Rattle.bevaridhom.specs.Answers.{wordBit, versionAsked, versionNumber, openAnswer, decideAnswer, HostPlain, HostDecides, clashAnswer, HostClashes, overviewAnswer, HostOverviews, deriveAnswer, HostDerives, checkAnswer, HostChecks, wishesAnswer, HostWishes, markAnswer, Unmet, HostReads}
+use Rattle.bevaridhom.specs.Answers.{word_bit, version_asked, version_number, open_answer, decide_answer, HostPlain, HostDecides, clash_answer, HostClashes, overview_answer, HostOverviews, derive_answer, HostDerives, check_answer, HostChecks, wishes_answer, HostWishes, mark_answer, Unmet, HostReads}
 
 -- a refusal of what is made of an answer is the answer's
 of_refused : {A B : Type 0} (x : Outcome A) (f : A → B) {number place : ℕ} → refused number place ≡ (x >>= λ a. answer (f a)) → x ≡ refused number place
@@ -80,18 +80,18 @@ module _ (t goals s w s' w' : List ℕ) where
   decide-kept (Impossible n) h number place e = refused_no (sym (h.answered ∙ ap (◌>>= λ d. answer (said_of d)) e))
   decide-kept (Refused f) h number place e = h.work f refl
 
-  exact_by : (d : Decided) → Decides t goals s w s' w' d → (decideAnswer (decided_of d)).number ≡ 0 → ((decideAnswer (decided_of d)).possible ≡ 0) ⇔ Unsatisfiable t goals
+  exact_by : (d : Decided) → Decides t goals s w s' w' d → (decide_answer (decided_of d)).number ≡ 0 → ((decide_answer (decided_of d)).possible ≡ 0) ⇔ Unsatisfiable t goals
   exact_by (Possible n) h z =
       (λ e. absurd (omega arith), λ none. absurd (let q : can ≡ cannot = (h.exact _ refl).1 none in let y : ◌≡◌ {A = ℕ} 0 1 = cc in omega arith))
   exact_by (Impossible n) h z = (λ e. (h.exact _ refl).0 refl, λ none. refl)
   exact_by (Refused f) h z = absurd (omega (arith, (decide-numbered t goals s w).positive f.number f.place (decide_refused f h)))
 
-  satisfied_by : (d : Decided) → Decides t goals s w s' w' d → (decideAnswer (decided_of d)).possible ≡ 1 → All (λ g. evaluate t g s' ≡ answer Yes) goals
+  satisfied_by : (d : Decided) → Decides t goals s w s' w' d → (decide_answer (decided_of d)).possible ≡ 1 → All (λ g. evaluate t g s' ≡ answer Yes) goals
   satisfied_by (Possible n) h e = h.satisfied n refl
   satisfied_by (Impossible n) h e = absurd (omega arith)
   satisfied_by (Refused f) h e = absurd (omega arith)
 
-  filled_by : (d : Decided) → Decides t goals s w s' w' d → (decideAnswer (decided_of d)).possible ≡ 1
+  filled_by : (d : Decided) → Decides t goals s w s' w' d → (decide_answer (decided_of d)).possible ≡ 1
       → (rs : List Node) → decode t ≡ answer rs → (f : List ℕ) → Fills s' f → All (λ g. truth f rs g ≡ true) goals
   filled_by (Possible n) h e = h.filled n refl
   filled_by (Impossible n) h e = absurd (omega arith)
@@ -99,7 +99,7 @@ module _ (t goals s w s' w' : List ℕ) where
 
   -- what was said is what the plain order says
   plain-said : {x : Said} (d : Decided) → Decides t goals s w s' w' d → decided_of d ≡ answer x
-      → (rs : List Node) × (decode t ≡ answer rs) × HostPlain rs goals s s' (decideAnswer (answer x))
+      → (rs : List Node) × (decode t ≡ answer rs) × HostPlain rs goals s s' (decide_answer (answer x))
   plain-said {x} d h e =
       let b = bound (decide t goals s w) (λ d. answer (said_of d)) (sym h.answered ∙ e) in
       let z : answer (said_of b.0) ≡ answer x = b.2 in
@@ -108,23 +108,23 @@ module _ (t goals s w s' w' : List ℕ) where
         q.0,
         q.1,
         record {
-          verdict = ap (λ (a : Said). wordBit a.word) (sym y) ∙ ap (λ (a : Answer). wordBit (word_of a)) q.2.verdict;
+          verdict = ap (λ (a : Said). word_bit a.word) (sym y) ∙ ap (λ (a : Answer). word_bit (word_of a)) q.2.verdict;
           settings = h.settings ∙ ap (settings_after s) b.1 ∙ q.2.settings;
           splits = omega (arith, ap (λ (a : Said). a.splits) y, q.2.splits);
         },
       )
 
-  plain_by : (d : Decided) → Decides t goals s w s' w' d → (decideAnswer (decided_of d)).number ≡ 0
-      → (rs : List Node) × (decode t ≡ answer rs) × HostPlain rs goals s s' (decideAnswer (decided_of d))
+  plain_by : (d : Decided) → Decides t goals s w s' w' d → (decide_answer (decided_of d)).number ≡ 0
+      → (rs : List Node) × (decode t ≡ answer rs) × HostPlain rs goals s s' (decide_answer (decided_of d))
   plain_by (Possible n) h z = plain-said (Possible n) h refl
   plain_by (Impossible n) h z = plain-said (Impossible n) h refl
   plain_by (Refused f) h z = absurd (omega (arith, (decide-numbered t goals s w).positive f.number f.place (decide_refused f h)))
 
-  pub told : (d : Decided) {d' : Decided} → Decides t goals s w s' w' d → d ≡ d' → HostDecides t goals s w s' w' (decideAnswer (decided_of d'))
+  pub told : (d : Decided) {d' : Decided} → Decides t goals s w s' w' d → d ≡ d' → HostDecides t goals s w s' w' (decide_answer (decided_of d'))
   told d {d'} k e =
       let h : Decides t goals s w s' w' d' = rw e at k in
       record {
-        answered = ap decideAnswer h.answered;
+        answered = ap decide_answer h.answered;
         settings = h.settings;
         work = decide-kept d' h;
         plain = plain_by d' h;
@@ -139,7 +139,7 @@ module _ (t goals s w s' w' : List ℕ) where
 abbrev hosted : Clashed → BevClashed
 hosted r = record { number = r.number; place = r.place; count = r.count; kept = r.kept }
 
-hosted_same : (o : Outcome (List ℕ)) → hosted (clashed_of o) ≡ clashAnswer o
+hosted_same : (o : Outcome (List ℕ)) → hosted (clashed_of o) ≡ clash_answer o
 hosted_same (answer is) = refl
 hosted_same (refused number place) = refl
 
@@ -156,9 +156,9 @@ module _ (t goals wishes : List ℕ) (m : ℕ) (s w s' w' : List ℕ) where
   not-zero : {A : Type 0} (f : Refusal) → Wishes t goals wishes m s w s' w' (NotGranted f) → f.number ≡ 0 → A
   not-zero f h z = absurd (omega (arith, (grant-numbered t goals wishes m s w).positive f.number f.place (wishes_refused f h)))
 
-  tells : (r : Wished) → Wishes t goals wishes m s w s' w' r → HostWishes t goals wishes m s w s' w' (wishesAnswer (wished_of r))
+  tells : (r : Wished) → Wishes t goals wishes m s w s' w' r → HostWishes t goals wishes m s w s' w' (wishes_answer (wished_of r))
   tells (Given g) h = record {
-    answered = ap wishesAnswer h.answered;
+    answered = ap wishes_answer h.answered;
     settings = h.settings;
     work = h.work;
     alone = λ rs a. (λ e. absurd (omega arith), λ none. refused_no (sym ((h.alone rs a).1 none)));
@@ -171,7 +171,7 @@ module _ (t goals wishes : List ℕ) (m : ℕ) (s w s' w' : List ℕ) where
     enough = λ z. h.enough g refl;
   }
   tells (NotGranted f) h = record {
-    answered = ap wishesAnswer h.answered;
+    answered = ap wishes_answer h.answered;
     settings = h.settings;
     work = h.work;
     alone = λ rs a. (
@@ -187,7 +187,7 @@ module _ (t goals wishes : List ℕ) (m : ℕ) (s w s' w' : List ℕ) where
     enough = not-zero f h;
   }
 
-  pub told_wishes : (r : Wished) {r' : Wished} → Wishes t goals wishes m s w s' w' r → r ≡ r' → HostWishes t goals wishes m s w s' w' (wishesAnswer (wished_of r'))
+  pub told_wishes : (r : Wished) {r' : Wished} → Wishes t goals wishes m s w s' w' r → r ≡ r' → HostWishes t goals wishes m s w s' w' (wishes_answer (wished_of r'))
   told_wishes r h e = tells _ (rw e at h)
 
 -- ---- overview
@@ -200,7 +200,7 @@ module _ (t goals b w b' w' : List ℕ) where
   overview_refused : (f : Refusal) → Overviews t goals b w b' w' (NotSeen f) → overview t goals b w ≡ refused f.number f.place
   overview_refused f h = of_refused (overview t goals b w) (λ after. tt) h.answered
 
-  answered-by : (v : Verdict) → Overviews t goals b w b' w' v → verdict_answer v ≡ overviewAnswer (overview t goals b w)
+  answered-by : (v : Verdict) → Overviews t goals b w b' w' v → verdict_answer v ≡ overview_answer (overview t goals b w)
   answered-by Seen h =
       let x = bound (overview t goals b w) (λ after. answer tt) (sym h.answered) in
       rw x.1
@@ -221,10 +221,10 @@ module _ (t goals b w b' w' : List ℕ) where
 
 -- ---- the version that a byte asks for
 
-pub asked-one : (n : ℕ) → n ≡ 0 → One ≡ versionAsked n
+pub asked-one : (n : ℕ) → n ≡ 0 → One ≡ version_asked n
 asked-one n e = sym (rw (eq-eqb n 0 e))
 
-pub asked-two : (n : ℕ) → (n ≡ 0 → ⊥) → Two ≡ versionAsked n
+pub asked-two : (n : ℕ) → (n ≡ 0 → ⊥) → Two ≡ version_asked n
 asked-two n e = sym (rw (ne_eqb n 0 e))
 
 -- ---- derive
@@ -236,23 +236,23 @@ derives_asked e h = rw e at h
 module _ (v : Version) (t goals w d w' d' : List ℕ) where
   -- number 0 is that of a step count
   by_steps : {P : ℕ → Type 0} (r : Derived) → Derives v t goals w d w' d' r → ((k : ℕ) → r ≡ Steps k → P k)
-      → (deriveAnswer (derived_of r)).number ≡ 0 → P (deriveAnswer (derived_of r)).steps
+      → (derive_answer (derived_of r)).number ≡ 0 → P (derive_answer (derived_of r)).steps
   by_steps (Steps k) h p e = p k refl
   by_steps (NotDerived f) h p e =
       absurd (omega (arith, (derive-numbered v t goals w d).positive f.number f.place (of_refused (derive v t goals w d) (λ x. x.steps) h.answered)))
 
-  complete_by : (r : Derived) → Derives v t goals w d w' d' r → (deriveAnswer (derived_of r)).number ≡ 30
+  complete_by : (r : Derived) → Derives v t goals w d w' d' r → (derive_answer (derived_of r)).number ≡ 30
       → (rs : List Node) → asked t goals 0 0 (length w) ≡ answer rs → (v : List ℕ) × Satisfies t goals v
   complete_by (Steps k) h e = absurd (omega arith)
   complete_by (NotDerived f) h e =
       let number : f.number ≡ 30 = omega arith in
       h.complete f.place (rw number)
 
-  pub told-derive : (r : Derived) {r' : Derived} → Derives v t goals w d w' d' r → r ≡ r' → HostDerives v t goals w d w' d' (deriveAnswer (derived_of r'))
+  pub told-derive : (r : Derived) {r' : Derived} → Derives v t goals w d w' d' r → r ≡ r' → HostDerives v t goals w d w' d' (derive_answer (derived_of r'))
   told-derive r {r'} k e =
       let h : Derives v t goals w d w' d' r' = rw e at k in
       record {
-        answered = ap deriveAnswer h.answered;
+        answered = ap derive_answer h.answered;
         bytes = h.bytes;
         work = h.work;
         never = by_steps r' h h.never;
@@ -263,28 +263,28 @@ module _ (v : Version) (t goals w d w' d' : List ℕ) where
 
 -- ---- open
 
-pub open_found : (v : Version) {o : Outcome ℕ} {n u : ℕ} → u ≡ versionNumber v → o ≡ answer n
-    → ◌≡◌ {A = BevOpened} (record { number = 0; place = 0; steps = n; version = u }) (openAnswer v o)
+pub open_found : (v : Version) {o : Outcome ℕ} {n u : ℕ} → u ≡ version_number v → o ≡ answer n
+    → ◌≡◌ {A = BevOpened} (record { number = 0; place = 0; steps = n; version = u }) (open_answer v o)
 open_found v {n = n} e q = ap (λ (m : ℕ). record { number = 0; place = 0; steps = n; version = m }) e ∙ sym (rw q)
 
 -- ---- check
 
 module _ (t goals w d w' : List ℕ) where
   -- number 0 is that of an accepted derivation
-  by_accepted : (r : Checked) → Checks t goals w d w' r → (checkAnswer (checked_of r)).number ≡ 0 → r ≡ Accepted
+  by_accepted : (r : Checked) → Checks t goals w d w' r → (check_answer (checked_of r)).number ≡ 0 → r ≡ Accepted
   by_accepted Accepted h e = refl
   by_accepted (NotAccepted f) h e = absurd (omega (arith, (check-numbered t goals w d).positive f.number f.place (sym h.answered)))
 
-  pub told-check : (r : Checked) {r' : Checked} → Checks t goals w d w' r → r ≡ r' → HostChecks t goals w d w' (checkAnswer (checked_of r'))
+  pub told-check : (r : Checked) {r' : Checked} → Checks t goals w d w' r → r ≡ r' → HostChecks t goals w d w' (check_answer (checked_of r'))
   told-check r {r'} k e =
       let h : Checks t goals w d w' r' = rw e at k in
       record {
-        answered = ap checkAnswer h.answered;
+        answered = ap check_answer h.answered;
         work = h.work;
         never = λ z. h.never (by_accepted r' h z);
         published = λ z. h.published (by_accepted r' h z);
         only = λ z. h.only (by_accepted r' h z);
-        ours = λ v rs a q l s. ap (λ (y : Checked). (checkAnswer (checked_of y)).number) (h.ours v rs a q l s);
+        ours = λ v rs a q l s. ap (λ (y : Checked). (check_answer (checked_of y)).number) (h.ours v rs a q l s);
       }
 
 -- ---- the DIMACS reader
@@ -313,17 +313,17 @@ positive number (inr (inl e)) = omega arith
 positive number (inr (inr e)) = omega arith
 
 module _ (text buf after : List ℕ) (all : Bytes after) where
-  means_by : (v : Put) → Reads text buf v after → (markAnswer (added_of v)).number ≡ 0
-      → (f : File) × (file_of text ≡ answer f) × Means f (markAnswer (added_of v)).literal (markAnswer (added_of v)).used after
+  means_by : (v : Put) → Reads text buf v after → (mark_answer (added_of v)).number ≡ 0
+      → (f : File) × (file_of text ≡ answer f) × Means f (mark_answer (added_of v)).literal (mark_answer (added_of v)).used after
   means_by (At m) h e = h.means m refl
   means_by (NotPut r) h e = absurd (omega (arith, positive r.number (h.turns r refl)))
 
-  pub told-read : (v : Put) {v' : Put} → Reads text buf v after → v ≡ v' → HostReads text buf (markAnswer (added_of v')) after
+  pub told-read : (v : Put) {v' : Put} → Reads text buf v after → v ≡ v' → HostReads text buf (mark_answer (added_of v')) after
   told-read v {v'} k e =
       let h : Reads text buf v' after = rw e at k in
-      let a = markAnswer (added_of v') in
+      let a = mark_answer (added_of v') in
       record {
-        answered = ap markAnswer h.answered;
+        answered = ap mark_answer h.answered;
         bytes = h.bytes;
         kept = h.kept;
         means = means_by v' h;

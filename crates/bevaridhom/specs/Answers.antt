@@ -46,44 +46,44 @@ use Rattle.bevaridhom.specs.declared.BevOpened.{BevOpened}
 use Rattle.bevaridhom.specs.declared.BevStep.{BevStep}
 use Rattle.step_reader.specs.Handed.{Next, one, none}
 
-abbrev pub countAnswer : Outcome ℕ → BevCount
-countAnswer (answer n) = record { number = 0; place = 0; nodes = n }
-countAnswer (refused n p) = record { number = n; place = p; nodes = 0 }
+abbrev pub count_answer : Outcome ℕ → BevCount
+count_answer (answer n) = record { number = 0; place = 0; nodes = n }
+count_answer (refused n p) = record { number = n; place = p; nodes = 0 }
 
-abbrev pub recordAnswer : Outcome Node → BevRecord
-recordAnswer (answer x) = record { number = 0; place = 0; kind = x.kind; a = x.a; b = x.b; c = x.c }
-recordAnswer (refused n p) = record { number = n; place = p; kind = 0; a = 0; b = 0; c = 0 }
+abbrev pub record_answer : Outcome Node → BevRecord
+record_answer (answer x) = record { number = 0; place = 0; kind = x.kind; a = x.a; b = x.b; c = x.c }
+record_answer (refused n p) = record { number = n; place = p; kind = 0; a = 0; b = 0; c = 0 }
 
 -- 'no' is 0, 'yes' is 1, 'unknown' is 2
-abbrev pub truthNumber : Truth → ℕ
-truthNumber No = 0
-truthNumber Yes = 1
-truthNumber Unknown = 2
+abbrev pub truth_number : Truth → ℕ
+truth_number No = 0
+truth_number Yes = 1
+truth_number Unknown = 2
 
-abbrev pub truthAnswer : Outcome Truth → BevTruth
-truthAnswer (answer v) = record { number = 0; place = 0; truth = truthNumber v }
-truthAnswer (refused n p) = record { number = n; place = p; truth = 0 }
+abbrev pub truth_answer : Outcome Truth → BevTruth
+truth_answer (answer v) = record { number = 0; place = 0; truth = truth_number v }
+truth_answer (refused n p) = record { number = n; place = p; truth = 0 }
 
-abbrev pub markAnswer : Outcome Mark → BevAdded
-markAnswer (answer m) = record { number = 0; place = 0; literal = m.literal; used = m.used }
-markAnswer (refused n p) = record { number = n; place = p; literal = 0; used = 0 }
+abbrev pub mark_answer : Outcome Mark → BevAdded
+mark_answer (answer m) = record { number = 0; place = 0; literal = m.literal; used = m.used }
+mark_answer (refused n p) = record { number = n; place = p; literal = 0; used = 0 }
 
-abbrev pub addAnswer : Outcome Added → BevAdded
-addAnswer w = markAnswer (marked w)
+abbrev pub add_answer : Outcome Added → BevAdded
+add_answer w = mark_answer (marked w)
 
 -- 'possible' is 1, 'impossible' is 0
-abbrev pub wordBit : Word → ℕ
-wordBit can = 1
-wordBit cannot = 0
-wordBit nothing = 0
+abbrev pub word_bit : Word → ℕ
+word_bit can = 1
+word_bit cannot = 0
+word_bit nothing = 0
 
-abbrev pub decideAnswer : Outcome Said → BevDecided
-decideAnswer (answer x) = record { number = 0; place = 0; possible = wordBit x.word; splits = x.splits }
-decideAnswer (refused n p) = record { number = n; place = p; possible = 0; splits = 0 }
+abbrev pub decide_answer : Outcome Said → BevDecided
+decide_answer (answer x) = record { number = 0; place = 0; possible = word_bit x.word; splits = x.splits }
+decide_answer (refused n p) = record { number = n; place = p; possible = 0; splits = 0 }
 
 -- number 0 is said of the nodes rs of the table: verdict and settings are those of the plain order, and the splits are no more
 pub record HostPlain (rs : List Node) (goals s s' : List ℕ) (r : BevDecided) : Type 0 where
-  pub verdict : r.possible ≡ wordBit (word_of (plainly rs goals s).verdict)
+  pub verdict : r.possible ≡ word_bit (word_of (plainly rs goals s).verdict)
   pub settings : s' ≡ (plainly rs goals s).settings
   pub splits : r.splits ≤ (plainly rs goals s).splits
 
@@ -91,7 +91,7 @@ pub record HostPlain (rs : List Node) (goals s s' : List ℕ) (r : BevDecided) :
 -- gives the same with no fewer splits, and what the answer means: possible 0 exactly when no setting makes all goals true, and with 1
 -- bev_evaluate of the settings answers yes of each goal, and all goals are true for every way of filling their 2s
 pub record HostDecides (t goals s w s' w' : List ℕ) (r : BevDecided) : Type 0 where
-  pub answered : r ≡ decideAnswer (decide t goals s w >>= λ d. answer (said_of d))
+  pub answered : r ≡ decide_answer (decide t goals s w >>= λ d. answer (said_of d))
   pub settings : s' ≡ settings_after s (decide t goals s w)
   pub work : (number place : ℕ) → decide t goals s w ≡ refused number place → w' ≡ w
   pub plain : r.number ≡ 0 → (rs : List Node) × (decode t ≡ answer rs) × HostPlain rs goals s s' r
@@ -100,48 +100,48 @@ pub record HostDecides (t goals s w s' w' : List ℕ) (r : BevDecided) : Type 0 
   pub filled : r.possible ≡ 1 → (rs : List Node) → decode t ≡ answer rs → (f : List ℕ) → Fills s' f → All (λ g. truth f rs g ≡ true) goals
 
 -- the indices kept and their count, 0 past them
-abbrev pub clashAnswer : Outcome (List ℕ) → BevClashed
-clashAnswer (answer is) = record { number = 0; place = 0; count = length is; kept = is ++ replicate (most_goals - length is) 0 }
-clashAnswer (refused n p) = record { number = n; place = p; count = 0; kept = replicate most_goals 0 }
+abbrev pub clash_answer : Outcome (List ℕ) → BevClashed
+clash_answer (answer is) = record { number = 0; place = 0; count = length is; kept = is ++ replicate (most_goals - length is) 0 }
+clash_answer (refused n p) = record { number = n; place = p; count = 0; kept = replicate most_goals 0 }
 
 -- clash for a host: the walk's list, a work area that a refusal by the rows 10 to 17, 62, 20 and 23 leaves as it was, and what the answer
 -- means: the goals kept are impossible together, and without any single one of them one setting makes the others true; behind these rows
 -- 63 is said exactly when one setting makes all goals true
 pub record HostClashes (t goals w w' : List ℕ) (r : BevClashed) : Type 0 where
-  pub answered : r ≡ clashAnswer (clash t goals w)
+  pub answered : r ≡ clash_answer (clash t goals w)
   pub work : (number place : ℕ) → asked t goals 0 0 (length w) ≡ refused number place → w' ≡ w
   pub kept : r.number ≡ 0 → Clashing t goals (take r.count r.kept)
   pub exact : (rs : List Node) → asked t goals 0 0 (length w) ≡ answer rs → (r.number ≡ 63) ⇔ ((v : List ℕ) × Satisfies t goals v)
 
-abbrev pub overviewAnswer : Outcome (List ℕ) → BevAnswered
-overviewAnswer (answer after) = record { number = 0; place = 0 }
-overviewAnswer (refused n p) = record { number = n; place = p }
+abbrev pub overview_answer : Outcome (List ℕ) → BevAnswered
+overview_answer (answer after) = record { number = 0; place = 0 }
+overview_answer (refused n p) = record { number = n; place = p }
 
 -- overview for a host: its answer, the answer bytes, a work area that a refusal leaves as it was, and what number 0 means: each goal's byte
 -- is what bev_decide says of that goal by itself, and it is 0 exactly when no setting makes the goal true
 pub record HostOverviews (t goals b w b' w' : List ℕ) (r : BevAnswered) : Type 0 where
-  pub answered : r ≡ overviewAnswer (overview t goals b w)
+  pub answered : r ≡ overview_answer (overview t goals b w)
   pub bytes : b' ≡ answers_after b (overview t goals b w)
   pub work : (number place : ℕ) → overview t goals b w ≡ refused number place → w' ≡ w
   pub each : r.number ≡ 0 → (i : ℕ) → i < length goals → Told t w (get_or goals i 0) (get_or b' i 0)
 
 -- the values of an answer for rooms; the promises of the two calls are those of crate rooms (`OpensRooms`, `TurnsRooms`)
-abbrev pub roomsAnswer : BevTurned → Turned
-roomsAnswer r = record { number = r.number; place = r.place; count = r.count; turns = r.turns; verdicts = r.verdicts }
+abbrev pub rooms_answer : BevTurned → Turned
+rooms_answer r = record { number = r.number; place = r.place; count = r.count; turns = r.turns; verdicts = r.verdicts }
 
-abbrev pub deriveAnswer : Outcome ℕ → BevDerived
-deriveAnswer (answer n) = record { number = 0; place = 0; steps = n }
-deriveAnswer (refused n p) = record { number = n; place = p; steps = 0 }
+abbrev pub derive_answer : Outcome ℕ → BevDerived
+derive_answer (answer n) = record { number = 0; place = 0; steps = n }
+derive_answer (refused n p) = record { number = n; place = p; steps = 0 }
 
 -- 'Derive is told the version wanted, a choice of exactly two': 0 is version one, any other byte version two
-abbrev pub versionAsked : ℕ → Version
-versionAsked n = cond (eqb n 0) One Two
+abbrev pub version_asked : ℕ → Version
+version_asked n = cond (eqb n 0) One Two
 
 -- derive for a host: its step count, the derivation bytes, a work area that a refusal by the rows 10 to 17, 62, 20 and 23 leaves as it
 -- was, and what the derivation means: no setting makes all goals true, bev_check accepts it, and it is one by the published rules; behind
 -- these rows 30 means that one setting makes all goals true
 pub record HostDerives (v : Version) (t goals w d w' d' : List ℕ) (r : BevDerived) : Type 0 where
-  pub answered : r ≡ deriveAnswer (derive v t goals w d >>= λ x. answer x.steps)
+  pub answered : r ≡ derive_answer (derive v t goals w d >>= λ x. answer x.steps)
   pub bytes : d' ≡ derived_after d (derive v t goals w d)
   pub work : (number place : ℕ) → asked t goals 0 0 (length w) ≡ refused number place → w' ≡ w
   pub never : r.number ≡ 0 → Unsatisfiable t goals
@@ -150,15 +150,15 @@ pub record HostDerives (v : Version) (t goals w d w' d' : List ℕ) (r : BevDeri
   pub complete : r.number ≡ 30 → (rs : List Node) → asked t goals 0 0 (length w) ≡ answer rs → (v : List ℕ) × Satisfies t goals v
 
 -- 0 is 'accepted'
-abbrev pub checkAnswer : Outcome (Unit {0}) → BevChecked
-checkAnswer (answer u) = record { number = 0; place = 0 }
-checkAnswer (refused n p) = record { number = n; place = p }
+abbrev pub check_answer : Outcome (Unit {0}) → BevChecked
+check_answer (answer u) = record { number = 0; place = 0 }
+check_answer (refused n p) = record { number = n; place = p }
 
 -- check for a host: its answer, a work area that a refusal before the first step leaves as it was, and what number 0 means: no setting
 -- makes all goals true, and the steps are those of a derivation by the published rules, which has it for no other list of goals where
 -- its first step is a G; the solver's own derivation has it
 pub record HostChecks (t goals w d w' : List ℕ) (r : BevChecked) : Type 0 where
-  pub answered : r ≡ checkAnswer (check t goals w d)
+  pub answered : r ≡ check_answer (check t goals w d)
   pub work : (number place : ℕ) → (asked t goals 0 0 (length w) >> decode_steps d) ≡ refused number place → w' ≡ w
   pub never : r.number ≡ 0 → Unsatisfiable t goals
   pub published : r.number ≡ 0 → PublishedBytes t goals d
@@ -167,9 +167,9 @@ pub record HostChecks (t goals w d w' : List ℕ) (r : BevChecked) : Type 0 wher
       → length (encode_steps v (derivation_of v rs goals)) ≤ 33554432 → d ≡ encode_steps v (derivation_of v rs goals) → r.number ≡ 0
 
 -- the wishes met, the bound and the questions put
-abbrev pub wishesAnswer : Outcome Grant → BevWished
-wishesAnswer (answer g) = record { number = 0; place = 0; met = g.met; bound = g.bound; questions = g.questions }
-wishesAnswer (refused n p) = record { number = n; place = p; met = 0; bound = 0; questions = 0 }
+abbrev pub wishes_answer : Outcome Grant → BevWished
+wishes_answer (answer g) = record { number = 0; place = 0; met = g.met; bound = g.bound; questions = g.questions }
+wishes_answer (refused n p) = record { number = n; place = p; met = 0; bound = 0; questions = 0 }
 
 -- wishes for a host: its numbers, the settings bytes, a work area that a refusal up to 23 leaves as it was, and what the answer means: for
 -- every way of filling the settings' 2s all goals are true and `met` wishes, no setting that makes all goals true makes more than `bound`
@@ -177,7 +177,7 @@ wishesAnswer (refused n p) = record { number = n; place = p; met = 0; bound = 0;
 -- both were equal; a larger allowance never lowers `met` or raises `bound`, and 2 ^ wishes - 1 questions are enough for both to be equal.
 -- Behind these rows 67 is said exactly when no setting makes all goals true
 pub record HostWishes (t goals wishes : List ℕ) (m : ℕ) (s w s' w' : List ℕ) (r : BevWished) : Type 0 where
-  pub answered : r ≡ wishesAnswer (grant t goals wishes m s w >>= λ d. answer (grant_of d.wished))
+  pub answered : r ≡ wishes_answer (grant t goals wishes m s w >>= λ d. answer (grant_of d.wished))
   pub settings : s' ≡ granted_after s (grant t goals wishes m s w)
   pub work : (number place : ℕ) → wishes_asked t goals wishes (length s) (length w) ≡ refused number place → w' ≡ w
   pub alone : (rs : List Node) → wishes_asked t goals wishes (length s) (length w) ≡ answer rs → (r.number ≡ 67) ⇔ Unsatisfiable t goals
@@ -193,19 +193,19 @@ pub record HostWishes (t goals wishes : List ℕ) (m : ℕ) (s w s' w' : List �
       → (h : Granted) × (grant t goals wishes l s w ≡ answer h) × ((r.met ≤ h.wished.k) × (h.wished.u ≤ r.bound))
   pub enough : r.number ≡ 0 → 2 ^ length wishes ≤ suc m → r.met ≡ r.bound
 
-abbrev pub versionNumber : Version → ℕ
-versionNumber One = 1
-versionNumber Two = 2
+abbrev pub version_number : Version → ℕ
+version_number One = 1
+version_number Two = 2
 
-abbrev pub openAnswer : Version → Outcome ℕ → BevOpened
-openAnswer v (answer n) = record { number = 0; place = 0; steps = n; version = versionNumber v }
-openAnswer v (refused n p) = record { number = n; place = p; steps = 0; version = 0 }
+abbrev pub open_answer : Version → Outcome ℕ → BevOpened
+open_answer v (answer n) = record { number = 0; place = 0; steps = n; version = version_number v }
+open_answer v (refused n p) = record { number = n; place = p; steps = 0; version = 0 }
 
 -- a step, or that none is left
-abbrev pub stepAnswer : Outcome Next → BevStep
-stepAnswer (answer (one s)) = record { number = 0; place = 0; left = 1; rule = s.rule; position = s.position; value = s.value }
-stepAnswer (answer none) = record { number = 0; place = 0; left = 0; rule = 0; position = 0; value = 0 }
-stepAnswer (refused n p) = record { number = n; place = p; left = 0; rule = 0; position = 0; value = 0 }
+abbrev pub step_answer : Outcome Next → BevStep
+step_answer (answer (one s)) = record { number = 0; place = 0; left = 1; rule = s.rule; position = s.position; value = s.value }
+step_answer (answer none) = record { number = 0; place = 0; left = 0; rule = 0; position = 0; value = 0 }
+step_answer (refused n p) = record { number = n; place = p; left = 0; rule = 0; position = 0; value = 0 }
 
 -- no setting, of 0 and 1, makes the file true
 abbrev pub Unmet : File → Type 0
@@ -215,7 +215,7 @@ Unmet f = (v : List ℕ) → NoTwo v → settings_test v ≡ fine → clauses_tr
 -- the buffer is free; with number 0 the table reads, 'The goal's truth equals the file's under every setting', and so decide calls the
 -- goal impossible exactly when no setting makes the file true
 pub record HostReads (text buf : List ℕ) (r : BevAdded) (after : List ℕ) : Type 0 where
-  pub answered : r ≡ addAnswer (dimacs text buf)
+  pub answered : r ≡ add_answer (dimacs text buf)
   pub bytes : (x : Added) → dimacs text buf ≡ answer x → after ≡ x.bytes
   pub kept : (number place : ℕ) → file_of text ≡ refused number place → after ≡ buf
   pub means : r.number ≡ 0 → (f : File) × (file_of text ≡ answer f) × Means f r.literal r.used after

@@ -7,7 +7,7 @@ ghost use Rattle.steps.specs.Opened.{step_count};
 ghost use Rattle.rules.specs.Steps.{version_of};
 ghost use Rattle.step_reader.specs.Handed.{step_handed};
 ghost use Rattle.rooms.specs.Calls.{OpensRooms, TurnsRooms};
-ghost use Rattle.bevaridhom.specs.Answers.{countAnswer, recordAnswer, truthNumber, truthAnswer, addAnswer, roomsAnswer, versionAsked, versionNumber, openAnswer, stepAnswer, HostDecides, HostClashes, HostOverviews, HostDerives, HostChecks, HostWishes, HostReads};
+ghost use Rattle.bevaridhom.specs.Answers.{count_answer, record_answer, truth_number, truth_answer, add_answer, rooms_answer, version_asked, version_number, open_answer, step_answer, HostDecides, HostClashes, HostOverviews, HostDerives, HostChecks, HostWishes, HostReads};
 
 use adding::Added;
 use checking::Checked;
@@ -62,7 +62,7 @@ pub struct BevAdded {
 // Table reading: the node count.
 #[unsafe(no_mangle)]
 pub extern "C" fn bev_count(t: &[u8]) -> BevCount
-    ensures { result ≡ countAnswer (table_count t.now) }
+    ensures { result ≡ count_answer (table_count t.now) }
 {
     let c = table::count(t);
     match c {
@@ -82,7 +82,7 @@ pub extern "C" fn bev_count(t: &[u8]) -> BevCount
 // Table reading: the record of a literal's node.
 #[unsafe(no_mangle)]
 pub extern "C" fn bev_record(t: &[u8], literal: usize) -> BevRecord
-    ensures { result ≡ recordAnswer (table_record t.now literal) }
+    ensures { result ≡ record_answer (table_record t.now literal) }
 {
     let c = table::record_of(t, literal);
     match c {
@@ -107,7 +107,7 @@ pub extern "C" fn bev_record(t: &[u8], literal: usize) -> BevRecord
 
 // The number of a truth.
 fn truth_number(v: Truth) -> u8
-    ensures { result ≡ truthNumber v }
+    ensures { result ≡ truth_number v }
 {
     match v {
         Truth::No => 0,
@@ -119,7 +119,7 @@ fn truth_number(v: Truth) -> u8
 // The truth of a literal under a setting: 0 no, 1 yes, 2 unknown.
 #[unsafe(no_mangle)]
 pub extern "C" fn bev_evaluate(t: &[u8], literal: usize, s: &[u8]) -> BevTruth
-    ensures { result ≡ truthAnswer (evaluate t.now literal s.now) }
+    ensures { result ≡ truth_answer (evaluate t.now literal s.now) }
 {
     let c = truth::evaluate(t, literal, s);
     match c {
@@ -139,7 +139,7 @@ pub extern "C" fn bev_evaluate(t: &[u8], literal: usize, s: &[u8]) -> BevTruth
 // Adds a record of 8 bytes to the table in the used part of a buffer.
 #[unsafe(no_mangle)]
 pub extern "C" fn bev_add(buf: &mut [u8], used: usize, r: &[u8; 8]) -> BevAdded
-    ensures answered { result ≡ addAnswer (add buf.old used r.now) }
+    ensures answered { result ≡ add_answer (add buf.old used r.now) }
     ensures bytes { buf.new ≡ bytes_after buf.old (add buf.old used r.now) }
 {
     let c = adding::add(buf, used, *r);
@@ -258,7 +258,7 @@ pub struct BevTurned {
 // The first call for questions under one allowance: each search stands at its start, unfinished.
 #[unsafe(no_mangle)]
 pub extern "C" fn bev_rooms_open(t: &[u8], questions: &[u16], s: &[u8], w: &mut [u16]) -> BevTurned
-    ensures { OpensRooms t.now questions.now s.now w.old w.new (roomsAnswer result) }
+    ensures { OpensRooms t.now questions.now s.now w.old w.new (rooms_answer result) }
 {
     let v = rooms::open(t, questions, s, w);
     let turns = v.turns;
@@ -281,7 +281,7 @@ pub extern "C" fn bev_rooms_turn(
     w: &mut [u16],
     allowance: usize,
 ) -> BevTurned
-    ensures { TurnsRooms t.now questions.now s.old w.old allowance s.new w.new (roomsAnswer result) }
+    ensures { TurnsRooms t.now questions.now s.old w.old allowance s.new w.new (rooms_answer result) }
 {
     let v = rooms::turn(t, questions, s, w, allowance);
     let turns = v.turns;
@@ -305,7 +305,7 @@ pub struct BevDerived {
 
 // The version that a byte asks for: 0 is version one, any other value version two.
 fn version_asked(wanted: u8) -> Version
-    ensures { result ≡ versionAsked wanted }
+    ensures { result ≡ version_asked wanted }
 {
     if wanted == 0 {
         Version::One
@@ -323,7 +323,7 @@ pub extern "C" fn bev_derive(
     w: &mut [u16],
     d: &mut [u8],
 ) -> BevDerived
-    ensures { HostDerives (versionAsked wanted) t.now goals.now w.old d.old w.new d.new result }
+    ensures { HostDerives (version_asked wanted) t.now goals.now w.old d.old w.new d.new result }
 {
     let c = deriver::derive(version_asked(wanted), t, goals, w, d);
     match c {
@@ -418,7 +418,7 @@ pub struct BevOpened {
 
 // The number of a version.
 fn version_number(version: Version) -> u8
-    ensures { result ≡ versionNumber version }
+    ensures { result ≡ version_number version }
 {
     match version {
         Version::One => 1,
@@ -429,7 +429,7 @@ fn version_number(version: Version) -> u8
 // Opening a derivation: its step count and its version, or the first refusal of 40 to 44 and 65.
 #[unsafe(no_mangle)]
 pub extern "C" fn bev_open(d: &[u8]) -> BevOpened
-    ensures { result ≡ openAnswer (version_of d.now) (step_count d.now) }
+    ensures { result ≡ open_answer (version_of d.now) (step_count d.now) }
 {
     let c = steps::count(d);
     match c {
@@ -464,7 +464,7 @@ pub struct BevStep {
 // the step (rows 44 and 65).
 #[unsafe(no_mangle)]
 pub extern "C" fn bev_step(d: &[u8], index: usize) -> BevStep
-    ensures { result ≡ stepAnswer (step_handed d.now index) }
+    ensures { result ≡ step_answer (step_handed d.now index) }
 {
     let c = step_reader::step_of(d, index);
     match c {

@@ -10,7 +10,7 @@ use Rattle.scope.specs.declared.Node.{Node}
 use Rattle.scope.specs.Outcome.{Outcome, answer, refused, ◌>>◌, ◌>>=◌}
 use Rattle.scope.proofs.Tests.{refused_no}
 use Rattle.calculus.specs.Expansion.{expand}
-use Rattle.calculus.specs.Order.{Value, holds, fails, undecided, value_of, is_empty as allFalse, state_of, clauses}
+use Rattle.calculus.specs.Order.{Value, holds, fails, undecided, value_of, is_empty as are_all_false, state_of, clauses}
 use Rattle.calculus.specs.Model.{All, Table, Below, Fresh, Good}
 use Rattle.scope.proofs.Tests.{by_test}
 use Rattle.calculus.proofs.Lists.{all_get_d}
@@ -104,9 +104,9 @@ module _ (n : ℕ) (t : ℕ → Node) (goals : List ℕ) (T : Table n t) (B : Be
         let f : Fresh n b.G l = (ltb-true l (2 * n) i, is_undecided_lem (value_of b.G l) e) in
         ((f, g), ((neg-fresh n b.G l f, g), h))))
 
-    kept-unitTwo : (k : ℕ) → After Kept (unit_two (expand t) goals n k b waiting)
+    kept-unit_two : (k : ℕ) → After Kept (unit_two (expand t) goals n k b waiting)
     unfolding unit_two
-    kept-unitTwo k =
+    kept-unit_two k =
         after-given Kept (in_list (expand t) goals n b k) _
         (λ s. after_one Kept (state_of b.G (clause_at (expand t) goals n b k)) _
         (λ l e.
@@ -114,18 +114,18 @@ module _ (n : ℕ) (t : ℕ → Node) (goals : List ℕ) (T : Table n t) (B : Be
         all_get_d (Below n) (clauses (expand t) goals b.G) k [] tt (clauses-below n t T goals B b.G g) in
         ((one-says (λ m. m < 2 * n) b.G (clause_at (expand t) goals n b k) l below e, g), h)))
 
-    kept-conflictTwo : (k : ℕ) → After Kept (conflict_two (expand t) goals n k b waiting)
+    kept-conflict_two : (k : ℕ) → After Kept (conflict_two (expand t) goals n k b waiting)
     unfolding conflict_two
-    kept-conflictTwo k =
+    kept-conflict_two k =
         after-given Kept (in_list (expand t) goals n b k) _
-        (λ s. after-given Kept (allFalse (state_of b.G (clause_at (expand t) goals n b k))) _ (λ e. kept-turn waiting h))
+        (λ s. after-given Kept (are_all_false (state_of b.G (clause_at (expand t) goals n b k))) _ (λ e. kept-turn waiting h))
 
     kept-apply : (v : Version) (s : Step) → After Kept (apply_in (expand t) goals n v s b waiting)
     kept-apply One s =
         after-apply Kept (expand t) goals n s b waiting
         (kept-U s.value) (kept-R s.position s.value) (kept-E s.value) (kept-C s.value) (kept-S s.value)
     kept-apply Two s =
-        after_two Kept (expand t) goals n s b waiting (kept-unitTwo s.value) (kept-conflictTwo s.value) (kept-S s.value)
+        after_two Kept (expand t) goals n s b waiting (kept-unit_two s.value) (kept-conflict_two s.value) (kept-S s.value)
 
     kept-advance : (v : Version) (i : ℕ) (s : Step) → After Kept (advance v (expand t) goals n i s (running b waiting))
     kept-advance v i s = after-advance Kept (expand t) goals n s b waiting v i (kept-apply v s)

@@ -2,7 +2,7 @@
 use Rattle.std.specs.Prelude.{◌≡◌, refl, ℕ, replicate}
 use mathlib.Core.List.{List, [], ◌∷◌, map}
 use Rattle.scope.specs.Outcome.{Outcome, answer, refused, first}
-use Rattle.scope.specs.Block.{weight, weighted, check_of, check_ok, head_ok, zeros, padding_ok, block_test, seal, block_of, blocks_of, file_of as blocksFile, record_at, records_in}
+use Rattle.scope.specs.Block.{weight, weighted, check_of, check_ok, head_ok, zeros, padding_ok, block_test, seal, block_of, blocks_of, file_of as blocks_file, record_at, records_in}
 use Rattle.scope.specs.Table.{node_bytes, node_of, arity, operands, with_operands, form_ok, range_ok, order_ok, read_record, any_below, repeats, record_test, length_ok, block_rows, table_test, list_from, decode, encode}
 use Rattle.scope.specs.Calls.{decode_used, placed, sorted, ordered, turned, normalized, index_of, add_new, add_node, add}
 use Rattle.cnf.specs.Text.{File, behind_comments, starts_with, digits, value_from, heading, words_from, all_digits, positive, negative, word_of, clauses_from, file_of}
@@ -81,7 +81,7 @@ builds :
     ≡ answer (record { literal = 10; used = 512; bytes = encode (node 2 0 0 ∷ node 2 1 0 ∷ node 4 0 2 ∷ node 1 0 0 ∷ node 3 4 6 ∷ node 3 3 8 ∷ []) })
 unfolding behind_comments starts_with digits value_from heading words_from all_digits positive negative word_of clauses_from file_of points yes_literal
     no_literal holds distinct_from both_signs or_all or_clause clause and_join and_all goal_of build dimacs add add_node add_new decode_used arity operands
-    with_operands placed sorted ordered turned normalized index_of blocksFile blocks_of node_bytes mathlib.Core.List.flat_map block_of seal check_of weighted
+    with_operands placed sorted ordered turned normalized index_of blocks_file blocks_of node_bytes mathlib.Core.List.flat_map block_of seal check_of weighted
     weight check_ok head_ok zeros padding_ok block_test record_at records_in node_of form_ok range_ok order_ok read_record any_below repeats record_test length_ok
     block_rows table_test list_from decode first
 builds = refl

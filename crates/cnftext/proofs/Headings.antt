@@ -13,7 +13,7 @@ use Rattle.scope.specs.declared.Refusal.{Refusal}
 use Rattle.scope.specs.Outcome.{Outcome, answer, refused, require, ◌>>◌, ◌>>=◌}
 use Rattle.scope.proofs.Tests.{and_right, bound, passed_on}
 use Rattle.cnf.specs.Text.{starts_with, behind, all_digits, Counted, counted, Heading as Head, opening, space, feed, heading, words, clauses_from, File, file_of}
-use Rattle.cnfwords.specs.declared.Number.TheVariants.{Value, Malformed as None}
+use Rattle.cnfwords.specs.declared.Number.TheVariants.{Value, Malformed as Ill}
 use Rattle.cnfwords.specs.Words.{number_of, part}
 use Rattle.cnfwords.proofs.Numbers.{value_said, no_value}
 use Rattle.cnftext.specs.declared.Heading.{Heading}
@@ -38,7 +38,7 @@ module _ {text : List ℕ} {at end : ℕ} (x : ℕ) (d : Digits text at end) whe
   none-counts : refused 60 0 ≡ counted (x ∷ []) (drop at text) → Counts text at x NoNumber
   none-counts e = record { answered = e; within = λ v next q. absurd (let z : ◌≡◌ {A = ℕ} 0 1 = cc in omega arith) }
 
-  pub no_number : number_of (part text at end) ≡ None → Counts text at x NoNumber
+  pub no_number : number_of (part text at end) ≡ Ill → Counts text at x NoNumber
   no_number e =
       let all : all_digits (part text at end) ≡ true = rw d.run at (digits_all (drop at text)) in
       none-counts (rw (d.run, no_value (part text at end) all e))

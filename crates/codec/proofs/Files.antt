@@ -244,8 +244,8 @@ module _ (F : Format) (fits : Fits F) where
 
   -- the blocks of records
   module _ {A : Type 0} (bytes : A → List ℕ) (each : (a : A) → length (bytes a) ≡ F.width) where
-    abbrev blockWith : ℕ → List A → List ℕ
-    blockWith j rs = block_of F.letter (length (take F.capacity rs)) j (flat_map bytes (take F.capacity rs))
+    abbrev block_with : ℕ → List A → List ℕ
+    block_with j rs = block_of F.letter (length (take F.capacity rs)) j (flat_map bytes (take F.capacity rs))
 
     fit : (rs : List A) → length (take F.capacity rs) ≤ F.capacity
     fit rs = simp length-take (omega arith)
@@ -253,18 +253,18 @@ module _ (F : Format) (fits : Fits F) where
     body-size : (rs : List A) → length (flat_map bytes (take F.capacity rs)) ≤ 504
     body-size rs = omega (arith, flat-length bytes F.width each (take F.capacity rs), room_for (length (take F.capacity rs)) (fit rs))
 
-    length-blockWith : (j : ℕ) (rs : List A) → length (blockWith j rs) ≡ 512
-    length-blockWith j rs = length_block_of F.letter _ j (flat_map bytes (take F.capacity rs)) (omega (arith, body-size rs))
+    length-block_with : (j : ℕ) (rs : List A) → length (block_with j rs) ≡ 512
+    length-block_with j rs = length_block_of F.letter _ j (flat_map bytes (take F.capacity rs)) (omega (arith, body-size rs))
 
-    pub length-blocksOf : (k j : ℕ) (rs : List A) → length (blocks_of F bytes k j rs) ≡ 512 * k
+    pub length-blocks_of : (k j : ℕ) (rs : List A) → length (blocks_of F bytes k j rs) ≡ 512 * k
     unfolding blocks_of
-    length-blocksOf zero j rs = refl
-    length-blocksOf (suc k) j rs =
-        simp length-append (omega (arith, length-blockWith j rs, length-blocksOf k (suc j) (drop F.capacity rs)))
+    length-blocks_of zero j rs = refl
+    length-blocks_of (suc k) j rs =
+        simp length-append (omega (arith, length-block_with j rs, length-blocks_of k (suc j) (drop F.capacity rs)))
 
-    pub length-fileOf : (rs : List A) → length (file_of F bytes rs) ≡ 512 * blocks_for F (length rs)
+    pub length-file_of : (rs : List A) → length (file_of F bytes rs) ≡ 512 * blocks_for F (length rs)
     unfolding file_of
-    length-fileOf rs = length-blocksOf (blocks_for F (length rs)) 0 rs
+    length-file_of rs = length-blocks_of (blocks_for F (length rs)) 0 rs
 
     -- the blocks of bytes are bytes
     module _ (letter : F.letter < 256) (most : F.capacity < 256) (d : A) where
@@ -272,7 +272,7 @@ module _ (F : Format) (fits : Fits F) where
       unfolding blocks_of
       blocks-bytes zero j rs l h = bytes_nil
       blocks-bytes (suc k) j rs l h =
-          bytes_append (blockWith j rs) (blocks_of F bytes k (suc j) (drop F.capacity rs))
+          bytes_append (block_with j rs) (blocks_of F bytes k (suc j) (drop F.capacity rs))
           (bytes_block F.letter (length (take F.capacity rs)) j (flat_map bytes (take F.capacity rs)) (omega (arith, body-size rs))
           letter
           (omega (arith, fit rs))
@@ -289,10 +289,10 @@ module _ (F : Format) (fits : Fits F) where
       file-bytes rs few h = blocks-bytes (blocks_for F (length rs)) 0 rs (omega arith) h
 
     -- all but the first j blocks
-    drop-blocksOf : (j k i : ℕ) (rs : List A) → drop (512 * j) (blocks_of F bytes (j + k) i rs) ≡ blocks_of F bytes k (i + j) (drop (F.capacity * j) rs)
+    drop-blocks_of : (j k i : ℕ) (rs : List A) → drop (512 * j) (blocks_of F bytes (j + k) i rs) ≡ blocks_of F bytes k (i + j) (drop (F.capacity * j) rs)
     unfolding blocks_of
-    drop-blocksOf zero k i rs = rw (zero-add, add-zero, mul-zero)
-    drop-blocksOf (suc j) k i rs =
+    drop-blocks_of zero k i rs = rw (zero-add, add-zero, mul-zero)
+    drop-blocks_of (suc j) k i rs =
         let q : 512 * suc j ≡ 512 + 512 * j = omega arith in
         let c : F.capacity * suc j ≡ F.capacity + F.capacity * j = omega (arith, mul-suc F.capacity j) in
         let s : i + suc j ≡ suc i + j = omega arith in
@@ -301,11 +301,11 @@ module _ (F : Format) (fits : Fits F) where
           q,
           c,
           s,
-          ← drop-drop (512 * j) 512 (blockWith i rs ++ blocks_of F bytes (j + k) (suc i) (drop F.capacity rs)),
-          drop_at (blockWith i rs) (blocks_of F bytes (j + k) (suc i) (drop F.capacity rs)) 512 (length-blockWith i rs),
+          ← drop-drop (512 * j) 512 (block_with i rs ++ blocks_of F bytes (j + k) (suc i) (drop F.capacity rs)),
+          drop_at (block_with i rs) (blocks_of F bytes (j + k) (suc i) (drop F.capacity rs)) 512 (length-block_with i rs),
           ← drop-drop (F.capacity * j) F.capacity rs,
         )
-        (drop-blocksOf j k (suc i) (drop F.capacity rs))
+        (drop-blocks_of j k (suc i) (drop F.capacity rs))
 
     module _ (rs : List A) where
       -- the records of block j
@@ -317,19 +317,19 @@ module _ (F : Format) (fits : Fits F) where
           omega (arith, needed (length rs), mul-suc F.capacity j, mul-le-mul_left {m = suc j} {n = blocks_for F (length rs)} F.capacity h)
 
       from_block : (j : ℕ) → j < blocks_for F (length rs)
-          → (more : List ℕ) × (drop (512 * j) (file_of F bytes rs) ≡ blockWith j (drop (F.capacity * j) rs) ++ more)
+          → (more : List ℕ) × (drop (512 * j) (file_of F bytes rs) ≡ block_with j (drop (F.capacity * j) rs) ++ more)
       unfolding file_of blocks_of
       from_block j h =
           let k : ℕ = blocks_for F (length rs) - suc j in
           let q : blocks_for F (length rs) ≡ j + suc k = omega arith in (
             blocks_of F bytes k (suc j) (drop F.capacity (drop (F.capacity * j) rs)),
-            ap (λ (b : ℕ). drop (512 * j) (blocks_of F bytes b 0 rs)) q ∙ drop-blocksOf j (suc k) 0 rs ∙ rw zero-add,
+            ap (λ (b : ℕ). drop (512 * j) (blocks_of F bytes b 0 rs)) q ∙ drop-blocks_of j (suc k) 0 rs ∙ rw zero-add,
           )
 
       pub file-block : (j : ℕ) → j < blocks_for F (length rs) → block_at (file_of F bytes rs) j ≡ block_of F.letter (length (part j)) j (flat_map bytes (part j))
       file-block j h =
           let b = from_block j h in
-          rw b.1 (take_at (blockWith j (drop (F.capacity * j) rs)) b.0 512 (length-blockWith j (drop (F.capacity * j) rs)))
+          rw b.1 (take_at (block_with j (drop (F.capacity * j) rs)) b.0 512 (length-block_with j (drop (F.capacity * j) rs)))
 
       pub file-count : (j : ℕ) → j < blocks_for F (length rs) → get_or (block_at (file_of F bytes rs) j) 1 0 ≡ length (part j)
       file-count j h =
@@ -352,7 +352,7 @@ module _ (F : Format) (fits : Fits F) where
       file-passes j h =
           let most : length (part j) ≤ F.capacity = fit (drop (F.capacity * j) rs) in
           rw file-block
-          (passes F (blockWith j (drop (F.capacity * j) rs)) j (eqb (suc j) (blocks_for F (length rs)))
+          (passes F (block_with j (drop (F.capacity * j) rs)) j (eqb (suc j) (blocks_for F (length rs)))
           (block_passes F (length (part j)) j (flat_map bytes (part j)) (eqb (suc j) (blocks_for F (length rs)))
           (omega (arith, length_part j, before j h, fits.some))
           most
@@ -364,7 +364,7 @@ module _ (F : Format) (fits : Fits F) where
       some-blocks some = lt_of_mul-lt-mul_left F.capacity (rw mul-zero (omega (arith, enough (length rs))))
 
       pub file-blocks : length (file_of F bytes rs) / 512 ≡ blocks_for F (length rs)
-      file-blocks = omega (arith, length-fileOf rs)
+      file-blocks = omega (arith, length-file_of rs)
 
       -- as many records as were put in
       pub file-records : 0 < length rs → records_in F (file_of F bytes rs) ≡ length rs
@@ -387,7 +387,7 @@ module _ (F : Format) (fits : Fits F) where
           let place : c * j + i ≡ n = div-add-mod n c in
           let low : i < c = mod-lt n fits.some in
           let b = from_block j (lt_of_mul-lt-mul_left c (omega (arith, enough (length rs)))) in
-          let block : List ℕ = blockWith j (drop (c * j) rs) in
+          let block : List ℕ = block_with j (drop (c * j) rs) in
           let body : List ℕ = flat_map bytes (part j) in
           let short : length body ≤ 506 = omega (arith, body-size (drop (c * j) rs)) in
           let in-part : i < length (part j) = omega (arith, length_part j) in
@@ -397,7 +397,7 @@ module _ (F : Format) (fits : Fits F) where
             ← drop-drop (4 + w * i) (512 * j) (file_of F bytes rs),
             b.1,
             ← drop-drop (w * i) 4 (block ++ b.0),
-            drop-append-le 4 block b.0 (omega (arith, length-blockWith j (drop (c * j) rs))),
+            drop-append-le 4 block b.0 (omega (arith, length-block_with j (drop (c * j) rs))),
             body_of F.letter (length (part j)) j body short,
           )
           (within (w * i) w body _ b.0 whole

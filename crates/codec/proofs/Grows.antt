@@ -13,7 +13,7 @@ use Rattle.scope.specs.Block.{block_of, blocks_of, file_of}
 use Rattle.scope.specs.Table.{tables, node_bytes, encode}
 use Rattle.codec.specs.Valid.{Fits, front, rest}
 use Rattle.codec.proofs.Blocks.{length_block_of}
-use Rattle.codec.proofs.Files.{room_for, flat_append, flat-length, in_block, blocks_for_lem, blocks_for, length-blocksOf}
+use Rattle.codec.proofs.Files.{room_for, flat_append, flat-length, in_block, blocks_for_lem, blocks_for, length-blocks_of}
 use Rattle.codec.proofs.Records.{length-node_bytes}
 use Rattle.codec.proofs.Tables.{fits}
 
@@ -58,7 +58,7 @@ module _ (F : Format) (fit : Fits F) {A : Type 0} (bytes : A → List ℕ) (each
 
     pub length_front : length (front F bytes rs) ≡ 512 * (length rs / F.capacity)
     unfolding front
-    length_front = length-blocksOf F fit bytes each (length rs / F.capacity) 0 fulls
+    length_front = length-blocks_of F fit bytes each (length rs / F.capacity) 0 fulls
 
     pub length_rest : length (rest F bytes rs) ≡ F.width * (length rs % F.capacity)
     unfolding rest

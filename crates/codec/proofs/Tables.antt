@@ -21,7 +21,7 @@ use Rattle.codec.specs.Valid.{Bytes, Fits, Valid}
 use Rattle.codec.proofs.Rows.{row, passed_on}
 use Rattle.codec.proofs.Bytes.{listed_all, bytes_take, bytes_drop}
 use Rattle.codec.proofs.Blocks.{Passed}
-use Rattle.codec.proofs.Files.{by_last, whole_length, file_is, tested, records-are, block_of_lem as record-block, length-fileOf, file-blocks, file-count, file-passes, file-records, file-record, file-bytes}
+use Rattle.codec.proofs.Files.{by_last, whole_length, file_is, tested, records-are, block_of_lem as record-block, length-file_of, file-blocks, file-count, file-passes, file-records, file-record, file-bytes}
 use Rattle.codec.proofs.Records.{length-node_bytes, node_of_bytes, reads, record_bytes, small, bytes_node}
 
 pub fits : Fits tables
@@ -146,7 +146,7 @@ module _ (t : List ℕ) (rs : List Node) (all : Bytes t) (e : decode t ≡ answe
       }
 
 pub length-encode : (rs : List Node) → length (encode rs) ≡ 512 * ((length rs + 62) / 63)
-length-encode rs = length-fileOf tables fits node_bytes length-node_bytes rs
+length-encode rs = length-file_of tables fits node_bytes length-node_bytes rs
 
 -- valid nodes
 module _ (rs : List Node) (valid : Valid rs) where

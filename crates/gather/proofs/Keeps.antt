@@ -10,7 +10,7 @@ use borrow.Rule.Slice.PartMut.{mid_of, put_mid}
 use Rattle.scope.specs.Block.{block_of, file_of}
 use Rattle.codec.specs.Valid.{front, rest}
 use Rattle.codec.proofs.Bytes.{drop-take}
-use Rattle.codec.proofs.Files.{flat_append, length-fileOf}
+use Rattle.codec.proofs.Files.{flat_append, length-file_of}
 use Rattle.codec.proofs.Grows.{length_front, last_block, grown, all-full}
 use Rattle.writer.proofs.Parts.{part_back}
 use Rattle.rules.specs.declared.Step.{Step}
@@ -114,7 +114,7 @@ module _ (letter : ℕ) (ss : List Step) (d : List ℕ) (block : List ℕ) {out 
 
 module _ (letter : ℕ) (ss : List Step) where
   length_file : length (file letter ss) ≡ 512 * ((length ss + 125) / 126)
-  length_file = length-fileOf (lettered letter) (fits letter) step_bytes length-step ss
+  length_file = length-file_of (lettered letter) (fits letter) step_bytes length-step ss
 
   pub encode_partial : 0 < length ss % 126
       → (file letter ss ≡ fulls letter ss ++ block_of letter (length ss % 126) (length ss / 126) (others letter ss)) × (length (file letter ss) ≡ 512 * (length ss / 126 + 1))

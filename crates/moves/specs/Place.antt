@@ -9,7 +9,7 @@ use Rattle.calculus.specs.declared.Move.TheVariants.{Conflict, Unit as Single, D
 use Rattle.clause.specs.declared.Clause.{Clause}
 use Rattle.moves.specs.declared.Forced.{Forced}
 use Rattle.moves.specs.declared.Choice.{Choice}
-use Rattle.moves.specs.declared.Choice.TheVariants.{Done as None, Split as Forks}
+use Rattle.moves.specs.declared.Choice.TheVariants.{Done as NoMove, Split as Forks}
 use Rattle.clause.specs.Literals.{literals}
 use Rattle.clause.specs.Coded.{is_open, Coded}
 use Rattle.state.specs.Work.{tail, lit_at, base_of, g_of, value_code, cursor_of, place_of}
@@ -81,7 +81,7 @@ forced_move f = Single f.number f.literal
 
 -- the move of a choice
 abbrev pub choice_move : Choice → Move
-choice_move None = Done
+choice_move NoMove = Done
 choice_move (Forks l) = Split l
 
 -- the next move is m, on clause j of the literal at position q

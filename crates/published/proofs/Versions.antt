@@ -10,7 +10,7 @@ use borrow.Author.Tests.{ltb-true, eqb-true}
 use Rattle.scope.specs.Outcome.{answer, fine}
 use Rattle.scope.proofs.Tests.{refused_no, by_test, bound, then_first, then_next}
 use Rattle.calculus.specs.Expansion.{neg}
-use Rattle.calculus.specs.Order.{Value, holds, fails, undecided, value_of, State, met, empty, one, many, is_empty as allFalse, state_of, clauses}
+use Rattle.calculus.specs.Order.{Value, holds, fails, undecided, value_of, State, met, empty, one, many, is_empty as are_all_false, state_of, clauses}
 use Rattle.calculus.proofs.Moves.{ClauseIs}
 use Rattle.rules.specs.declared.Step.{Step}
 use Rattle.rules.specs.declared.Version.{Version}
@@ -18,7 +18,7 @@ use Rattle.rules.specs.declared.Version.TheVariants.{One, Two}
 use Rattle.rules.specs.Rules.{Branch, root, join, is_undecided, Progress, running, complete, turn, names, body, the_one, given, clause_at, in_list, rule_s, unit_two, conflict_two, apply_two, advance, ended, run, accepts}
 use Rattle.rules.proofs.Laws.{run_step}
 use Rattle.rules.proofs.Names.{accepted-runs}
-use Rattle.published.specs.Published.{Sequent, Rule, UNIT, RED, ELIM, CONFLICT, SPLIT, Derivation, by, Derivations, none, more, rulesOf, rulesIn, Propagates, stop, red, eliminate}
+use Rattle.published.specs.Published.{Sequent, Rule, UNIT, RED, ELIM, CONFLICT, SPLIT, Derivation, by, Derivations, none, more, rules_of, rules_in, Propagates, stop, red, eliminate}
 use Rattle.published.specs.Reading.{open_of, rule_of, main_rules, Published}
 use Rattle.published.specs.Moves.{searched}
 use Rattle.published.proofs.Moves.{propagates, propagated, follows-conflict, follows_unit, follows-split}
@@ -37,20 +37,20 @@ main_append (SPLIT ∷ rs) qs = ap (SPLIT ∷◌) (main_append rs qs)
 
 -- propagation writes none
 main_propagated : {ex : ℕ → List (List ℕ)} {s t : Sequent ℕ} (p : Propagates neg ex s t) (d : Derivation neg ex t)
-    → main_rules (rulesOf (propagated p d)) ≡ main_rules (rulesOf d)
-unfolding rulesOf main_rules propagated
+    → main_rules (rules_of (propagated p d)) ≡ main_rules (rules_of d)
+unfolding rules_of main_rules propagated
 main_propagated stop d = refl
-main_propagated (red i p) d = ap main_rules (append-nil (rulesOf (propagated p d))) ∙ main_propagated p d
-main_propagated (eliminate i p) d = ap main_rules (append-nil (rulesOf (propagated p d))) ∙ main_propagated p d
+main_propagated (red i p) d = ap main_rules (append-nil (rules_of (propagated p d))) ∙ main_propagated p d
+main_propagated (eliminate i p) d = ap main_rules (append-nil (rules_of (propagated p d))) ∙ main_propagated p d
 
 -- .. before the rules R
 main_through : {ex : ℕ → List (List ℕ)} {s t : Sequent ℕ} (p : Propagates neg ex s t) (d : Derivation neg ex t) (R : List Rule)
-    → main_rules ((rulesOf (propagated p d) ++ []) ++ R) ≡ main_rules (rulesOf d ++ R)
+    → main_rules ((rules_of (propagated p d) ++ []) ++ R) ≡ main_rules (rules_of d ++ R)
 main_through p d R = simp (main_append, append-nil, main_propagated p d)
 
 main_through₂ : {ex : ℕ → List (List ℕ)} {s t s' t' : Sequent ℕ} (p : Propagates neg ex s t) (d : Derivation neg ex t)
     (p' : Propagates neg ex s' t') (d' : Derivation neg ex t') (R : List Rule)
-    → main_rules ((rulesOf (propagated p d) ++ (rulesOf (propagated p' d') ++ [])) ++ R) ≡ main_rules (rulesOf d ++ (rulesOf d' ++ R))
+    → main_rules ((rules_of (propagated p d) ++ (rules_of (propagated p' d') ++ [])) ++ R) ≡ main_rules (rules_of d ++ (rules_of d' ++ R))
 main_through₂ p d p' d' R = simp (main_append, append-nil, append_assoc, main_propagated p d, main_propagated p' d')
 
 -- ---- what a step of version two was
@@ -66,7 +66,7 @@ the_one_lem empty l e = refused_no e
 the_one_lem (one m) l e = cc
 the_one_lem (many m) l e = refused_no e
 
-all_false : (s : State) → allFalse s ≡ true → s ≡ empty
+all_false : (s : State) → are_all_false s ≡ true → s ≡ empty
 all_false met e = absurd (false≢true e)
 all_false empty e = refl
 all_false (one l) e = absurd (false≢true e)
@@ -104,8 +104,8 @@ module _ (ex : ℕ → List (List ℕ)) (goals : List ℕ) (nodes : ℕ) where
         let k = s.value in
         let h = ltb-true k (length (clauses ex goals b.G)) (given_is (in_list ex goals nodes b k) (then_first (given (in_list ex goals nodes b k)) _ e)) in
         let r = then_next (given (in_list ex goals nodes b k)) _ e in
-        let f = given_is (allFalse (state_of b.G (clause_at ex goals nodes b k))) (then_first (given (allFalse (state_of b.G (clause_at ex goals nodes b k)))) (answer (turn waiting)) r) in
-        let z : answer (turn waiting) ≡ answer p = then_next (given (allFalse (state_of b.G (clause_at ex goals nodes b k)))) (answer (turn waiting)) r in
+        let f = given_is (are_all_false (state_of b.G (clause_at ex goals nodes b k))) (then_first (given (are_all_false (state_of b.G (clause_at ex goals nodes b k)))) (answer (turn waiting)) r) in
+        let z : answer (turn waiting) ≡ answer p = then_next (given (are_all_false (state_of b.G (clause_at ex goals nodes b k)))) (answer (turn waiting)) r in
         let y : turn waiting ≡ p = cc in
         subst (Taken s b waiting) y (conflict k (letter 67 CONFLICT refl q) (h, all_false (state_of b.G (clause_at ex goals nodes b k)) f))
 
@@ -134,7 +134,7 @@ module _ (ex : ℕ → List (List ℕ)) (goals : List ℕ) (nodes : ℕ) where
 
   -- derivations of the sequents of branches, whose written rules are those of these steps
   abbrev Derived : List Branch → List Step → Type 0
-  Derived bs ss = (ds : Derivations neg ex (map sequent_in bs)) × (main_rules (rulesIn ds) ≡ map rule_of ss)
+  Derived bs ss = (ds : Derivations neg ex (map sequent_in bs)) × (main_rules (rules_in ds) ≡ map rule_of ss)
 
   turn_open : (waiting : List Branch) → open_of (turn waiting) ≡ waiting
   turn_open [] = refl
@@ -142,21 +142,21 @@ module _ (ex : ℕ → List (List ℕ)) (goals : List ℕ) (nodes : ℕ) where
 
   derived-step : (s : Step) (ss : List Step) (b : Branch) (waiting : List Branch) {p : Progress} → Taken s b waiting p → Derived (open_of p) ss
       → Derived (b ∷ waiting) (s ∷ ss)
-  unfolding rulesOf main_rules
+  unfolding rules_of main_rules
   derived-step s ss b waiting (unit k l r q) (more d ds, e) =
       let x = follows_unit ex goals b.G k l q in
-      (more (by UNIT x.1 (more (propagated x.2 d) none)) ds, ap₂ ◌∷◌ (sym r) (main_through x.2 d (rulesIn ds) ∙ e))
+      (more (by UNIT x.1 (more (propagated x.2 d) none)) ds, ap₂ ◌∷◌ (sym r) (main_through x.2 d (rules_in ds) ∙ e))
   derived-step s ss b waiting (conflict k r q) d =
       let c : Derived waiting ss = subst (λ (bs : List Branch). Derived bs ss) (turn_open waiting) d in
       (more (by CONFLICT (follows-conflict ex goals b.G k q) none) c.0, ap₂ ◌∷◌ (sym r) c.1)
   derived-step s ss b waiting (split l r u) (more d (more c ds), e) =
       let x = follows-split ex goals b.G l u in (
         more (by SPLIT x.2 (more (propagated x.3 d) (more (propagated x.4 c) none))) ds,
-        ap₂ ◌∷◌ (sym r) (main_through₂ x.3 d x.4 c (rulesIn ds) ∙ e),
+        ap₂ ◌∷◌ (sym r) (main_through₂ x.3 d x.4 c (rules_in ds) ∙ e),
       )
 
   run_derives : (ss : List Step) (i : ℕ) (p : Progress) → run Two ex goals nodes i ss p ≡ fine → Derived (open_of p) ss
-  unfolding run ended advance rulesOf main_rules
+  unfolding run ended advance rules_of main_rules
   run_derives [] i (running b waiting) e = refused_no e
   run_derives [] i complete e = (none, refl)
   run_derives (s ∷ ss) i complete e = refused_no e
@@ -167,10 +167,10 @@ module _ (ex : ℕ → List (List ℕ)) (goals : List ℕ) (nodes : ℕ) where
   -- ---- accepted steps are a derivation, after those that name goals
 
   from-root : (ss : List Step) → Derived (root ∷ []) ss → Published Two ex goals ss
-  unfolding clauses rulesOf
+  unfolding clauses rules_of
   from-root ss (more d none, e) = (
     propagated (propagates ex [] (map (◌∷ []) goals)) d,
-    main_propagated (propagates ex [] (map (◌∷ []) goals)) d ∙ ap main_rules (sym (append-nil (rulesOf d))) ∙ e,
+    main_propagated (propagates ex [] (map (◌∷ []) goals)) d ∙ ap main_rules (sym (append-nil (rules_of d))) ∙ e,
   )
 
   pub accepted_derives : (v : Version) (ss : List Step) → accepts v ex goals nodes ss ≡ fine → Published v ex goals (body ss)

@@ -68,12 +68,12 @@ mutual
 -- the rules of a tree from the root up, the left branch of a SPLIT before the right
 module _ {L : Type 0} {bar : L → L} {expand : L → List (List L)} where
   unfoldable mutual
-    pub rulesOf : {s : Sequent L} → Derivation bar expand s → List Rule
-    rulesOf (by r i ds) = r ∷ rulesIn ds
+    pub rules_of : {s : Sequent L} → Derivation bar expand s → List Rule
+    rules_of (by r i ds) = r ∷ rules_in ds
 
-    pub rulesIn : {ss : List (Sequent L)} → Derivations bar expand ss → List Rule
-    rulesIn none = []
-    rulesIn (more d ds) = rulesOf d ++ rulesIn ds
+    pub rules_in : {ss : List (Sequent L)} → Derivations bar expand ss → List Rule
+    rules_in none = []
+    rules_in (more d ds) = rules_of d ++ rules_in ds
 
 -- 'ELIM and RED each perform one kind of boolean constraint propagation by simplifying the current set of clauses': a chain of the two
 pub data Propagates {L : Type 0} (bar : L → L) (expand : L → List (List L)) : Sequent L → Sequent L → Type 0 where

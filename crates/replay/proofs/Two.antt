@@ -8,7 +8,7 @@ use borrow.Author.Tests.{eq-eqb, ne_eqb, lt-ltb, le-ltb}
 use Rattle.scope.specs.declared.Node.{Node}
 use Rattle.scope.specs.Outcome.{Outcome, answer, refused, ◌>>◌, ◌>>=◌}
 use Rattle.calculus.specs.Expansion.{expand}
-use Rattle.calculus.specs.Order.{State, empty, one, is_empty as allFalse, state_of, clauses}
+use Rattle.calculus.specs.Order.{State, empty, one, is_empty as are_all_false, state_of, clauses}
 use Rattle.calculus.specs.Model.{Table, Below, Fresh}
 use Rattle.calculus.proofs.Lists.{all_get_d}
 use Rattle.calculus.proofs.Fresh.{clauses-below}
@@ -35,7 +35,7 @@ module _ (t : ℕ → Node) (n : ℕ) (w : List ℕ) (few : n ≤ most_nodes) (k
   joins goals b ws = the_one (stated goals b) >>= λ l. answer (running (join l b) ws)
 
   abbrev closes : Rule
-  closes goals b ws = given (allFalse (stated goals b)) >> answer (turn ws)
+  closes goals b ws = given (are_all_false (stated goals b)) >> answer (turn ws)
 
   -- the clause is not in the list
   module _ (z : clause_count w ≤ k) where
@@ -86,18 +86,18 @@ module _ (t : ℕ → Node) (n : ℕ) (w : List ℕ) (few : n ≤ most_nodes) (k
 
     -- ---- C
 
-    pub conflict-fails : allFalse x ≡ false → Ruled t n (λ goals. conflict_two (expand t) goals n k) w w Failed
+    pub conflict-fails : are_all_false x ≡ false → Ruled t n (λ goals. conflict_two (expand t) goals n k) w w Failed
     unfolding conflict_two
     conflict-fails q =
         passes t n w listed closes w Failed inside
-        (fails t n w (λ goals b. allFalse (stated goals b)) (λ goals b ws. answer (turn ws)) (λ goals s h. ap allFalse (told goals s h) ∙ q))
+        (fails t n w (λ goals b. are_all_false (stated goals b)) (λ goals b ws. answer (turn ws)) (λ goals s h. ap are_all_false (told goals s h) ∙ q))
 
     pub conflict-turns : (w' : List ℕ) (r : Status) → x ≡ empty → Ruled t n (λ goals b ws. answer (turn ws)) w w' r
         → Ruled t n (λ goals. conflict_two (expand t) goals n k) w w' r
     unfolding conflict_two
     conflict-turns w' r q R =
         passes t n w listed closes w' r inside
-        (passes t n w (λ goals b. allFalse (stated goals b)) (λ goals b ws. answer (turn ws)) w' r (λ goals s h. ap allFalse (told goals s h ∙ q)) R)
+        (passes t n w (λ goals b. are_all_false (stated goals b)) (λ goals b ws. answer (turn ws)) w' r (λ goals s h. ap are_all_false (told goals s h ∙ q)) R)
 
 -- ---- the rule of a step's letter
 

@@ -11,7 +11,7 @@ ghost use Rattle.index.specs.Indexed.{Indexed};
 ghost use Rattle.units.specs.Units.{words};
 ghost use Rattle.state.specs.Work.{g_of, Ready};
 ghost use Rattle.turns.specs.Turn.{running, number_of, turn, times};
-ghost use Rattle.turns.specs.Round.{seek as seekFrom, up_next};
+ghost use Rattle.turns.specs.Round.{seek as seek_from, up_next};
 ghost use Rattle.replaying.specs.Standing.{stack_size, Stands, Turned};
 ghost use Rattle.roomareas.specs.Areas.{area_size, points_size, part_of, goals_of, search_in};
 ghost use Rattle.roomareas.specs.Changes.{most_questions, Roomy, Lendable, MadeAt, search_at, Sits};
@@ -39,7 +39,7 @@ const UNFINISHED: u8 = 2;
 // The first unfinished question from one on, up to another.
 fn seek(verdicts: &[u8], from: usize, to: usize) -> usize
     requires { to ≤ length verdicts.now }
-    ensures { result ≡ seekFrom (runs_by verdicts.now) from (to - from) }
+    ensures { result ≡ seek_from (runs_by verdicts.now) from (to - from) }
 {
     let mut i = from;
     while i < to {

@@ -14,7 +14,7 @@ use Rattle.scope.specs.declared.Node.{Node}
 use Rattle.scope.specs.Truth.{classical}
 use Rattle.scope.proofs.Tests.{and_left, refused_no}
 use Rattle.calculus.specs.Expansion.{neg, expand}
-use Rattle.calculus.specs.Order.{Value, holds, fails, undecided, value_of, mem, State, met, empty, one, many, is_empty as allFalse, joined, state_of, clauses}
+use Rattle.calculus.specs.Order.{Value, holds, fails, undecided, value_of, mem, State, met, empty, one, many, is_empty as are_all_false, joined, state_of, clauses}
 use Rattle.calculus.specs.Model.{All, Table, lit_true, Model, AllTrue, Below}
 use Rattle.calculus.proofs.Lists.{all_append, all_at, all_imply, all_zip, all_map}
 use Rattle.calculus.proofs.Stays.{one_undecided}
@@ -283,21 +283,21 @@ module _ (expand : ℕ → List (List ℕ)) (goals : List ℕ) (nodes : ℕ) (Tr
         sides (inr t) (inl g) = inr (inl (t, g))
         sides t (inr g) = inr (inr g)
 
-    live-unitTwo : (k : ℕ) → LiveAfter (unit_two expand goals nodes k b waiting)
+    live-unit_two : (k : ℕ) → LiveAfter (unit_two expand goals nodes k b waiting)
     unfolding unit_two
-    live-unitTwo k =
+    live-unit_two k =
         after-given Live (in_list expand goals nodes b k) _
         (λ h. after_one Live (state_of b.G (clause expand goals nodes b k)) _
         (λ l e. live-unit k l (join l b) (ltb-true k (length (clauses expand goals b.G)) h) e refl refl))
 
-    live-conflictTwo : (k : ℕ) → LiveAfter (conflict_two expand goals nodes k b waiting)
+    live-conflict_two : (k : ℕ) → LiveAfter (conflict_two expand goals nodes k b waiting)
     unfolding conflict_two
-    live-conflictTwo k =
+    live-conflict_two k =
         after-given Live (in_list expand goals nodes b k) _
-        (λ h. after-given Live (allFalse (state_of b.G (clause expand goals nodes b k))) _
+        (λ h. after-given Live (are_all_false (state_of b.G (clause expand goals nodes b k))) _
         (λ e. live-conflict k (ltb-true k (length (clauses expand goals b.G)) h) (all_false (state_of b.G (clause expand goals nodes b k)) e)))
       where
-        all_false : (s : State) → allFalse s ≡ true → s ≡ empty
+        all_false : (s : State) → are_all_false s ≡ true → s ≡ empty
         all_false met e = absurd (false≢true e)
         all_false empty e = refl
         all_false (one l) e = absurd (false≢true e)
@@ -308,7 +308,7 @@ module _ (expand : ℕ → List (List ℕ)) (goals : List ℕ) (nodes : ℕ) (Tr
         after-apply Live expand goals nodes s b waiting
         (live-U s.value) (live-R s.position s.value) (live-E s.value) (live-C s.value) (live-S s.value)
     live-apply Two s =
-        after_two Live expand goals nodes s b waiting (live-unitTwo s.value) (live-conflictTwo s.value) (live-S s.value)
+        after_two Live expand goals nodes s b waiting (live-unit_two s.value) (live-conflict_two s.value) (live-S s.value)
 
   -- ---- so does a run, which therefore does not complete
 

@@ -3,7 +3,7 @@
 use Rattle.std.specs.Prelude.{List, [], ◌∷◌, Bool, true, false, cond, not, ◌&&◌, ◌||◌, ℕ, suc, ◌*◌, eqb, ltb, length, get_or}
 use Rattle.scope.specs.Outcome.{Outcome, answer, refused, require, fine, ◌>>◌, ◌>>=◌}
 use Rattle.calculus.specs.Expansion.{neg}
-use Rattle.calculus.specs.Order.{Value, holds, fails, undecided, value_of, mem, State, met, empty, one, many, state_of, is_empty as allFalse, clauses}
+use Rattle.calculus.specs.Order.{Value, holds, fails, undecided, value_of, mem, State, met, empty, one, many, state_of, is_empty as are_all_false, clauses}
 use Rattle.rules.specs.declared.Step.{Step}
 use Rattle.rules.specs.declared.Version.{Version}
 use Rattle.rules.specs.declared.Version.TheVariants.{One, Two}
@@ -212,7 +212,7 @@ module _ (expand : ℕ → List (List ℕ)) (goals : List ℕ) (nodes : ℕ) whe
   unfoldable pub conflict_two : ℕ → Branch → List Branch → Outcome Progress
   conflict_two k b waiting =
       given (in_list b k)
-      >> (given (allFalse (state_of b.G (clause_at b k)))
+      >> (given (are_all_false (state_of b.G (clause_at b k)))
       >> answer (turn waiting))
 
   -- the rule of a step's letter, in version two, which has no other: row 65 is before this

@@ -30,7 +30,7 @@ use Rattle.rules.specs.Derive.{derivation_of, Derived as Given, derived as given
 use Rattle.steps.proofs.Encode.{length-encode_steps, encode_version, encode-steps-read}
 use Rattle.text.specs.Text.{ascii, digits_of}
 use Rattle.text.specs.Listing.{heading, node_line, node_lines}
-use Rattle.samples.specs.Samples.{nodes_a, table_a, Sample, alone, possible, derived, checked, may_read, tooLong, pointReads, pointOver, prints, splits_in, Holds, rows}
+use Rattle.samples.specs.Samples.{nodes_a, table_a, Sample, alone, possible, derived, checked, may_read, too_long, point_reads, point_over, prints, splits_in, Holds, rows}
 use Rattle.samples.proofs.Full.{nodes_full, valid_full, length_full}
 use mathlib.Core.List
 
@@ -73,9 +73,9 @@ Fact (derived v goal ss) =
     × (end_answer (jump_a goal).end ≡ impossible) × (stopped (jump_a goal).splits ≡ splits_in ss)
 Fact (checked v goal ss number place) = (ltb goal 20 ≡ true) × (one_block v ss ≡ true) × (rules_a v goal ss ≡ refused number place)
 Fact (may_read bytes) = bytes ≡ 16384
-Fact (tooLong bytes number) = (length_ok bytes ≡ false) × (number ≡ 10)
-Fact (pointReads p) = Holds (pointReads p)
-Fact (pointOver p number) = Holds (pointOver p number)
+Fact (too_long bytes number) = (length_ok bytes ≡ false) × (number ≡ 10)
+Fact (point_reads p) = Holds (point_reads p)
+Fact (point_over p number) = Holds (point_over p number)
 Fact (prints rs text) = Holds (prints rs text)
 
 -- derive's rows of 31 and its answer, of steps
@@ -151,9 +151,9 @@ holds (possible goal p q) f = finds goal f.0 p q (end_answer (jump_a goal).end) 
 holds (derived v goal ss) f = derives goal f.0 v ss f.1 f.2 f.3 f.4 f.5 f.6
 holds (checked v goal ss number place) f = λ w area. checks goal f.0 v ss f.1 w area ∙ f.2
 holds (may_read bytes) f = (encode nodes_full, nodes_full, length_full ∙ sym f, encode-reads nodes_full valid_full)
-holds (tooLong bytes number) f = λ t size. refuses t (ap length_ok size ∙ f.0) ∙ ap (λ (n : ℕ). refused n 0) (sym f.1)
-holds (pointReads p) f = f
-holds (pointOver p number) f = f
+holds (too_long bytes number) f = λ t size. refuses t (ap length_ok size ∙ f.0) ∙ ap (λ (n : ℕ). refused n 0) (sym f.1)
+holds (point_reads p) f = f
+holds (point_over p number) f = f
 holds (prints rs text) f = f
 
 -- what is computed for a row, and for the rows after it

@@ -68,9 +68,9 @@ pub data Sample : Type 0 where
   checked : Version → ℕ → List Step → ℕ → ℕ → Sample
   -- 'Edges': so many bytes may read; so many are refused; a point reads; a point is refused
   may_read : ℕ → Sample
-  tooLong : ℕ → ℕ → Sample
-  pointReads : ℕ → Sample
-  pointOver : ℕ → ℕ → Sample
+  too_long : ℕ → ℕ → Sample
+  point_reads : ℕ → Sample
+  point_over : ℕ → ℕ → Sample
   -- 'The listing program': what it prints for a table of nodes
   prints : List Node → String → Sample
 
@@ -99,9 +99,9 @@ Holds (possible goal p q) = (s w : List ℕ) → 1024 ≤ length s → 32768 ≤
 Holds (derived v goal ss) = Derived v goal ss
 Holds (checked v goal ss number place) = (w : List ℕ) → 32768 ≤ length w → check table_a (goal ∷ []) w (encode_steps v ss) ≡ refused number place
 Holds (may_read bytes) = (t : List ℕ) × (rs : List Node) × (length t ≡ bytes) × (decode t ≡ answer rs)
-Holds (tooLong bytes number) = (t : List ℕ) → length t ≡ bytes → decode t ≡ refused number 0
-Holds (pointReads p) = decode (encode (ATOM p ∷ [])) ≡ answer (ATOM p ∷ [])
-Holds (pointOver p number) = decode (encode (ATOM p ∷ [])) ≡ refused number 0
+Holds (too_long bytes number) = (t : List ℕ) → length t ≡ bytes → decode t ≡ refused number 0
+Holds (point_reads p) = decode (encode (ATOM p ∷ [])) ≡ answer (ATOM p ∷ [])
+Holds (point_over p number) = decode (encode (ATOM p ∷ [])) ≡ refused number 0
 Holds (prints rs text) = listing (encode rs) ≡ ascii text
 
 abbrev pub rows : List Sample
@@ -142,9 +142,9 @@ rows =
     ∷ checked Two 13 (G 13 ∷ U 0 ∷ C 0 ∷ []) 45 2
     -- 'Edges: 16,384 bytes may read, 16,896 is 10; point 1,023 reads, 1,024 is 15.'
     ∷ may_read 16384
-    ∷ tooLong 16896 10
-    ∷ pointReads 1023
-    ∷ pointOver 1024 15
+    ∷ too_long 16896 10
+    ∷ point_reads 1023
+    ∷ point_over 1024 15
     -- 'For TRUE alone': the listing
     ∷ prints (TRUE ∷ []) "node yes no\n0 possible impossible\n"
     ∷ []

@@ -363,13 +363,13 @@ module _ {t : ℕ → Node} {n : ℕ} {goals w m w₁ k₁ m₁ : List ℕ} {r :
     left-sets = put_slots P.sets left-put (omega arith)
 
     -- the search of the right side, by what the left conflict rests on
-    abbrev rightOf : Rests → Jumped
-    rightOf s = jump 128 (expand t) goals (n - suc (length (g_of w₁))) (suc d) (hold (neg l) (less d s) ∷ held_of m₁ (g_of w₁))
+    abbrev right_of : Rests → Jumped
+    right_of s = jump 128 (expand t) goals (n - suc (length (g_of w₁))) (suc d) (hold (neg l) (less d s) ∷ held_of m₁ (g_of w₁))
 
-    whole : jumped_from t n goals d m (g_of w) ≡ sides 128 d (jumped_from t n goals (suc d) m₂ (l ∷ g_of w₁)) rightOf
+    whole : jumped_from t n goals d m (g_of w) ≡ sides 128 d (jumped_from t n goals (suc d) m₂ (l ∷ g_of w₁)) right_of
     whole =
         sym (P.same d) ∙ from-split t n goals d m₁ (g_of w₁) (fork_room f) f.splits
-        ∙ ap (λ (H : List Held). sides 128 d (jump 128 (expand t) goals (n - suc (length (g_of w₁))) (suc d) H) rightOf) (sym (held-joined (g_of w₁) l left-put))
+        ∙ ap (λ (H : List Held). sides 128 d (jump 128 (expand t) goals (n - suc (length (g_of w₁))) (suc d) H) right_of) (sym (held-joined (g_of w₁) l left-put))
 
     -- the left side, with e splits on its branch
     module _ {e : ℕ} (next : e ≡ suc d) {w₂ w₃ k₃ m₃ : List ℕ} {left : Ended} (q : g_of w₂ ≡ l ∷ g_of w₁) (A : Jumps t n goals e w₂ m₂ w₃ k₃ m₃ left) where
@@ -397,7 +397,7 @@ module _ {t : ℕ → Node} {n : ℕ} {goals w m w₁ k₁ m₁ : List ℕ} {r :
 
       pub left-found : {s c : ℕ} → left ≡ Model s → c ≡ stopped (suc (s + 0)) → Jumps t n goals d w m w₃ k₃ m₃ (Model c)
       left-found x y =
-          let b = sides_model d (jumped_from t n goals (suc d) m₂ (l ∷ g_of w₁)) rightOf (left_end ∙ ap (λ (r : Ended). end_of r (g_of w₃) (rest_at m₃ (behind (g_of w₃)))) x) in
+          let b = sides_model d (jumped_from t n goals (suc d) m₂ (l ∷ g_of w₁)) right_of (left_end ∙ ap (λ (r : Ended). end_of r (g_of w₃) (rest_at m₃ (behind (g_of w₃)))) x) in
           record {
             holds = A.holds;
             grows = left-grows;
@@ -414,7 +414,7 @@ module _ {t : ℕ → Node} {n : ℕ} {goals w m w₁ k₁ m₁ : List ℕ} {r :
 
         pub left-skips : {c : ℕ} → (ltb d 128 && not (rest_at m₃ k d)) ≡ true → c ≡ stopped (suc (s + 0)) → Jumps t n goals d w m w₃ k₃ m₃ (Closed c)
         left-skips g y =
-            let b = sides-skips d (jumped_from t n goals (suc d) m₂ (l ∷ g_of w₁)) rightOf closed-left g in
+            let b = sides-skips d (jumped_from t n goals (suc d) m₂ (l ∷ g_of w₁)) right_of closed-left g in
             record {
               holds = A.holds;
               grows = left-grows;
@@ -438,19 +438,19 @@ module _ {t : ℕ → Node} {n : ℕ} {goals w m w₁ k₁ m₁ : List ℕ} {r :
           right-sets = put_slots A.sets right-put (omega arith)
 
           module _ {w₅ w₆ k₆ m₆ : List ℕ} {right : Ended} (p : g_of w₅ ≡ neg l ∷ g_of w₁) (B : Jumps t n goals e w₅ m₄ w₆ k₆ m₆ right) where
-            right-from : jumped_from t n goals (suc d) m₄ (neg l ∷ g_of w₁) ≡ rightOf (rest_at m₃ k)
+            right-from : jumped_from t n goals (suc d) m₄ (neg l ∷ g_of w₁) ≡ right_of (rest_at m₃ k)
             right-from = ap (jump 128 (expand t) goals (n - suc (length (g_of w₁))) (suc d)) right-held
 
-            right_end : (rightOf (rest_at m₃ k)).end ≡ end_of right (g_of w₆) (rest_at m₆ (behind (g_of w₆)))
+            right_end : (right_of (rest_at m₃ k)).end ≡ end_of right (g_of w₆) (rest_at m₆ (behind (g_of w₆)))
             right_end = ap (λ (j : Jumped). j.end) (sym right-from) ∙ rw (next, p) at B.ended
 
-            right-made : made_by right ≡ stopped (rightOf (rest_at m₃ k)).splits
+            right-made : made_by right ≡ stopped (right_of (rest_at m₃ k)).splits
             right-made = rw (next, p) at B.counted ∙ ap (λ (j : Jumped). stopped j.splits) right-from
 
             pub right-jumps : Jumps t n goals d w m w₆ k₆ m₆ (with_left s right)
             right-jumps =
                 let L : Jumped = jumped_from t n goals (suc d) m₂ (l ∷ g_of w₁) in
-                let b = sides-turns d L rightOf closed-left g in
+                let b = sides-turns d L right_of closed-left g in
                 record {
                   holds = B.holds;
                   grows = fork_grows f p B.grows;
@@ -460,7 +460,7 @@ module _ {t : ℕ → Node} {n : ℕ} {goals w m w₁ k₁ m₁ : List ℕ} {r :
                   ended = ap (λ (j : Jumped). j.end) whole ∙ b.0 ∙ right_end ∙ sym (with_end s right (g_of w₆) (rest_at m₆ (behind (g_of w₆))));
                   counted =
                       with_made s right ∙ ap₂ (λ (i j : ℕ). stopped (suc (i + j))) (sym (ap made_by x) ∙ left-made) right-made
-                      ∙ stopped-both L.splits (rightOf (rest_at m₃ k)).splits ∙ ap stopped (sym (ap (λ (j : Jumped). j.splits) whole ∙ b.1));
+                      ∙ stopped-both L.splits (right_of (rest_at m₃ k)).splits ∙ ap stopped (sym (ap (λ (j : Jumped). j.splits) whole ∙ b.1));
                 }
 
 -- the sets of the literals held are all that a search starts from

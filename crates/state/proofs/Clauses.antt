@@ -67,11 +67,11 @@ module _ (p : State → Bool) where
   first_in xs ys zs n e =
       let f = first-left ys zs e in (
         first_right xs (ys ++ zs) n ∙ ap (length xs +◌) f.0,
-        ap (λ (s : State). literalOf' s) (get_or-append-add xs (ys ++ zs) (first_of p ys) met ∙ f.1),
+        ap (λ (s : State). literal_of' s) (get_or-append-add xs (ys ++ zs) (first_of p ys) met ∙ f.1),
       )
     where
-      literalOf' : State → ℕ
-      literalOf' s = literal_at (s ∷ []) 0
+      literal_of' : State → ℕ
+      literal_of' s = literal_at (s ∷ []) 0
 
   -- by elements
   pub none-at : (ss : List State) (k : ℕ) → some p ss ≡ false → k < length ss → p (get_or ss k met) ≡ false

@@ -18,7 +18,7 @@ use Rattle.scope.proofs.Tests.{and_both}
 use Rattle.codec.specs.Valid.{Bytes}
 use Rattle.codec.proofs.Bytes.{listed_all, bytes_take, bytes_drop}
 use Rattle.codec.proofs.Blocks.{passed}
-use Rattle.codec.proofs.Files.{file_is, length-fileOf, file-blocks, file-passes, file-records, file-record}
+use Rattle.codec.proofs.Files.{file_is, length-file_of, file-blocks, file-passes, file-records, file-record}
 use Rattle.rules.specs.declared.Step.{Step}
 use Rattle.rules.specs.declared.Version.{Version}
 use Rattle.rules.specs.declared.Version.TheVariants.{One, Two}
@@ -29,7 +29,7 @@ use Rattle.steps.proofs.Form.{fits, records_same, record_same, size_met, blocks_
 
 -- the file's blocks, each of 512 bytes
 pub length-encode_steps : (v : Version) (ss : List Step) → length (encode_steps v ss) ≡ 512 * ((length ss + 125) / 126)
-length-encode_steps v ss = length-fileOf (format_of v) (fits (letter_of v)) step_bytes length-step ss
+length-encode_steps v ss = length-file_of (format_of v) (fits (letter_of v)) step_bytes length-step ss
 
 version_lettered : (v : Version) → cond (eqb (letter_of v) 86) Two One ≡ v
 version_lettered One = refl

@@ -1,7 +1,7 @@
 -- `bevaridhom::bev_evaluate` meets its contract: the answer of `truth::evaluate`, case by case. Assumes nothing.
 use mathlib.Core.Path.{◌∙◌, ap, sym}
 use Rattle.truth.specs.Evaluated.{evaluated_of}
-use Rattle.bevaridhom.specs.Answers.{truthAnswer}
+use Rattle.bevaridhom.specs.Answers.{truth_answer}
 use borrow.Author.Rules.{rules}
 use Rattle.bevaridhom.proofs.bev_evaluate.Statement.{statement}
 use Rattle.bevaridhom.proofs.bev_evaluate.Tie as tie
@@ -21,10 +21,10 @@ enum-known-c-2 c = search rules
 returns : tie.Need-returns
 returns c =
     let told = c.before.before in
-    rw c.truth-number.ensures (sym (ap truthAnswer (sym told.before.before.evaluate.ensures ∙ ap evaluated_of told.c.given.1)))
+    rw c.truth-number.ensures (sym (ap truth_answer (sym told.before.before.evaluate.ensures ∙ ap evaluated_of told.c.given.1)))
 
 returns-2 : tie.Need-returns-2
-returns-2 c = sym (ap truthAnswer (sym c.before.before.before.evaluate.ensures ∙ ap evaluated_of c.before.c2.given.1))
+returns-2 c = sym (ap truth_answer (sym c.before.before.before.evaluate.ensures ∙ ap evaluated_of c.before.c2.given.1))
 
 pub bev-evaluate-spec : {M : Type 1} → statement M
 bev-evaluate-spec =

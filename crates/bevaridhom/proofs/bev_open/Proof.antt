@@ -2,7 +2,7 @@
 use mathlib.Core.Path.{◌∙◌, ap, sym}
 use Rattle.rules.specs.Steps.{version_of}
 use Rattle.steps.specs.Opened.{opened_of}
-use Rattle.bevaridhom.specs.Answers.{versionNumber, openAnswer}
+use Rattle.bevaridhom.specs.Answers.{version_number, open_answer}
 use Rattle.bevaridhom.proofs.Hosts.{open_found}
 use borrow.Author.Rules.{rules}
 use Rattle.bevaridhom.proofs.bev_open.Statement.{statement}
@@ -25,11 +25,11 @@ enum-known-c-2 c = search rules
 
 returns : tie.Need-returns
 returns c =
-    open_found (version_of c.before.before.before.before.before.before.before.args.d.now) (c.version-number.ensures ∙ ap versionNumber c.before.version_of.ensures) (sym c.before.before.before.before.before.count.ensures ∙ ap opened_of c.before.before.before.c.given.1)
+    open_found (version_of c.before.before.before.before.before.before.before.args.d.now) (c.version-number.ensures ∙ ap version_number c.before.version_of.ensures) (sym c.before.before.before.before.before.count.ensures ∙ ap opened_of c.before.before.before.c.given.1)
 
 returns-2 : tie.Need-returns-2
 returns-2 c =
-    sym (ap (openAnswer (version_of c.before.before.before.before.before.args.d.now)) (sym c.before.before.before.count.ensures ∙ ap opened_of c.before.c2.given.1))
+    sym (ap (open_answer (version_of c.before.before.before.before.before.args.d.now)) (sym c.before.before.before.count.ensures ∙ ap opened_of c.before.c2.given.1))
 
 pub bev-open-spec : {M : Type 1} → statement M
 bev-open-spec = tie.close (tie.spec count-requires enum-known-c version-of-requires version-number-requires enum-known-c-2 returns returns-2)
