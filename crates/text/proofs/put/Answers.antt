@@ -4,15 +4,11 @@ use native.Mathlib.Numerals.{add-one}
 use native.Mathlib.Omega.{arith}
 use lib.ListN.{length-set}
 use lib.Seq.{paste-zero, paste-suc}
-use borrow.Author.Rules.{rules}
 use Rattle.text.proofs.Text.{pasted}
 use Rattle.text.proofs.put.Goals as goal
 
 pub loop-i-init : goal.loop-i-init
-loop-i-init c = (search rules, paste-zero c.args.out.now c.args.at c.args.s.now, refl)
-
-pub bounds-out-at : goal.bounds-out-at
-bounds-out-at c = omega arith
+loop-i-init c = (omega arith, paste-zero c.args.out.now c.args.at c.args.s.now, refl)
 
 pub loop-i-preserved : goal.loop-i-preserved
 loop-i-preserved c = (
@@ -20,9 +16,6 @@ loop-i-preserved c = (
   rw (c.loop-i.invariant.1, paste-suc c.args.out.now c.args.at c.args.s.now c.loop-i.i 0 (omega arith) (omega arith), add-one c.loop-i.i),
   simp length-set (omega arith),
 )
-
-pub shape_of-out : goal.shape_of-out
-shape_of-out c = omega arith
 
 pub returns : goal.returns
 returns c = pasted c.args.out.now c.args.at c.args.s.now c.loop-i.i (omega arith) (omega arith) c.loop-i.invariant.1
