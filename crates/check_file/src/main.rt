@@ -7,6 +7,7 @@ ghost use Rattle.check_file.specs.Said.{Verified};
 
 use arguments::Loaded;
 use checking::Checked;
+use std::rt::{Env, Files};
 use text::Numeral;
 
 // The text of check's answer; its length in the buffer.
@@ -22,10 +23,10 @@ fn verify(t: &[u8], goals: &[u16], d: &[u8], out: &mut [u8]) -> usize
     }
 }
 
-fn say(t: &[u8], goals: &[u16], d: &[u8]) {
+fn say(rt: &(impl Print + Eprint + Alloc), t: &[u8], goals: &[u16], d: &[u8]) {
     let mut out = [0u8; 64];
     let end = verify(t, goals, d, &mut out);
-    arguments::say(&out[..end]);
+    arguments::say(rt, &out[..end]);
 }
 
 // Room for a derivation, on the stack: 4,194,304 bytes, which are 8,192 of the 65,536 blocks that one may have, and one more, by
@@ -36,15 +37,20 @@ fn room() -> [u8; 4194305]
     [0; 4194305]
 }
 
-fn run_derivation(t: &[u8], goals: &[u16], last: usize) {
+fn run_derivation(
+    rt: &(impl Env + Files + Print + Eprint + Alloc),
+    t: &[u8],
+    goals: &[u16],
+    last: usize,
+) {
     let mut d = room();
-    let l = arguments::load(last, &mut d);
+    let l = arguments::load(rt, last, &mut d);
     match l {
         Loaded::Bytes(n) => {
             if n > 4194304 {
-                io::write_all(2, b"check_file: a derivation of more than 4194304 bytes\n");
+                let _ = eprintln!(rt; "check_file: a derivation of more than 4194304 bytes");
             } else {
-                say(t, goals, &d[..n]);
+                say(rt, t, goals, &d[..n]);
             }
         }
         Loaded::Failed => {}
@@ -52,17 +58,17 @@ fn run_derivation(t: &[u8], goals: &[u16], last: usize) {
 }
 
 // Argument 1 is the table, and `last` the derivation. A table of more than 16,384 bytes fills the buffer, and is refused by its length.
-fn run(goals: &[u16], last: usize) {
+fn run(rt: &(impl Env + Files + Print + Eprint + Alloc), goals: &[u16], last: usize) {
     let mut table = [0u8; 16385];
-    let l = arguments::load(1, &mut table);
+    let l = arguments::load(rt, 1, &mut table);
     match l {
-        Loaded::Bytes(n) => run_derivation(&table[..n], goals, last),
+        Loaded::Bytes(n) => run_derivation(rt, &table[..n], goals, last),
         Loaded::Failed => {}
     }
 }
 
-fn usage() {
-    io::write_all(2, b"usage: check_file TABLE GOAL.. DERIVATION\n");
+fn usage(rt: &impl Eprint) {
+    let _ = eprintln!(rt; "usage: check_file TABLE GOAL.. DERIVATION");
 }
 
 // A goal as a 16-bit number; one that is too large for that is too large for any table, and stays so.
@@ -73,10 +79,10 @@ fn literal(goal: usize) -> u16
 }
 
 // Argument a, from 2 on, becomes a goal, if the list has room for it; whether it is a number.
-fn read_goal(a: usize, goals: &mut [u16]) -> bool
+fn read_goal(rt: &impl Env, a: usize, goals: &mut [u16]) -> bool
     requires { 2 ≤ a }
 {
-    let g = arguments::number(a);
+    let g = arguments::number(rt, a);
     match g {
         Numeral::Number(goal) => {
             if a - 2 < goals.len() {
@@ -89,10 +95,10 @@ fn read_goal(a: usize, goals: &mut [u16]) -> bool
 }
 
 // The goals are the arguments from 2 on, before the last; whether all are numbers.
-fn read_goals(last: usize, goals: &mut [u16]) -> bool {
+fn read_goals(rt: &impl Env, last: usize, goals: &mut [u16]) -> bool {
     let mut a = 2;
     while a < last {
-        if !read_goal(a, goals) {
+        if !read_goal(rt, a, goals) {
             return false;
         }
         a += 1;
@@ -101,20 +107,20 @@ fn read_goals(last: usize, goals: &mut [u16]) -> bool {
 }
 
 // A list of 65 goals is too long, and so is a longer one, of which the first 65 are taken.
-fn main() {
-    let args = os::arg_count();
+fn main(rt: HostRuntime) {
+    let args = arguments::count(&rt);
     if args < 4 {
-        usage();
+        usage(&rt);
         return;
     }
     let mut goals = [0u16; 65];
-    if !read_goals(args - 1, &mut goals) {
-        usage();
+    if !read_goals(&rt, args - 1, &mut goals) {
+        usage(&rt);
         return;
     }
     if args - 3 < 65 {
-        run(&goals[..args - 3], args - 1);
+        run(&rt, &goals[..args - 3], args - 1);
     } else {
-        run(&goals, args - 1);
+        run(&rt, &goals, args - 1);
     }
 }
