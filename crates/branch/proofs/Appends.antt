@@ -293,6 +293,10 @@ some-three-is {p} {q} {l} {c} {d} {e} {w} {w'} f g h a =
 pub by_row : (N : Node) (row r : ℕ) {w w' : List ℕ} → row ≡ r → Appended (map (map (chosen N)) (get_or templates r [])) w w' → Appended (map (map (chosen N)) (get_or templates row [])) w w'
 by_row N row r {w} {w'} e a = subst (λ (i : ℕ). Appended (map (map (chosen N)) (get_or templates i [])) w w') (sym e) a
 
+-- a row that is none of some is past them
+pub past : {r row : ℕ} → r ≤ row → (row ≡ r → ⊥) → suc r ≤ row
+past h n = omega (arith, h, n)
+
 pub row_most : {row r m : ℕ} → row ≡ r → m ≤ r → m ≤ row
 row_most e h = omega (arith, e, h)
 

@@ -1,16 +1,16 @@
 -- The steps that name the goals, pushed one after another. Assumes nothing.
-use mathlib.Core.Path.{◌≡◌, sym, ap, ◌∙◌}
-use mathlib.Core.List.{List, [], ◌∷◌, ◌++◌, map, append_assoc}
+use mathlib.Core.Path.{◌≡◌, refl, sym, ap, ◌∙◌, subst}
+use mathlib.Core.List.{List, [], ◌∷◌, ◌++◌, map, append_assoc, append-nil}
 use Prim.Native.Nat.{ℕ, suc, ◌+◌, ◌<◌, ◌≤◌}
 use native.Mathlib.Omega.{arith}
 use native.Mathlib.Numerals.{add-one}
-use lib.ListN.{length, get_or, drop}
+use lib.ListN.{length, get_or, drop, drop_of_length-le, length-append, length-map}
 use lib.Seq.{drop-cons}
 use Rattle.rules.specs.declared.Step.{Step}
 use Rattle.rules.specs.Steps.{G as name}
-use Rattle.gather.specs.Kept.{Space, Pushed}
+use Rattle.gather.specs.Kept.{Gathers, Space, Pushed}
 use Rattle.gather.specs.declared.Writer.{Writer}
-use Rattle.gather.proofs.Pushes.{pushed_on}
+use Rattle.gather.proofs.Pushes.{pushed_none, pushed_on, space-less, space-left}
 
 -- the names of the goals before i were pushed
 pub record Naming (goals out₀ : List ℕ) (w₀ : Writer) (out : List ℕ) (w : Writer) (i : ℕ) : Type 0 where
@@ -19,10 +19,18 @@ pub record Naming (goals out₀ : List ℕ) (w₀ : Writer) (out : List ℕ) (w 
   pub whole : done ++ map name (drop i goals) ≡ map name goals
   pub room : i ≤ length goals
 
+pub naming_starts : (goals out : List ℕ) (w : Writer) → Gathers w → Naming goals out w out w 0
+naming_starts goals out w g = record { done = []; pushed = pushed_none out w g; whole = refl; room = omega arith }
+
 module _ {goals out₀ : List ℕ} {w₀ : Writer} {out : List ℕ} {w : Writer} {i : ℕ} (n : Naming goals out₀ w₀ out w i) where
   module _ (s : Space (length goals) out₀ w₀) (h : i < length goals) where
     next : drop i goals ≡ get_or goals i 0 ∷ drop (suc i) goals
     next = drop-cons goals i 0 h
+
+    pub naming-space : Space 1 out w
+    naming-space =
+        let e = ap length n.whole in
+        space-left 1 (space-less (omega (arith, rw (length-append, length-map, next) at e, length-map goals name)) s) n.pushed
 
     pub naming-goes : {out' : List ℕ} {w' : Writer} → Pushed (name (get_or goals i 0) ∷ []) out w out' w' → Naming goals out₀ w₀ out' w' (i + 1)
     naming-goes p = record {
@@ -33,3 +41,9 @@ module _ {goals out₀ : List ℕ} {w₀ : Writer} {out : List ℕ} {w : Writer}
           ∙ rw add-one (ap (λ (ls : List ℕ). n.done ++ map name ls) (sym next) ∙ n.whole);
       room = omega arith;
     }
+
+  pub naming_ends : length goals ≤ i → Pushed (map name goals) out₀ w₀ out w
+  naming_ends h =
+      let none : drop i goals ≡ [] = drop_of_length-le goals {i = i} h in
+      let e : n.done ≡ map name goals = sym (append-nil n.done) ∙ ap (λ (ls : List ℕ). n.done ++ map name ls) (sym none) ∙ n.whole in
+      subst (λ (ss : List Step). Pushed ss out₀ w₀ out w) e n.pushed

@@ -112,6 +112,10 @@ module _ (out : List ℕ) (w : Writer) where
 
 -- ---- steps more fit
 
+-- the block that gathers has its place
+pub place_for : {m : ℕ} {out : List ℕ} {w : Writer} → Space m out w → 0 < w.count + m → (w.blocks < 65536) × (512 * (w.blocks + 1) ≤ length out)
+place_for {m} {out} {w} s h = (omega (arith, s.most), omega (arith, s.lent))
+
 -- fewer do
 pub space-less : {m k : ℕ} {out : List ℕ} {w : Writer} → k ≤ m → Space m out w → Space k out w
 space-less h s = record { gathers = s.gathers; lent = omega (arith, s.lent); most = omega (arith, s.most) }

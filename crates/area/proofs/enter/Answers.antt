@@ -21,6 +21,26 @@ overflow_add-work-2 c =
     let room : trail_at c.args.work.now 0 < c.args.n = room_left c.args.n c.args.work.now c.args.l c.requires.trail.0 c.requires.trail.1 in
     omega (arith, room, c.requires.area_size_in_bounds, c.requires.trail.1.0)
 
+pub overflow_cast-work-2 : goal.overflow_cast-work-2
+overflow_cast-work-2 c =
+    let room : trail_at c.args.work.now 0 < c.args.n = room_left c.args.n c.args.work.now c.args.l c.requires.trail.0 c.requires.trail.1 in
+    omega (arith, room, c.requires.area_size_in_bounds, c.requires.trail.1.0)
+
+pub overflow_add-work-5 : goal.overflow_add-work-5
+overflow_add-work-5 c =
+    let room : trail_at c.args.work.now 0 < c.args.n = room_left c.args.n c.args.work.now c.args.l c.requires.trail.0 c.requires.trail.1 in
+    omega (arith, room, c.requires.area_size_in_bounds, c.requires.trail.1.0)
+
+pub overflow_add-work-6 : goal.overflow_add-work-6
+overflow_add-work-6 c =
+    let room : trail_at c.args.work.now 0 < c.args.n = room_left c.args.n c.args.work.now c.args.l c.requires.trail.0 c.requires.trail.1 in
+    omega (arith, room, c.requires.area_size_in_bounds, c.requires.trail.1.0)
+
+pub offset_bounds-work-h : goal.offset_bounds-work-h
+offset_bounds-work-h c =
+    let room : trail_at c.args.work.now 0 < c.args.n = room_left c.args.n c.args.work.now c.args.l c.requires.trail.0 c.requires.trail.1 in
+    omega (arith, room, c.requires.area_size_in_bounds, c.requires.trail.1.0)
+
 pub bounds-work-h : goal.bounds-work-h
 bounds-work-h c =
     let room : trail_at c.args.work.now 0 < c.args.n = room_left c.args.n c.args.work.now c.args.l c.requires.trail.0 c.requires.trail.1 in
@@ -30,6 +50,11 @@ pub overflow_add-work-7 : goal.overflow_add-work-7
 overflow_add-work-7 c =
     let room : trail_at c.args.work.now 0 < c.args.n = room_left c.args.n c.args.work.now c.args.l c.requires.trail.0 c.requires.trail.1 in
     omega (arith, room, c.requires.area_size_in_bounds, c.requires.trail.1.0)
+
+pub bounds-work-28469-2 : goal.bounds-work-28469-2
+bounds-work-28469-2 c =
+    let room : trail_at c.args.work.now 0 < c.args.n = room_left c.args.n c.args.work.now c.args.l c.requires.trail.0 c.requires.trail.1 in
+    simp length-set (omega (arith, room, c.requires.area_size_in_bounds, c.requires.trail.1.0))
 
 pub returns : goal.returns
 returns c = is-entered c.args.n c.args.work.now c.args.l c.requires.area_size_in_bounds.0 c.requires.area_size_in_bounds.1 c.requires.trail.0 c.requires.trail.1

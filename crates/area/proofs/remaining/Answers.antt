@@ -10,6 +10,9 @@ use Rattle.area.proofs.remaining.Goals as goal
 pub base-start-requires : goal.base-start-requires
 base-start-requires c = (c.requires.0.size, omega (arith, c.requires.0.count, c.requires.1))
 
+pub overflow_add-k : goal.overflow_add-k
+overflow_add-k c = omega (arith, c.requires.0.count, c.requires.1)
+
 pub base-s-requires : goal.base-s-requires
 base-s-requires c = (c.requires.0.size, omega (arith, c.requires.0.count, c.requires.1))
 
@@ -24,6 +27,9 @@ loop-s-init c = let w = c.args.work.now in
           (ap left_of (free_none w c.base-s.result (base_at w (c.args.k + 1)) (omega (arith, c.base-s.ensures)))),
     )
 
+pub overflow_sub-s : goal.overflow_sub-s
+overflow_sub-s c = omega (arith, c.loop-s-test.true)
+
 pub strike_in-requires : goal.strike_in-requires
 strike_in-requires c = (c.requires.0.size, omega (arith, c.loop-s.invariant, c.loop-s-test.true))
 
@@ -33,6 +39,9 @@ counted-left-requires c = let w = c.args.work.now in (
       (arith, c.loop-s.invariant, c.loop-s-test.true, ap (λ (x : Left). x.count) c.loop-s.invariant.3, free_most w c.loop-s.s ((base_at w (c.args.k + 1)) - c.loop-s.s)),
   omega (arith, c.loop-s.invariant, c.loop-s-test.true),
 )
+
+pub loop-s-smaller : goal.loop-s-smaller
+loop-s-smaller c = omega (arith, c.loop-s-test.true)
 
 pub loop-s-preserved : goal.loop-s-preserved
 loop-s-preserved c = let w = c.args.work.now in (

@@ -2,7 +2,6 @@
 use mathlib.Core.Path.{◌∙◌, ap, sym}
 use Rattle.record.specs.Read.{read_of}
 use Rattle.bevaridhom.specs.Answers.{record_answer}
-use borrow.Author.Rules.{rules}
 use Rattle.bevaridhom.proofs.bev_record.Goals as goal
 
 pub returns-in-Found : goal.returns-in-Found

@@ -6,6 +6,12 @@ use Rattle.index.specs.Index.{index_node}
 use Rattle.branch.proofs.Starts.{begun}
 use Rattle.branch.proofs.begin.Goals as goal
 
+pub clear-requires : goal.clear-requires
+clear-requires c = omega (arith, c.requires.area_size_in_bounds)
+
+pub clear-requires-2 : goal.clear-requires-2
+clear-requires-2 c = omega (arith, c.requires.area_size_in_bounds, c.clear.ensures.size)
+
 pub clear-requires-3 : goal.clear-requires-3
 clear-requires-3 c = let clear2 = c.clear-2.ensures.size in
     let clear = c.clear.ensures.size in
@@ -23,6 +29,17 @@ aim-requires c = let number = c.number.ensures.size in
     let clear2 = c.clear-2.ensures.size in
     let clear = c.clear.ensures.size in
     (omega (arith, c.requires.area_size_in_bounds, number, clear3, clear2, clear), omega (arith, c.requires.goals.most))
+
+pub overflow_cast-work : goal.overflow_cast-work
+overflow_cast-work c = omega (arith, c.requires.goals.most)
+
+pub bounds-work-0 : goal.bounds-work-0
+bounds-work-0 c = let aim = c.aim.ensures.size in
+    let number = c.number.ensures.size in
+    let clear3 = c.clear-3.ensures.size in
+    let clear2 = c.clear-2.ensures.size in
+    let clear = c.clear.ensures.size in
+    omega (arith, c.requires.area_size_in_bounds, aim, number, clear3, clear2, clear)
 
 pub shape_of-work : goal.shape_of-work
 shape_of-work c = let aim = c.aim.ensures.size in

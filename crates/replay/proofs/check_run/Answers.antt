@@ -74,6 +74,9 @@ returns-in-Failed c = let t = index_node c.args.x.now in
     let r = step-told c.args.version c.apply_in-r.new.work g.history c.apply_in-r.ensures c.step_by-s.ensures c.in-Failed.is g.holds in
     c.refusal-in-Failed.ensures ∙ going-fails c.args.version t n goals f c.args.count g c.loop-i-test.true (no_name c.step_by-s.ensures c.if-s-eq71.false) r
 
+pub overflow_add-i : goal.overflow_add-i
+overflow_add-i c = omega (arith, c.loop-i-test.true)
+
 pub shape_of-work-in-Complete : goal.shape_of-work-in-Complete
 shape_of-work-in-Complete c = c.apply_in-r.auto.work ∙ c.loop-i.invariant.0 ∙ c.begin.auto.work
 
@@ -88,6 +91,12 @@ returns-in-Complete c = let t = index_node c.args.x.now in
 
 pub place_after-at-requires : goal.place_after-at-requires
 place_after-at-requires c = (c.loop-i.invariant.2, omega (arith, c.well_formed, c.requires.by_index c.loop-i.i c.loop-i-test.true))
+
+pub overflow_add-i-in-loop-i : goal.overflow_add-i-in-loop-i
+overflow_add-i-in-loop-i c = omega (arith, c.loop-i-test.true)
+
+pub loop-i-smaller : goal.loop-i-smaller
+loop-i-smaller c = omega (arith, c.loop-i-test.true)
 
 pub loop-i-preserved : goal.loop-i-preserved
 loop-i-preserved c = let t = index_node c.args.x.now in

@@ -1,10 +1,14 @@
 -- `replay::conflict_two` meets its contract. The clause's state is the rule's condition; past it the branch closes. Assumes nothing.
+use native.Mathlib.Omega.{arith}
 use mathlib.Core.Path.{refl, sym, ap, ◌∙◌}
 use Rattle.index.specs.Index.{index_node}
 use Rattle.seen.specs.Seen.{seen_of}
 use Rattle.replay.proofs.Told.{trail_of, ranged_of, slot_literal}
 use Rattle.replay.proofs.Two.{conflict-out, conflict-fails, conflict-turns}
 use Rattle.replay.proofs.conflict_two.Goals as goal
+
+pub overflow_cast-work : goal.overflow_cast-work
+overflow_cast-work c = omega (arith, c.type_inv.work 0)
 
 pub returns-then-work-k : goal.returns-then-work-k
 returns-then-work-k c = let t = index_node c.args.x.now in

@@ -31,6 +31,29 @@ base-requires c = let t = index_node c.args.x.now in
     let num = number_of t n w few k st in
     (size_of few H, omega (arith, (ranged_of few H).count, num))
 
+pub overflow_add-s : goal.overflow_add-s
+overflow_add-s c = let t = index_node c.args.x.now in
+    let n = c.args.n in
+    let w = c.args.work.now in
+    let few = c.requires.indexed.few in
+    let k = c.args.k in
+    let st = sym c.stands.ensures ∙ c.if-not-stands.false in
+    let num = number_of t n w few k st in
+    let H = c.requires.held in
+    let r = (ranged_of few H).ends k num in
+    omega (arith, r, c.base.ensures)
+
+pub overflow_add-k : goal.overflow_add-k
+overflow_add-k c = let t = index_node c.args.x.now in
+    let n = c.args.n in
+    let w = c.args.work.now in
+    let few = c.requires.indexed.few in
+    let k = c.args.k in
+    let st = sym c.stands.ensures ∙ c.if-not-stands.false in
+    let H = c.requires.held in
+    let num = number_of t n w few k st in
+    omega (arith, (ranged_of few H).count, num)
+
 pub base-requires-2 : goal.base-requires-2
 base-requires-2 c = let t = index_node c.args.x.now in
     let n = c.args.n in

@@ -1,4 +1,4 @@
-use Prim.Native.Nat.{◌+◌, ◌≤◌}
+use Prim.Native.Nat.{◌+◌, ◌-◌, ◌≤◌}
 use Rattle.area.specs.Area.{most_slots, base_at}
 use Rattle.seen.proofs.States.{Summed}
 use Rattle.seen.proofs.clause_state.Given as goal

@@ -14,6 +14,11 @@ use Rattle.step_reader.proofs.counted_step.Goals as goal
 pub returns-then-stated-at : goal.returns-then-stated-at
 returns-then-stated-at c = sym (past_count _ _ (omega (arith, c.if-stated-at.true, c.stated.ensures)))
 
+pub step_at-s-requires : goal.step_at-s-requires
+step_at-s-requires c =
+    let below : c.args.at < records_in derivations c.args.d.now = omega (arith, c.if-stated-at.false, c.stated.ensures) in
+    c.requires.at_in_bounds below
+
 pub returns-then-number-ne0 : goal.returns-then-number-ne0
 returns-then-number-ne0 c =
     let below : c.args.at < records_in derivations c.args.d.now = omega (arith, c.if-stated-at.false, c.stated.ensures) in

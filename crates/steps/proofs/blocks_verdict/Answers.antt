@@ -1,9 +1,13 @@
 -- `steps::blocks_verdict` meets its contract: what is left of the blocks at j is the answer. Assumes nothing.
 use mathlib.Core.Path.{◌∙◌, ap, sym}
+use native.Mathlib.Nat.{sub-zero}
 use Rattle.scope.specs.Outcome.{verdict_of, first}
 use Rattle.scope.proofs.First.{stops, goes, done}
 use borrow.Author.Rules.{rules}
 use Rattle.steps.proofs.blocks_verdict.Goals as goal
+
+pub loop-j-init : goal.loop-j-init
+loop-j-init c = (search rules, search rules, simp sub-zero)
 
 pub returns-in_default : goal.returns-in_default
 returns-in_default c = let told = ap verdict_of c.in_default.is in

@@ -1,11 +1,15 @@
 -- `steps::first_form` meets its contract: what is left of the steps at k is the answer. Assumes nothing.
 use mathlib.Core.Path.{◌≡◌, ◌∙◌, ap₂, sym}
+use native.Mathlib.Nat.{sub-zero}
 use Rattle.scope.proofs.First.{stops, goes, done}
 use Rattle.rules.specs.Steps.{version_of, step_at}
 use Rattle.steps.specs.Opened.{form_number}
 use Rattle.steps.proofs.Rows.{step_refused, step-fine}
 use borrow.Author.Rules.{rules}
 use Rattle.steps.proofs.first_form.Goals as goal
+
+pub loop-k-init : goal.loop-k-init
+loop-k-init c = (search rules, simp sub-zero)
 
 pub returns-then-number-ne0 : goal.returns-then-number-ne0
 returns-then-number-ne0 c =

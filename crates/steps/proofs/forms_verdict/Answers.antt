@@ -5,3 +5,6 @@ use Rattle.steps.proofs.forms_verdict.Goals as goal
 
 pub returns-then-all_pass : goal.returns-then-all_pass
 returns-then-all_pass c = pass_fine c.args.d.now c.is_two-two.result c.args.steps (c.is_two-two.ensures ∙ c.version_of.ensures) (c.all_pass.ensures c.if-all_pass.true)
+
+pub returns : goal.returns
+returns c = c.first_form.ensures
