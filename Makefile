@@ -10,7 +10,7 @@ LIB = target/staticlib/libbevaridhom.a
 SOURCES = $(addprefix host/, bev.c files.c refuse.c records.c show.c tables.c rebuild.c goals.c clash.c wishes.c overview.c rooms.c steps.c cnf.c dimacs.c)
 HEADERS = host/bev.h host/refusals.h include/bevaridhom.h
 PROGRAMS = crates/listing/out/listing crates/check_file/out/check_file
-CRATES := $(shell find crates -path '*/src/*.rt')
+CRATES := $(shell find crates/*/src -name '*.rt')
 VERSION = $(shell awk '/BEV_VERSION_(MAJOR|MINOR) / { v = v dot $$3; dot = "." } END { print v }' include/bevaridhom.h)
 
 all: target/bev
