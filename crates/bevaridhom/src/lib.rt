@@ -197,7 +197,7 @@ pub extern "C" fn bev_decide(t: &[u8], goals: &[u16], s: &mut [u8], w: &mut [u16
 }
 
 #[repr(C)]
-#[derive(Drop)]
+#[derive(Clone, Copy)]
 pub struct BevClashed {
     pub number: u16,
     pub place: usize,
@@ -246,7 +246,7 @@ pub extern "C" fn bev_overview(t: &[u8], goals: &[u16], b: &mut [u8], w: &mut [u
 }
 
 #[repr(C)]
-#[derive(Drop)]
+#[derive(Clone, Copy)]
 pub struct BevTurned {
     pub number: u16,
     pub place: usize,

@@ -19,7 +19,7 @@ use searching::Found;
 use table::Counted;
 
 // What clash answers: number 0 and the indices of the goals kept, in rising order, with their count, and 0 past them; or a refusal.
-#[derive(Drop)]
+#[derive(Clone, Copy)]
 pub struct Clashed {
     pub number: u16,
     pub place: usize,

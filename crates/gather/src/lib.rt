@@ -11,7 +11,7 @@ ghost use Rattle.gather.specs.Kept.{body_of, lent, positions, removal_if, remova
 use rules::Step;
 
 // The block that gathers, its letter in byte 0 and its steps from byte 4 on; how many steps it holds; and how many blocks are written.
-#[derive(Drop)]
+#[derive(Clone, Copy)]
 pub struct Writer {
     pub block: [u8; 512],
     pub count: usize,

@@ -18,7 +18,7 @@ use scope::Refusal;
 use table::Counted;
 
 // What a call answers: number 0 and the values, or a refusal's number and place and every value 0.
-#[derive(Drop)]
+#[derive(Clone, Copy)]
 pub struct Turned {
     pub number: u16,
     pub place: usize,

@@ -12,7 +12,7 @@ ghost use Rattle.step_reader.specs.Handed.{handed_of, counted_step, step_handed,
 use rules::Step;
 use scope::{Refusal, Verdict};
 
-#[derive(Drop)]
+#[derive(Clone, Copy)]
 pub struct Reader<'a> {
     pub src: &'a [u8],
     pub at: usize,
