@@ -1,4 +1,4 @@
-// The calls for a host in C: numbers and byte slices in, a struct by value out. A slice is a pointer and a length.
+// The calls for a host: numbers and byte slices in, a struct by value out. Crate bevaridhom_c exports them for C.
 #![tactic(auto)]
 
 ghost use Rattle.std.specs.Prelude.{◌≡◌};
@@ -60,8 +60,7 @@ pub struct BevAdded {
 }
 
 // Table reading: the node count.
-#[unsafe(no_mangle)]
-pub extern "C" fn bev_count(t: &[u8]) -> BevCount
+pub fn bev_count(t: &[u8]) -> BevCount
     ensures { result ≡ count_answer (table_count t.now) }
 {
     let c = table::count(t);
@@ -80,8 +79,7 @@ pub extern "C" fn bev_count(t: &[u8]) -> BevCount
 }
 
 // Table reading: the record of a literal's node.
-#[unsafe(no_mangle)]
-pub extern "C" fn bev_record(t: &[u8], literal: usize) -> BevRecord
+pub fn bev_record(t: &[u8], literal: usize) -> BevRecord
     ensures { result ≡ record_answer (table_record t.now literal) }
 {
     let c = table::record_of(t, literal);
@@ -117,8 +115,7 @@ fn truth_number(v: Truth) -> u8
 }
 
 // The truth of a literal under a setting: 0 no, 1 yes, 2 unknown.
-#[unsafe(no_mangle)]
-pub extern "C" fn bev_evaluate(t: &[u8], literal: usize, s: &[u8]) -> BevTruth
+pub fn bev_evaluate(t: &[u8], literal: usize, s: &[u8]) -> BevTruth
     ensures { result ≡ truth_answer (evaluate t.now literal s.now) }
 {
     let c = truth::evaluate(t, literal, s);
@@ -137,8 +134,7 @@ pub extern "C" fn bev_evaluate(t: &[u8], literal: usize, s: &[u8]) -> BevTruth
 }
 
 // Adds a record of 8 bytes to the table in the used part of a buffer.
-#[unsafe(no_mangle)]
-pub extern "C" fn bev_add(buf: &mut [u8], used: usize, r: &[u8; 8]) -> BevAdded
+pub fn bev_add(buf: &mut [u8], used: usize, r: &[u8; 8]) -> BevAdded
     ensures answered { result ≡ add_answer (add buf.old used r.now) }
     ensures bytes { buf.new ≡ bytes_after buf.old (add buf.old used r.now) }
 {
@@ -169,8 +165,7 @@ pub struct BevDecided {
 }
 
 // Whether one setting makes all goals true, 1 possible and 0 impossible; if so, the settings become such a one.
-#[unsafe(no_mangle)]
-pub extern "C" fn bev_decide(t: &[u8], goals: &[u16], s: &mut [u8], w: &mut [u16]) -> BevDecided
+pub fn bev_decide(t: &[u8], goals: &[u16], s: &mut [u8], w: &mut [u16]) -> BevDecided
     ensures { HostDecides t.now goals.now s.old w.old s.new w.new result }
 {
     let c = deciding::decide(t, goals, s, w);
@@ -206,8 +201,7 @@ pub struct BevClashed {
 }
 
 // The few of goals that are impossible together to argue about: their indices, in rising order.
-#[unsafe(no_mangle)]
-pub extern "C" fn bev_clash(t: &[u8], goals: &[u16], w: &mut [u16]) -> BevClashed
+pub fn bev_clash(t: &[u8], goals: &[u16], w: &mut [u16]) -> BevClashed
     ensures { HostClashes t.now goals.now w.old w.new result }
 {
     let c = clashing::clash(t, goals, w);
@@ -228,8 +222,7 @@ pub struct BevAnswered {
 }
 
 // Whether each goal by itself is possible: a byte for each, 1 possible and 0 impossible.
-#[unsafe(no_mangle)]
-pub extern "C" fn bev_overview(t: &[u8], goals: &[u16], b: &mut [u8], w: &mut [u16]) -> BevAnswered
+pub fn bev_overview(t: &[u8], goals: &[u16], b: &mut [u8], w: &mut [u16]) -> BevAnswered
     ensures { HostOverviews t.now goals.now b.old w.old b.new w.new result }
 {
     let c = overview::overview(t, goals, b, w);
@@ -256,8 +249,7 @@ pub struct BevTurned {
 }
 
 // The first call for questions under one allowance: each search stands at its start, unfinished.
-#[unsafe(no_mangle)]
-pub extern "C" fn bev_rooms_open(t: &[u8], questions: &[u16], s: &[u8], w: &mut [u16]) -> BevTurned
+pub fn bev_rooms_open(t: &[u8], questions: &[u16], s: &[u8], w: &mut [u16]) -> BevTurned
     ensures { OpensRooms t.now questions.now s.now w.old w.new (rooms_answer result) }
 {
     let v = rooms::open(t, questions, s, w);
@@ -273,8 +265,7 @@ pub extern "C" fn bev_rooms_open(t: &[u8], questions: &[u16], s: &[u8], w: &mut 
 }
 
 // A later call: an allowance of turns goes round over the unfinished questions.
-#[unsafe(no_mangle)]
-pub extern "C" fn bev_rooms_turn(
+pub fn bev_rooms_turn(
     t: &[u8],
     questions: &[u16],
     s: &mut [u8],
@@ -315,14 +306,7 @@ fn version_asked(wanted: u8) -> Version
 }
 
 // Writes the derivation, of the version wanted, of goals that are impossible together and answers its step count.
-#[unsafe(no_mangle)]
-pub extern "C" fn bev_derive(
-    t: &[u8],
-    goals: &[u16],
-    wanted: u8,
-    w: &mut [u16],
-    d: &mut [u8],
-) -> BevDerived
+pub fn bev_derive(t: &[u8], goals: &[u16], wanted: u8, w: &mut [u16], d: &mut [u8]) -> BevDerived
     ensures { HostDerives (version_asked wanted) t.now goals.now w.old d.old w.new d.new result }
 {
     let c = deriver::derive(version_asked(wanted), t, goals, w, d);
@@ -348,8 +332,7 @@ pub struct BevChecked {
 }
 
 // Whether a derivation shows that the goals are impossible together: number 0 accepted.
-#[unsafe(no_mangle)]
-pub extern "C" fn bev_check(t: &[u8], goals: &[u16], w: &mut [u16], d: &[u8]) -> BevChecked
+pub fn bev_check(t: &[u8], goals: &[u16], w: &mut [u16], d: &[u8]) -> BevChecked
     ensures { HostChecks t.now goals.now w.old d.now w.new result }
 {
     let c = checking::check(t, goals, w, d);
@@ -377,8 +360,7 @@ pub struct BevWished {
 
 // A setting that makes the goals true, and as many wishes as an allowance of questions finds: how many for certain, how many at most, and
 // the questions put.
-#[unsafe(no_mangle)]
-pub extern "C" fn bev_wishes(
+pub fn bev_wishes(
     t: &[u8],
     goals: &[u16],
     wishes: &[u16],
@@ -427,8 +409,7 @@ fn version_number(version: Version) -> u8
 }
 
 // Opening a derivation: its step count and its version, or the first refusal of 40 to 44 and 65.
-#[unsafe(no_mangle)]
-pub extern "C" fn bev_open(d: &[u8]) -> BevOpened
+pub fn bev_open(d: &[u8]) -> BevOpened
     ensures { result ≡ open_answer (version_of d.now) (step_count d.now) }
 {
     let c = steps::count(d);
@@ -462,8 +443,7 @@ pub struct BevStep {
 // The reader as an entry: the step at an index (left 1), or that none is left there (left 0). Of the derivation it looks at the length
 // (row 40), at the first byte, which says the version, at the block of the index or, behind all blocks, the last (rows 41 to 43), and at
 // the step (rows 44 and 65).
-#[unsafe(no_mangle)]
-pub extern "C" fn bev_step(d: &[u8], index: usize) -> BevStep
+pub fn bev_step(d: &[u8], index: usize) -> BevStep
     ensures { result ≡ step_answer (step_handed d.now index) }
 {
     let c = step_reader::step_of(d, index);
@@ -496,8 +476,7 @@ pub extern "C" fn bev_step(d: &[u8], index: usize) -> BevStep
 }
 
 // The goal of a DIMACS text and its table, built in an empty buffer. After 51 or 52 the buffer is free.
-#[unsafe(no_mangle)]
-pub extern "C" fn bev_dimacs(text: &[u8], buf: &mut [u8]) -> BevAdded
+pub fn bev_dimacs(text: &[u8], buf: &mut [u8]) -> BevAdded
     ensures { HostReads text.now buf.old result buf.new }
 {
     let c = cnfread::read(text, buf);
