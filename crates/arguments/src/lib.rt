@@ -5,6 +5,7 @@
 ghost use Rattle.std.specs.Prelude.{IfOk};
 ghost use Rattle.text.specs.Counts.{IsPrefixLen};
 ghost use Rattle.arguments.specs.Loaded.{Holds};
+ghost use Rattle.arguments.specs.Numbers.{Said};
 
 use std::env::FillError;
 use std::fs::File;
@@ -20,19 +21,10 @@ pub enum Loaded {
     Failed,
 }
 
-// How many arguments there are, the program's own name among them.
-pub fn count(rt: &impl Env) -> usize {
-    let mut word = [0u8; 1];
-    for i in 0..usize::MAX {
-        if let Err(FillError::NotPresent) = rt.arg(i, &mut word) {
-            return i;
-        }
-    }
-    usize::MAX
-}
-
 // Argument i as a number.
-pub fn number(rt: &impl Env, i: usize) -> Numeral {
+pub fn number(rt: &impl Env, i: usize) -> Numeral
+    ensures { Said result }
+{
     let mut word = [0u8; 64];
     match rt.arg(i, &mut word) {
         Ok(n) => text::value(&word[..n]),

@@ -7,6 +7,7 @@ ghost use Rattle.check_file.specs.Said.{Verified};
 
 use arguments::Loaded;
 use checking::Checked;
+use std::env::FillError;
 use std::rt::{Env, Files};
 use text::Numeral;
 
@@ -106,9 +107,20 @@ fn read_goals(rt: &impl Env, last: usize, goals: &mut [u16]) -> bool {
     true
 }
 
+// How many arguments there are, the program's own name among them.
+fn count(rt: &impl Env) -> usize {
+    let mut word = [0u8; 1];
+    for i in 0..usize::MAX {
+        if let Err(FillError::NotPresent) = rt.arg(i, &mut word) {
+            return i;
+        }
+    }
+    usize::MAX
+}
+
 // A list of 65 goals is too long, and so is a longer one, of which the first 65 are taken.
 fn main(rt: HostRuntime) {
-    let args = arguments::count(&rt);
+    let args = count(&rt);
     if args < 4 {
         usage(&rt);
         return;

@@ -62,7 +62,11 @@ pub loop-i-preserved-then-verdicts-w-eq-UNFINISHED : goal.loop-i-preserved-then-
 loop-i-preserved-then-verdicts-w-eq-UNFINISHED c = let l = c.loop-i.invariant.3 in
     let h = c.loop-i-test.true in (
       omega (arith, h),
-      climbed-more c.loop-i.work c.loop-i.masks c.loop-i.opens c.loop-i.invariant.1 c.loop-i.invariant.2 (omega (arith, c.if-laps-eq0.false)) h c.if-verdicts-w-eq-UNFINISHED.true c.serve-v.ensures (ap (c.laps_in-laps.result -◌) c.ahead.ensures) (omega (arith, h, c.requires.roomy.few, c.requires.roomy.verdicts, l.verdicts)) (omega (arith, h, c.requires.roomy.few, c.requires.questions_in_bounds.1, l.turns)),
+      climbed-more c.loop-i.work c.loop-i.masks c.loop-i.opens c.loop-i.invariant.1 c.loop-i.invariant.2
+          (omega (arith, c.if-laps-eq0.false)) h c.if-verdicts-w-eq-UNFINISHED.true c.serve-v.ensures
+          (ap (c.laps_in-laps.result -◌) c.ahead.ensures)
+          (omega (arith, h, c.requires.roomy.few, c.requires.roomy.verdicts, l.verdicts))
+          (omega (arith, h, c.requires.roomy.few, c.requires.questions_in_bounds.1, l.turns)),
       sits_served c.loop-i.verdicts c.loop-i.invariant.2 c.serve-v.ensures (omega (arith, h, c.requires.roomy.few, c.requires.roomy.verdicts, l.verdicts)),
       long_more _ _ _ l c.serve-v.auto.settings c.serve-v.auto.work c.serve-v.auto.masks c.serve-v.auto.opens,
     )
