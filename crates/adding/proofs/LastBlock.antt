@@ -38,7 +38,8 @@ module _ (rs : List Node) (buf : List ℕ) (used : ℕ) (within : used ≤ lengt
   block =
       let q : used - 512 + 512 ≡ used = omega (arith, one_block) in
       let long : length (before rs) ≡ used - 512 = length-take-le (length (encode rs) - 512) (encode rs) (omega arith) ∙ ap (◌- 512) size in
-      sym (drop-take (used - 512) 512 buf) ∙ rw q (ap (drop (used - 512)) (table ∙ table-last-block rs some) ∙ drop_at (before rs) (last_of rs) (used - 512) long)
+      sym (drop-take (used - 512) 512 buf)
+      ∙ rw q (ap (drop (used - 512)) (table ∙ table-last-block rs some) ∙ drop_at (before rs) (last_of rs) (used - 512) long)
 
   -- the count that it states leaves room
   pub count_low : get_or buf (used - 512 + 1) 0 < 255

@@ -6,6 +6,9 @@ use native.Mathlib.Omega.{arith}
 use lib.ListN.{length, take, drop, get_or, length-append}
 use lib.Seq.{length-take-le}
 use mathlib.Core.Bool.{true}
+use Rattle.std.specs.Prelude.{Ok, Err, Some, None}
+use Rattle.lookup.specs.Found.{among}
+use Rattle.lookup.proofs.Finds.{from_some, from_none}
 use lib.Dec.{ltb}
 use borrow.Author.Tests.{lt-ltb, le-ltb, le-leb, lt-leb}
 use Rattle.scope.specs.declared.Node.{Node}
@@ -19,7 +22,6 @@ use Rattle.codec.proofs.Grows.{table_new_block}
 use Rattle.codec.proofs.Adds.{more}
 use Rattle.writer.specs.Grown.{grown}
 use Rattle.record.specs.Place.{place_of}
-use Rattle.adding.specs.declared.Added.TheVariants.{At, Refused}
 use Rattle.adding.specs.Added.{used_nodes, Ready, AddsTo}
 use Rattle.adding.proofs.LastBlock.{count_low, grown_table}
 
@@ -44,47 +46,47 @@ module _ (buf : List ℕ) (used n : ℕ) (g : Ready buf used n) where
         let k : length (used_nodes buf used n ++ x ∷ []) + 62 ≡ n + 63 = simp (length-append, count) (omega arith) in
         length-encode (used_nodes buf used n ++ x ∷ []) ∙ ap (λ (k : ℕ). 512 * (k / 63)) k
 
-    module _ (i : ℕ) (here : i ≡ index_of x (used_nodes buf used n)) where
-      pub finds : i < n → AddsTo buf used n x (At (record { literal = 2 * i; used = used })) buf
+    pub finds : (i : ℕ) → Some i ≡ among n (index_of x (used_nodes buf used n)) → AddsTo buf used n x (Ok (record { literal = 2 * i; used = used })) buf
+    unfolding add_node
+    finds i e =
+        let is = from_some n _ e in
+        let t = lt-ltb (index_of x (used_nodes buf used n)) (length (used_nodes buf used n)) (omega (arith, count, is.1)) in
+        record { answered = rw (t, is.0); bytes = rw t }
+
+    module _ (new : None ≡ among n (index_of x (used_nodes buf used n))) where
+      -- the node is not among them: what is said is said of the new table
+      is-new : add_node buf used (used_nodes buf used n) x ≡ add_new buf (used_nodes buf used n) x
       unfolding add_node
-      finds h =
-          let t = lt-ltb (index_of x (used_nodes buf used n)) (length (used_nodes buf used n)) (omega (arith, count, here)) in
-          record { answered = rw (t, here); bytes = rw t }
+      is-new = rw (le-ltb (index_of x (used_nodes buf used n)) (length (used_nodes buf used n)) (omega (arith, count, from_none n _ new)))
 
-      module _ (new : n ≤ i) where
-        -- the node is not among them: what is said is said of the new table
-        is-new : add_node buf used (used_nodes buf used n) x ≡ add_new buf (used_nodes buf used n) x
-        unfolding add_node
-        is-new = rw (le-ltb (index_of x (used_nodes buf used n)) (length (used_nodes buf used n)) (omega (arith, count, here)))
+      pub over-nodes : n ≡ 2016 → AddsTo buf used n x (Err (record { number = 51; place = n })) buf
+      unfolding add_new
+      over-nodes h =
+          let t = le-ltb (length (used_nodes buf used n)) 2016 (omega (arith, count)) in
+          record { answered = rw (is-new, t, count); bytes = rw (is-new, t) }
 
-        pub over-nodes : n ≡ 2016 → AddsTo buf used n x (Refused (record { number = 51; place = n })) buf
+      module _ (few : n < 2016) where
+        room : ltb (length (used_nodes buf used n)) 2016 ≡ true
+        room = lt-ltb (length (used_nodes buf used n)) 2016 (omega (arith, count))
+
+        pub over-buffer : length buf < 512 * ((n + 63) / 63) → AddsTo buf used n x (Err (record { number = 52; place = n })) buf
         unfolding add_new
-        over-nodes h =
-            let t = le-ltb (length (used_nodes buf used n)) 2016 (omega (arith, count)) in
-            record { answered = rw (is-new, t, count); bytes = rw (is-new, t) }
+        over-buffer h =
+            let t = lt-leb (length (encode (used_nodes buf used n ++ x ∷ []))) (length buf) (omega (arith, next-length)) in
+            record { answered = rw (is-new, room, t, count); bytes = rw (is-new, room, t) }
 
-        module _ (few : n < 2016) where
-          room : ltb (length (used_nodes buf used n)) 2016 ≡ true
-          room = lt-ltb (length (used_nodes buf used n)) 2016 (omega (arith, count))
-
-          pub over-buffer : length buf < 512 * ((n + 63) / 63) → AddsTo buf used n x (Refused (record { number = 52; place = n })) buf
+        -- the new table is written
+        module _ (fits : 512 * ((n + 63) / 63) ≤ length buf) where
+          adds : add_node buf used (used_nodes buf used n) x ≡ answer (more buf (used_nodes buf used n) x)
           unfolding add_new
-          over-buffer h =
-              let t = lt-leb (length (encode (used_nodes buf used n ++ x ∷ []))) (length buf) (omega (arith, next-length)) in
-              record { answered = rw (is-new, room, t, count); bytes = rw (is-new, room, t) }
+          adds = is-new ∙ rw (room, le-leb (length (encode (used_nodes buf used n ++ x ∷ []))) (length buf) (omega (arith, next-length)))
 
-          -- the new table is written
-          module _ (fits : 512 * ((n + 63) / 63) ≤ length buf) where
-            adds : add_node buf used (used_nodes buf used n) x ≡ answer (more buf (used_nodes buf used n) x)
-            unfolding add_new
-            adds = is-new ∙ rw (room, le-leb (length (encode (used_nodes buf used n ++ x ∷ []))) (length buf) (omega (arith, next-length)))
-
-            pub writes : (after : List ℕ) (end : ℕ) → end ≡ 512 * ((n + 63) / 63)
-                → after ≡ encode (used_nodes buf used n ++ x ∷ []) ++ drop end buf
-                → AddsTo buf used n x (At (record { literal = 2 * n; used = end })) after
-            writes after end h e =
-                let q : end ≡ length (encode (used_nodes buf used n ++ x ∷ [])) = h ∙ sym next-length in
-                record { answered = rw (adds, count, q); bytes = rw (adds, ← q) e }
+          pub writes : (after : List ℕ) (end : ℕ) → end ≡ 512 * ((n + 63) / 63)
+              → after ≡ encode (used_nodes buf used n ++ x ∷ []) ++ drop end buf
+              → AddsTo buf used n x (Ok (record { literal = 2 * n; used = end })) after
+          writes after end h e =
+              let q : end ≡ length (encode (used_nodes buf used n ++ x ∷ [])) = h ∙ sym next-length in
+              record { answered = rw (adds, count, q); bytes = rw (adds, ← q) e }
 
     -- a new block behind the table is the table with the node more
     pub opened : n % 63 ≡ 0 → take used buf ++ (block_of 70 1 (n / 63) (node_bytes x) ++ drop (used + 512) buf)

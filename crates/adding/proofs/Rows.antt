@@ -8,7 +8,9 @@ use native.Mathlib.Omega.{arith}
 use lib.Dec.{eqb, ltb}
 use lib.ListN.{length, get_or, take}
 use borrow.Author.Tests.{lt-leb, le-leb, ltb-true, ltb-false}
+use Rattle.std.specs.Prelude.{Result}
 use Rattle.scope.specs.declared.Node.{Node}
+use Rattle.scope.specs.declared.Refusal.{Refusal}
 use Rattle.scope.specs.Outcome.{Outcome, answer, refused, ◌>>=◌}
 use Rattle.scope.specs.Block.{records_in}
 use Rattle.scope.specs.Table.{tables, node_bytes, range_ok, node_at, read_record, list_from}
@@ -20,15 +22,15 @@ use Rattle.codec.proofs.Rows.{by_test}
 use Rattle.codec.proofs.Records.{reads}
 use Rattle.codec.proofs.Tables.{answers}
 use Rattle.codec.proofs.Used.{used_encodes}
-use Rattle.adding.specs.declared.Added.{Added}
+use Rattle.adding.specs.declared.Mark.{Mark}
 use Rattle.adding.specs.Added.{added_of, marked, used_count, used_nodes, Ready}
 
 module _ (buf : List ℕ) (used : ℕ) (r : List ℕ) where
   -- the answer and the bytes are those of add
-  abbrev Answers : Added → List ℕ → Type 0
+  abbrev Answers : Result Mark Refusal → List ℕ → Type 0
   Answers v after = (added_of v ≡ marked (add buf used r)) × (after ≡ bytes_after buf (add buf used r))
 
-  pub refuses : {number place : ℕ} (v : Added) → added_of v ≡ refused number place → add buf used r ≡ refused number place → Answers v buf
+  pub refuses : {number place : ℕ} (v : Result Mark Refusal) → added_of v ≡ refused number place → add buf used r ≡ refused number place → Answers v buf
   refuses v p e = (p ∙ sym (ap marked e), sym (ap (bytes_after buf) e))
 
   -- row 9
@@ -74,7 +76,8 @@ module _ (buf : List ℕ) (used n : ℕ) (e : used_count (take used buf) ≡ ans
       sym none ∙ rw (← zero) refl)
       (λ t.
       let a = answers (take used buf) read.0 (rw t at read.1) in
-      let same : records_in tables (take used buf) ≡ n = sym (length_list_from (node_at (take used buf)) (records_in tables (take used buf)) 0) ∙ ap length (sym a.1) ∙ count in
+      let same : records_in tables (take used buf) ≡ n =
+      sym (length_list_from (node_at (take used buf)) (records_in tables (take used buf)) 0) ∙ ap length (sym a.1) ∙ count in
       a.1 ∙ ap (list_from (node_at (take used buf)) 0) same)
 
   pub used_nodes_lem : decode_used (take used buf) ≡ answer (used_nodes buf used n)
@@ -86,7 +89,8 @@ module _ (buf : List ℕ) (used n : ℕ) (e : used_count (take used buf) ≡ ans
   -- each node's operands are of earlier ones
   low : (0 < length (used_nodes buf used n) → Valid (used_nodes buf used n)) → (m : ℕ) → m < n → range_ok (node_at (take used buf) m) m ≡ true
   low valid m h =
-      let here : get_or (used_nodes buf used n) m no_node ≡ node_at (take used buf) m = rw zero-add at (get_d_list_from (node_at (take used buf)) n 0 m no_node h) in
+      let here : get_or (used_nodes buf used n) m no_node ≡ node_at (take used buf) m =
+      rw zero-add at (get_d_list_from (node_at (take used buf)) n 0 m no_node h) in
       let y : Node = get_or (used_nodes buf used n) m no_node in
       let e = (reads (node_bytes y) m ((valid (omega (arith, used_count_lem))).each m (omega (arith, used_count_lem)))).range in
       rw here at e

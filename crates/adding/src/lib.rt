@@ -8,11 +8,9 @@ ghost use Rattle.scope.specs.Table.{node_bytes, range_ok};
 ghost use Rattle.scope.specs.Calls.{add, bytes_after};
 ghost use Rattle.writer.specs.Grown.{grown};
 ghost use Rattle.table.specs.Counted.{counted_of};
-ghost use Rattle.adding.specs.Added.{added_of, marked, count_passed, read_passed, used_count, Ready, AddsTo};
+ghost use Rattle.adding.specs.Added.{added_of, marked, used_count, Ready, AddsTo};
 
-use record::NodeRead;
 use scope::{Node, Refusal};
-use table::Counted;
 
 // Where a record stands after add: its literal, and the used length.
 #[derive(Clone, Copy)]
@@ -21,20 +19,13 @@ pub struct Mark {
     pub used: usize,
 }
 
-// What add answers.
-#[derive(Clone, Copy)]
-pub enum Added {
-    At(Mark),
-    Refused(Refusal),
-}
-
 // The nodes of the used part, of which there are none where nothing is used.
-fn used_nodes(buf: &[u8], used: usize) -> Counted
+fn used_nodes(buf: &[u8], used: usize) -> Result<usize, Refusal>
     requires { used ≤ length buf.now }
     ensures { counted_of result ≡ used_count (take used buf.now) }
 {
     if used == 0 {
-        return Counted::Nodes(0);
+        return Ok(0);
     }
     table::count(&buf[..used])
 }
@@ -57,97 +48,64 @@ fn open_block(buf: &mut [u8], used: usize, index: usize, r: [u8; 8])
 }
 
 // The node x, whose record is r: found among the nodes of the used part, or new.
-fn add_node(buf: &mut [u8], used: usize, nodes: usize, r: [u8; 8], x: Node) -> Added
+fn add_node(buf: &mut [u8], used: usize, nodes: usize, r: [u8; 8], x: Node) -> Result<Mark, Refusal>
     requires { Ready buf.old used nodes × (r ≡ node_bytes x) × (range_ok x nodes ≡ true) }
     ensures { AddsTo buf.old used nodes x result buf.new }
 {
-    let found = lookup::find(&buf[..used], nodes, x);
-    if found < nodes {
-        return Added::At(Mark {
+    if let Some(found) = lookup::find(&buf[..used], nodes, x) {
+        return Ok(Mark {
             literal: 2 * found,
             used,
         });
     }
     if nodes == 2016 {
-        return Added::Refused(Refusal {
+        return Err(Refusal {
             number: 51,
             place: nodes,
         });
     }
     if nodes % 63 != 0 {
         grow_last(buf, used, nodes % 63, r);
-        return Added::At(Mark {
+        return Ok(Mark {
             literal: 2 * nodes,
             used,
         });
     }
     if buf.len() - used < 512 {
-        return Added::Refused(Refusal {
+        return Err(Refusal {
             number: 52,
             place: nodes,
         });
     }
     open_block(buf, used, nodes / 63, r);
-    Added::At(Mark {
+    Ok(Mark {
         literal: 2 * nodes,
         used: used + 512,
     })
 }
 
-// A count's refusal passed on.
-fn pass_count(c: Counted) -> Added
-    ensures { added_of result ≡ count_passed c }
-{
-    match c {
-        Counted::Nodes(_) => Added::At(Mark {
-            literal: 0,
-            used: 0,
-        }),
-        Counted::Refused(f) => Added::Refused(f),
-    }
-}
-
-// A record's refusal passed on.
-fn pass_read(r: NodeRead) -> Added
-    ensures { added_of result ≡ read_passed r }
-{
-    match r {
-        NodeRead::Found(_) => Added::At(Mark {
-            literal: 0,
-            used: 0,
-        }),
-        NodeRead::Refused(f) => Added::Refused(f),
-    }
-}
-
 // The record's rows, then its node, where the used part has so many nodes.
-fn add_record(buf: &mut [u8], used: usize, nodes: usize, r: [u8; 8]) -> Added
+fn add_record(buf: &mut [u8], used: usize, nodes: usize, r: [u8; 8]) -> Result<Mark, Refusal>
     requires { (used ≤ length buf.old) × (used_count (take used buf.old) ≡ answer nodes) }
     ensures answered { added_of result ≡ marked (add buf.old used r) }
     ensures bytes { buf.new ≡ bytes_after buf.old (add buf.old used r) }
 {
     let y = lookup::normalize(r);
-    let v = record::read_record(&y, nodes);
-    let NodeRead::Found(x) = v else {
-        return pass_read(v);
-    };
+    let x = record::read_record(&y, nodes)?;
     add_node(buf, used, nodes, y, x)
 }
 
 // Adds a record of 8 bytes to the table in the used part of a buffer.
-pub fn add(buf: &mut [u8], used: usize, r: [u8; 8]) -> Added
+pub fn add(buf: &mut [u8], used: usize, r: [u8; 8]) -> Result<Mark, Refusal>
     ensures answered { added_of result ≡ marked (add buf.old used r) }
     ensures bytes { buf.new ≡ bytes_after buf.old (add buf.old used r) }
 {
     if buf.len() < used {
-        return Added::Refused(Refusal {
+        return Err(Refusal {
             number: 9,
             place: 0,
         });
     }
-    let c = used_nodes(buf, used);
-    let Counted::Nodes(nodes) = c else {
-        return pass_count(c);
-    };
+    let nodes = used_nodes(buf, used)?;
     add_record(buf, used, nodes, r)
 }

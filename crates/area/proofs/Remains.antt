@@ -111,21 +111,25 @@ module _ (w : List ℕ) (s : ℕ) {a b : ℕ} (f : a ≡ strike_at w s) (g : b �
   two-by : only_from w s 2 ≡ two_by
   unfolding whole_in free_from
   two-by =
-      ap (λ (q : ℕ). cond (is_whole w s || (is_whole w q || false)) 0 (one_slot (cond (eqb (strike_at w s) 0) (s ∷ cond (eqb (strike_at w q) 0) (q ∷ []) []) (cond (eqb (strike_at w q) 0) (q ∷ []) []))))
+      ap (λ (q : ℕ). cond (is_whole w s || (is_whole w q || false)) 0
+      (one_slot (cond (eqb (strike_at w s) 0) (s ∷ cond (eqb (strike_at w q) 0) (q ∷ []) []) (cond (eqb (strike_at w q) 0) (q ∷ []) []))))
       (sym (add-one s))
-      ∙ sym (ap (λ (x : ℕ). cond (leb whole x || (leb whole b || false)) 0 (one_slot (cond (eqb x 0) (s ∷ cond (eqb b 0) ((s + 1) ∷ []) []) (cond (eqb b 0) ((s + 1) ∷ []) [])))) f
-      ∙ ap (λ (x : ℕ). cond (is_whole w s || (leb whole x || false)) 0 (one_slot (cond (eqb (strike_at w s) 0) (s ∷ cond (eqb x 0) ((s + 1) ∷ []) []) (cond (eqb x 0) ((s + 1) ∷ []) [])))) g)
+      ∙ sym (ap (λ (x : ℕ). cond (leb whole x || (leb whole b || false)) 0
+      (one_slot (cond (eqb x 0) (s ∷ cond (eqb b 0) ((s + 1) ∷ []) []) (cond (eqb b 0) ((s + 1) ∷ []) [])))) f
+      ∙ ap (λ (x : ℕ). cond (is_whole w s || (leb whole x || false)) 0
+      (one_slot (cond (eqb (strike_at w s) 0) (s ∷ cond (eqb x 0) ((s + 1) ∷ []) []) (cond (eqb x 0) ((s + 1) ∷ []) [])))) g)
 
-  pub two-first : a ≡ 0 → b ≡ notes → s + 1 ≡ only_from w s 2
+  pub two-first : a ≡ 0 → b ≡ notes → suc s ≡ only_from w s 2
   two-first p q =
-      let y : two_by ≡ suc s = simp (lt-leb whole a (omega (arith, p)), lt-leb whole b (omega (arith, q)), eq-eqb a 0 p, ne_eqb b 0 (λ x. omega (arith, q, x))) in
-      sym (two-by ∙ y ∙ sym (add-one s))
+      let y : two_by ≡ suc s =
+      simp (lt-leb whole a (omega (arith, p)), lt-leb whole b (omega (arith, q)), eq-eqb a 0 p, ne_eqb b 0 (λ x. omega (arith, q, x))) in
+      sym (two-by ∙ y)
 
-  pub two_second : a ≡ notes → b ≡ 0 → s + 2 ≡ only_from w s 2
+  pub two_second : a ≡ notes → b ≡ 0 → suc (s + 1) ≡ only_from w s 2
   two_second p q =
-      let z : suc (s + 1) ≡ s + 2 = omega arith in
-      let y : two_by ≡ suc (s + 1) = simp (lt-leb whole a (omega (arith, p)), lt-leb whole b (omega (arith, q)), ne_eqb a 0 (λ x. omega (arith, p, x)), eq-eqb b 0 q) in
-      sym (two-by ∙ y ∙ z)
+      let y : two_by ≡ suc (s + 1) =
+      simp (lt-leb whole a (omega (arith, p)), lt-leb whole b (omega (arith, q)), ne_eqb a 0 (λ x. omega (arith, p, x)), eq-eqb b 0 q) in
+      sym (two-by ∙ y)
 
   -- the clause is struck, or both are left, or neither is
   pub two-both : a ≡ 0 → (b ≡ notes → ⊥) → 0 ≡ only_from w s 2
@@ -141,16 +145,17 @@ module _ (w : List ℕ) (s : ℕ) {a b : ℕ} (f : a ≡ strike_at w s) (g : b �
   pub two_none : a ≡ notes → (b ≡ 0 → ⊥) → 0 ≡ only_from w s 2
   two_none p q = sym (two-by ∙ go (leb whole b))
     where
-      go : (y : Bool) → cond (leb whole a || (y || false)) 0 (one_slot (cond (eqb a 0) (s ∷ cond (eqb b 0) ((s + 1) ∷ []) []) (cond (eqb b 0) ((s + 1) ∷ []) []))) ≡ 0
+      go : (y : Bool) → cond (leb whole a || (y || false)) 0 (one_slot
+          (cond (eqb a 0) (s ∷ cond (eqb b 0) ((s + 1) ∷ []) []) (cond (eqb b 0) ((s + 1) ∷ []) []))) ≡ 0
       go true = simp (lt-leb whole a (omega (arith, p)))
       go false = simp (lt-leb whole a (omega (arith, p)), ne_eqb a 0 (λ x. omega (arith, p, x)), ne_eqb b 0 q)
 
 pub only-not : (w : List ℕ) (k : ℕ) → clause_count w ≤ k → 0 ≡ only_in w k
 only-not w k h = simp (le-ltb k (clause_count w) h)
 
-one_of : (ss : List ℕ) → length ss ≡ 1 → one_slot ss ≡ get_or ss 0 0 + 1
+one_of : (ss : List ℕ) → length ss ≡ 1 → one_slot ss ≡ suc (get_or ss 0 0)
 one_of [] e = absurd (omega (arith, e))
-one_of (s ∷ []) e = sym (add-one s)
+one_of (s ∷ []) e = refl
 one_of (s ∷ q ∷ ss) e = absurd (omega (arith, e))
 
 none_of : (ss : List ℕ) → (length ss ≡ 1 → ⊥) → one_slot ss ≡ 0
@@ -163,7 +168,8 @@ module _ (w : List ℕ) (k : ℕ) (h : k < clause_count w) where
   in_list_lem = ap (λ (b : Bool). cond b (only_from w (base_at w k) (length_at w k)) 0) (lt-ltb k (clause_count w) h)
 
   stands_whole : {b : Bool} → stands_in w k ≡ b → whole_in w (base_at w k) (length_at w k) ≡ not b
-  stands_whole {b} e = flip (whole_in w (base_at w k) (length_at w k)) (sym (ap (◌&& not (whole_in w (base_at w k) (length_at w k))) (lt-ltb k (clause_count w) h)) ∙ e)
+  stands_whole {b} e = flip (whole_in w (base_at w k) (length_at w k))
+      (sym (ap (◌&& not (whole_in w (base_at w k) (length_at w k))) (lt-ltb k (clause_count w) h)) ∙ e)
     where
       flip : (x : Bool) → not x ≡ b → x ≡ not b
       flip true q = ap not q
@@ -184,24 +190,26 @@ module _ (w : List ℕ) (k : ℕ) (h : k < clause_count w) where
     pub only-lacks : (x.count ≡ 1 → ⊥) → 0 ≡ only_in w k
     only-lacks z = sym (only-free ∙ none_of (free_in w k) (λ y. z (ap (λ (l : Left). l.count) q ∙ y)))
 
-    pub only-found : x.count ≡ 1 → x.first + 1 ≡ only_in w k
-    only-found z = ap (λ (l : Left). l.first + 1) q ∙ sym (only-free ∙ one_of (free_in w k) (sym (ap (λ (l : Left). l.count) q) ∙ z))
+    pub only-found : x.count ≡ 1 → suc x.first ≡ only_in w k
+    only-found z = ap (λ (l : Left). suc l.first) q ∙ sym (only-free ∙ one_of (free_in w k) (sym (ap (λ (l : Left). l.count) q) ∙ z))
 
 -- a slot that was found is the one that is left; and where none was, the clause does not stand, or it has not one left
-pub only-some : (w : List ℕ) (k : ℕ) {r : ℕ} → r ≡ only_in w k → (r ≡ 0 → ⊥) → (stands_in w k ≡ true) × (◌≡◌ {A = Left} (record { count = 1; first = r - 1 }) (left_of (free_in w k)))
-only-some w k {r} e n = go (ltb k (clause_count w)) (whole_in w (base_at w k) (length_at w k)) (free_in w k) e
+pub only-some : (w : List ℕ) (k : ℕ) {s : ℕ} → suc s ≡ only_in w k
+    → (stands_in w k ≡ true) × (◌≡◌ {A = Left} (record { count = 1; first = s }) (left_of (free_in w k)))
+only-some w k {s} e = go (ltb k (clause_count w)) (whole_in w (base_at w k) (length_at w k)) (free_in w k) e
   where
-    go : (x y : Bool) (ss : List ℕ) → r ≡ cond x (cond y 0 (one_slot ss)) 0 → ((x && not y) ≡ true) × (◌≡◌ {A = Left} (record { count = 1; first = r - 1 }) (left_of ss))
-    go true true ss q = absurd (n q)
-    go true false [] q = absurd (n q)
-    go true false (s ∷ []) q =
-        let y : r - 1 ≡ s = omega (arith, q) in
+    go : (x y : Bool) (ss : List ℕ) → suc s ≡ cond x (cond y 0 (one_slot ss)) 0
+        → ((x && not y) ≡ true) × (◌≡◌ {A = Left} (record { count = 1; first = s }) (left_of ss))
+    go true true ss q = absurd (omega (arith, q))
+    go true false [] q = absurd (omega (arith, q))
+    go true false (r ∷ []) q =
+        let y : s ≡ r = omega (arith, q) in
         (refl, ap (λ (m : ℕ). record { count = 1; first = m }) y)
-    go true false (s ∷ u ∷ ss) q = absurd (n q)
-    go false y ss q = absurd (n q)
+    go true false (r ∷ u ∷ ss) q = absurd (omega (arith, q))
+    go false y ss q = absurd (omega (arith, q))
 
-pub only_none : (w : List ℕ) (k : ℕ) {r : ℕ} → r ≡ only_in w k → r ≡ 0 → stands_in w k ≡ true → (left_of (free_in w k)).count ≡ 1 → ⊥
-only_none w k {r} e z = go (ltb k (clause_count w)) (whole_in w (base_at w k) (length_at w k)) (free_in w k) (sym e ∙ z)
+pub only_none : (w : List ℕ) (k : ℕ) → 0 ≡ only_in w k → stands_in w k ≡ true → (left_of (free_in w k)).count ≡ 1 → ⊥
+only_none w k e = go (ltb k (clause_count w)) (whole_in w (base_at w k) (length_at w k)) (free_in w k) (sym e)
   where
     go : (x y : Bool) (ss : List ℕ) → cond x (cond y 0 (one_slot ss)) 0 ≡ 0 → (x && not y) ≡ true → length ss ≡ 1 → ⊥
     go true true ss q a b = false≢true a
@@ -231,28 +239,34 @@ empty_starts w k {s} {e} h p q =
 -- what is left from slot s on is the answer
 module _ (w : List ℕ) (k s e : ℕ) (q : empty_in w k ≡ bare w s (e - s)) where
   bare_step : s < e → {v : ℕ} → v ≡ strike_at w s
-      → empty_in w k ≡ (not (leb whole v || whole_in w (s + 1) (e - (s + 1))) && eqb (length (cond (eqb v 0) (s ∷ free_from w (s + 1) (e - (s + 1))) (free_from w (s + 1) (e - (s + 1))))) 0)
+      → empty_in w k ≡ (not (leb whole v || whole_in w (s + 1) (e - (s + 1))) && eqb
+      (length (cond (eqb v 0) (s ∷ free_from w (s + 1) (e - (s + 1))) (free_from w (s + 1) (e - (s + 1))))) 0)
   bare_step h {v} g =
       q ∙ ap (λ (b : Bool). not b && eqb (length (free_from w s (e - s))) 0) (whole-step w s e h)
       ∙ ap (λ (ss : List ℕ). not (is_whole w s || whole_in w (s + 1) (e - (s + 1))) && eqb (length ss) 0) (free_step w s e h)
-      ∙ sym (ap (λ (x : ℕ). not (leb whole x || whole_in w (s + 1) (e - (s + 1))) && eqb (length (cond (eqb x 0) (s ∷ free_from w (s + 1) (e - (s + 1))) (free_from w (s + 1) (e - (s + 1))))) 0) g)
+      ∙ sym (ap (λ (x : ℕ). not (leb whole x || whole_in w (s + 1) (e - (s + 1))) && eqb
+      (length (cond (eqb x 0) (s ∷ free_from w (s + 1) (e - (s + 1))) (free_from w (s + 1) (e - (s + 1))))) 0) g)
 
   pub empty-later : {v : ℕ} → s < e → v ≡ strike_at w s → v ≡ notes → empty_in w k ≡ bare w (s + 1) (e - (s + 1))
   empty-later {v} h g b = bare_step h g ∙ simp (lt-leb whole v (omega (arith, b)), ne_eqb v 0 (λ x. omega (arith, b, x)))
 
   pub empty_ends : e ≤ s → true ≡ empty_in w k
-  empty_ends h = sym (q ∙ ap (λ (b : Bool). not b && eqb (length (free_from w s (e - s))) 0) (whole-none w s e h) ∙ ap (λ (ss : List ℕ). eqb (length ss) 0) (free_none w s e h))
+  empty_ends h = sym (q ∙ ap (λ (b : Bool). not b && eqb (length (free_from w s (e - s))) 0) (whole-none w s e h)
+      ∙ ap (λ (ss : List ℕ). eqb (length ss) 0) (free_none w s e h))
 
   -- a strike is a multiple of `notes`
   pub empty-falls : {v : ℕ} → s < e → v ≡ strike_at w s → (v ≡ notes → ⊥) → false ≡ empty_in w k
   empty-falls {v} h g n = sym (bare_step h g ∙ go (ℕ_discrete v 0))
     where
       go : Dec (v ≡ 0)
-          → (not (leb whole v || whole_in w (s + 1) (e - (s + 1))) && eqb (length (cond (eqb v 0) (s ∷ free_from w (s + 1) (e - (s + 1))) (free_from w (s + 1) (e - (s + 1))))) 0) ≡ false
-      go (yes z) = ap (λ (b : Bool). not (leb whole v || whole_in w (s + 1) (e - (s + 1))) && eqb (length (cond b (s ∷ free_from w (s + 1) (e - (s + 1))) (free_from w (s + 1) (e - (s + 1))))) 0) (eq-eqb v 0 z)
+          → (not (leb whole v || whole_in w (s + 1) (e - (s + 1))) && eqb
+          (length (cond (eqb v 0) (s ∷ free_from w (s + 1) (e - (s + 1))) (free_from w (s + 1) (e - (s + 1))))) 0) ≡ false
+      go (yes z) = ap (λ (b : Bool). not (leb whole v || whole_in w (s + 1) (e - (s + 1))) && eqb
+          (length (cond b (s ∷ free_from w (s + 1) (e - (s + 1))) (free_from w (s + 1) (e - (s + 1))))) 0) (eq-eqb v 0 z)
           ∙ ap (not (leb whole v || whole_in w (s + 1) (e - (s + 1))) &&◌) (ne_eqb (length (s ∷ free_from w (s + 1) (e - (s + 1)))) 0 (λ x. omega (arith, x)))
           ∙ and-false (not (leb whole v || whole_in w (s + 1) (e - (s + 1))))
-      go (no z) = ap (λ (b : Bool). not (b || whole_in w (s + 1) (e - (s + 1))) && eqb (length (cond (eqb v 0) (s ∷ free_from w (s + 1) (e - (s + 1))) (free_from w (s + 1) (e - (s + 1))))) 0)
+      go (no z) = ap (λ (b : Bool). not (b || whole_in w (s + 1) (e - (s + 1))) && eqb
+          (length (cond (eqb v 0) (s ∷ free_from w (s + 1) (e - (s + 1))) (free_from w (s + 1) (e - (s + 1))))) 0)
           (le-leb whole v (omega (arith, g, n, z)))
 
 -- ---- what is true
@@ -266,25 +280,28 @@ module _ (w : List ℕ) (s : ℕ) {v : ℕ} (e : v ≡ strike_at w s) where
   pub true_struck : (v ≡ 0 → ⊥) → false ≡ (eqb (strike_at w s) 0 && is_holds (value_of (g_of w) (slot_at w s)))
   true_struck z = sym (ap (◌&& is_holds (value_of (g_of w) (slot_at w s))) (ne_eqb (strike_at w s) 0 (λ q. z (e ∙ q))))
 
-  pub true-by : {l u : ℕ} → v ≡ 0 → l ≡ slot_at w s → u ≡ value_code (value_of (g_of w) l) → eqb u 1 ≡ (eqb (strike_at w s) 0 && is_holds (value_of (g_of w) (slot_at w s)))
+  pub true-by : {l u : ℕ} → v ≡ 0 → l ≡ slot_at w s → u ≡ value_code (value_of (g_of w) l)
+      → eqb u 1 ≡ (eqb (strike_at w s) 0 && is_holds (value_of (g_of w) (slot_at w s)))
   true-by {l} {u} z g h =
       ap (λ (x : ℕ). eqb x 1) (h ∙ ap (λ (x : ℕ). value_code (value_of (g_of w) x)) g) ∙ sym (is-holds (value_of (g_of w) (slot_at w s)))
       ∙ sym (ap (◌&& is_holds (value_of (g_of w) (slot_at w s))) (eq-eqb (strike_at w s) 0 (sym e ∙ z)))
 
 -- the first true slot from slot s on is the answer
 module _ (w : List ℕ) (s e a : ℕ) (q : a ≡ true_from w s (e - s)) where
-  true-step : {r : Bool} → s < e → r ≡ (eqb (strike_at w s) 0 && is_holds (value_of (g_of w) (slot_at w s))) → a ≡ cond r (s + 1) (true_from w (s + 1) (e - (s + 1)))
+  true-step : {r : Bool} → s < e → r ≡ (eqb (strike_at w s) 0 && is_holds (value_of (g_of w) (slot_at w s)))
+      → a ≡ cond r (suc s) (true_from w (s + 1) (e - (s + 1)))
   unfolding true_from
   true-step {r} h g =
       q ∙ ap (true_from w s) (count-step s e h)
-      ∙ ap (λ (x : ℕ). cond (eqb (strike_at w s) 0 && is_holds (value_of (g_of w) (slot_at w s))) x (true_from w x (e - (s + 1)))) (sym (add-one s))
-      ∙ ap (λ (b : Bool). cond b (s + 1) (true_from w (s + 1) (e - (s + 1)))) (sym g)
+      ∙ ap (λ (x : ℕ). cond (eqb (strike_at w s) 0 && is_holds (value_of (g_of w) (slot_at w s))) (suc s) (true_from w x (e - (s + 1)))) (sym (add-one s))
+      ∙ ap (λ (b : Bool). cond b (suc s) (true_from w (s + 1) (e - (s + 1)))) (sym g)
 
-  pub true_found : {r : Bool} → s < e → r ≡ (eqb (strike_at w s) 0 && is_holds (value_of (g_of w) (slot_at w s))) → r ≡ true → s + 1 ≡ a
-  true_found h g b = sym (true-step h g ∙ ap (λ (x : Bool). cond x (s + 1) (true_from w (s + 1) (e - (s + 1)))) b)
+  pub true_found : {r : Bool} → s < e → r ≡ (eqb (strike_at w s) 0 && is_holds (value_of (g_of w) (slot_at w s))) → r ≡ true → suc s ≡ a
+  true_found h g b = sym (true-step h g ∙ ap (λ (x : Bool). cond x (suc s) (true_from w (s + 1) (e - (s + 1)))) b)
 
-  pub true-later : {r : Bool} → s < e → r ≡ (eqb (strike_at w s) 0 && is_holds (value_of (g_of w) (slot_at w s))) → r ≡ false → a ≡ true_from w (s + 1) (e - (s + 1))
-  true-later h g b = true-step h g ∙ ap (λ (x : Bool). cond x (s + 1) (true_from w (s + 1) (e - (s + 1)))) b
+  pub true-later : {r : Bool} → s < e → r ≡ (eqb (strike_at w s) 0 && is_holds (value_of (g_of w) (slot_at w s))) → r ≡ false
+      → a ≡ true_from w (s + 1) (e - (s + 1))
+  true-later h g b = true-step h g ∙ ap (λ (x : Bool). cond x (suc s) (true_from w (s + 1) (e - (s + 1)))) b
 
   pub true-none : e ≤ s → 0 ≡ a
   unfolding true_from

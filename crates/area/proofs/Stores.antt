@@ -36,7 +36,8 @@ shrink_ends {n} {c} {w₀} {w} f b p =
 
 -- ---- a strike, a split
 
-module _ (w : List ℕ) (m kind : ℕ) (size : area_size ≤ length w) (b : m < most_slots) (few : newest w ≤ most_slots) (z : kind % notes ≡ 0) (none : strike_at w m ≡ 0) where
+module _ (w : List ℕ) (m kind : ℕ) (size : area_size ≤ length w) (b : m < most_slots) (few : newest w ≤ most_slots) (z : kind % notes ≡ 0)
+    (none : strike_at w m ≡ 0) where
   I : ℕ
   I = newest w
 
@@ -89,7 +90,8 @@ module _ (w : List ℕ) (m kind : ℕ) (size : area_size ≤ length w) (b : m < 
 
   -- a slot lies before all notes
   packed₃ : (s : ℕ) → s < most_slots → (s ≡ m → ⊥) → packed_at w₃ s ≡ packed_at w s
-  packed₃ s h e = away₃ (slots_from + s) (λ q. omega (arith, q)) ∙ away₂ (slots_from + s) (λ q. e (omega (arith, q))) ∙ away₁ (slots_from + s) (λ q. omega (arith, q, h))
+  packed₃ s h e = away₃ (slots_from + s) (λ q. omega (arith, q)) ∙ away₂ (slots_from + s) (λ q. e (omega (arith, q)))
+      ∙ away₁ (slots_from + s) (λ q. omega (arith, q, h))
 
   note₃ : (i : ℕ) → note_at w₃ i ≡ note_at w₁ i
   note₃ i = away₃ (strikes_from + i) (λ q. omega (arith, q)) ∙ away₂ (strikes_from + i) (λ q. omega (arith, q, b))
@@ -122,7 +124,8 @@ module _ (w : List ℕ) (m kind : ℕ) (size : area_size ≤ length w) (b : m < 
   unfolding w₁ I
   struck_fits h = omega (arith, packed₁, none, h)
 
-  pub is_struck : Struck kind m w (set (set (set w (strikes_from + newest w) m) (slots_from + m) (packed_at (set w (strikes_from + newest w) m) m + (notes + kind))) 2 (newest w + 1))
+  pub is_struck : Struck kind m w (set (set (set w (strikes_from + newest w) m) (slots_from + m)
+      (packed_at (set w (strikes_from + newest w) m) m + (notes + kind))) 2 (newest w + 1))
   unfolding w₃ w₂ w₁ I
   is_struck = struck₃
 
@@ -207,7 +210,9 @@ module _ (w : List ℕ) (size : area_size ≤ length w) (low : depth w < most_no
     else = λ i a b c d. t₄ i a ∙ t₃ i d ∙ t₂ i c ∙ t₁ i b;
   }
 
-  pub is_saved : Saved w (set (set (set (set w (counts_from + depth w) (trail_at w 0)) (sizes_from + depth w) (clause_count (set w (counts_from + depth w) (trail_at w 0)))) (heads_from + depth w)
-      (newest (set (set w (counts_from + depth w) (trail_at w 0)) (sizes_from + depth w) (clause_count (set w (counts_from + depth w) (trail_at w 0)))))) 1 (depth w + 1))
+  pub is_saved : Saved w (set (set (set (set w (counts_from + depth w) (trail_at w 0)) (sizes_from + depth w)
+      (clause_count (set w (counts_from + depth w) (trail_at w 0)))) (heads_from + depth w)
+      (newest (set (set w (counts_from + depth w) (trail_at w 0)) (sizes_from + depth w) (clause_count (set w (counts_from + depth w) (trail_at w 0)))))) 1
+      (depth w + 1))
   unfolding v₄ v₃ v₂ v₁ D
   is_saved = saved₄

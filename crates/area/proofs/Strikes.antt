@@ -105,7 +105,13 @@ ahead : (head : ℕ) (w : List ℕ) → area_size ≤ length w → Reaches head 
 ahead head w size ([], L, (h, e)) n = absurd (n (h.head ∙ sym e))
 ahead head w size (m ∷ K, L, (h, e)) n =
     let z : newest w - 1 ≡ length (K ++ L) = omega (arith, h.head) in
-    record { size = size; some = omega (arith, h.head); most = head_most w (m ∷ (K ++ L)) h; low = subst (◌< most_slots) (sym (ap (note_at w) z ∙ h.chain.0.2)) h.chain.0.0 }
+    record {
+      size = size;
+      some = omega (arith, h.head);
+      most = head_most w (m ∷ (K ++ L)) h;
+      low =
+          subst (◌< most_slots) (sym (ap (note_at w) z ∙ h.chain.0.2)) h.chain.0.0;
+    }
 
 -- the stores of one turn
 abbrev pub undone : List ℕ → List ℕ
@@ -136,7 +142,8 @@ module _ (w : List ℕ) (size : area_size ≤ length w) (m : ℕ) (b : m < most_
 
   here₂ : packed_at w₂ m ≡ slot_at w m
   unfolding w₂ w₁
-  here₂ = get_or-set_other w₁ 2 (slots_from + m) (newest w - 1) 0 (λ q. omega (arith, q)) ∙ get_or-set_same w (slots_from + m) (slot_at w m) 0 (omega (arith, size, b))
+  here₂ = get_or-set_other w₁ 2 (slots_from + m) (newest w - 1) 0 (λ q. omega (arith, q))
+      ∙ get_or-set_same w (slots_from + m) (slot_at w m) 0 (omega (arith, size, b))
 
   is₂ : undone w ≡ w₂
   unfolding w₂ w₁

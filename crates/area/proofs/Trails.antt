@@ -14,7 +14,8 @@ use Rattle.area.specs.Area.{area_size, most_nodes, trail_from, trail_at, g_of, T
 pub room_left : (n : ℕ) (w : List ℕ) (l : ℕ) → Trail n (trail_at w) → Fresh n (g_of w) l → trail_at w 0 < n
 room_left n w l h f = room-held n (trail_at w) h l f
 
-pub is-entered : (n : ℕ) (w : List ℕ) (l : ℕ) → area_size ≤ length w → n ≤ most_nodes → Trail n (trail_at w) → Fresh n (g_of w) l → Entered n l w (entered trail_from w w l)
+pub is-entered : (n : ℕ) (w : List ℕ) (l : ℕ) → area_size ≤ length w → n ≤ most_nodes → Trail n (trail_at w) → Fresh n (g_of w) l
+    → Entered n l w (entered trail_from w w l)
 is-entered n w l size few h f =
     let j = joins n trail_from l w w (omega (arith, size)) few (λ i k. refl) h f in
     record {

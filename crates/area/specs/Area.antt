@@ -1,7 +1,7 @@
 -- The derivation checker's work area. Place 0: how many clauses; 1: how many splits are open; 2: how many strikes there are. Then come
 -- the clauses one after the other, of any length: where each begins, and a slot for each literal, with its strike; the strikes in the
 -- order in which they were made; what is saved at each open split; and last the trail. Assumes nothing.
-use Rattle.std.specs.Prelude.{◌≡◌, Bool, false, cond, not, ◌&&◌, ◌||◌, ◌⊎◌, List, [], ◌∷◌, ℕ, zero, suc, ◌+◌, ◌-◌, ◌*◌, ◌%◌, ◌<◌, ◌≤◌, eqb, leb, ltb, get_or, length}
+use Rattle.std.specs.Prelude.{◌≡◌, Bool, false, cond, not, ◌&&◌, ◌||◌, ◌⊎◌, Option, None, Some, List, [], ◌∷◌, ℕ, zero, suc, ◌+◌, ◌-◌, ◌*◌, ◌%◌, ◌<◌, ◌≤◌, eqb, leb, ltb, get_or, length}
 use Rattle.calculus.specs.Order.{value_of}
 pub use Rattle.trail.specs.Trail.{held, value_code, Vals, Trail}
 unfoldable pub use Rattle.trail.specs.Trail.{trail}
@@ -157,7 +157,8 @@ pub record Saved (w w' : List ℕ) : Type 0 where
   pub count : split_count w' (depth w) ≡ trail_at w 0
   pub clauses : split_size w' (depth w) ≡ clause_count w
   pub head : split_head w' (depth w) ≡ newest w
-  pub else : (i : ℕ) → (i ≡ 1 → ⊥) → (i ≡ counts_from + depth w → ⊥) → (i ≡ sizes_from + depth w → ⊥) → (i ≡ heads_from + depth w → ⊥) → get_or w' i 0 ≡ get_or w i 0
+  pub else : (i : ℕ) → (i ≡ 1 → ⊥) → (i ≡ counts_from + depth w → ⊥) → (i ≡ sizes_from + depth w → ⊥) → (i ≡ heads_from + depth w → ⊥)
+      → get_or w' i 0 ≡ get_or w i 0
 
 -- ---- clauses as the code reads them
 
@@ -187,6 +188,11 @@ free_from w s (suc m) = cond (eqb (strike_at w s) 0) (s ∷ free_from w (suc s) 
 
 abbrev pub free_in : List ℕ → ℕ → List ℕ
 free_in w k = free_from w (base_at w k) (length_at w k)
+
+-- a slot that was found, + 1; 0 where none was
+abbrev pub found_of : Option ℕ → ℕ
+found_of None = 0
+found_of (Some s) = suc s
 
 -- the one slot of a list, + 1; 0 where there is none, or another
 abbrev pub one_slot : List ℕ → ℕ

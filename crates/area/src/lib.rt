@@ -6,7 +6,7 @@ ghost use Rattle.std.specs.Prelude.{◌≡◌, cond, ◌&&◌, ℕ, suc, ◌+◌
 ghost use Rattle.calculus.specs.Order.{value_of};
 ghost use Rattle.calculus.specs.Model.{Fresh};
 ghost use Rattle.rules.specs.Rules.{is_holds};
-ghost use Rattle.area.specs.Area.{area_size, most_nodes, most_clauses, most_slots, notes, whole, clause_count, depth, newest, base_at, slot_at, strike_at, length_at, trail_at, g_of, Vals, Trail, value_code, Entered, Shrunk, Struck, Saved, Ranged, stands_in, free_in, only_from, only_in, empty_in, left_of, true_from};
+ghost use Rattle.area.specs.Area.{area_size, most_nodes, most_clauses, most_slots, notes, whole, clause_count, depth, newest, base_at, slot_at, strike_at, length_at, trail_at, g_of, Vals, Trail, value_code, Entered, Shrunk, Struck, Saved, Ranged, stands_in, free_in, only_from, only_in, empty_in, left_of, found_of, true_from};
 ghost use Rattle.area.specs.Strikes.{Reaches, Unwound};
 
 // What a clause has left: how many literals, and the slot of the first, 0 where there is none.
@@ -51,6 +51,7 @@ const NOTES: u16 = 8192;
 pub const WHOLE: u16 = 16384;
 
 // A literal joins the trail.
+#[tactic(auto, using(crate::proofs::Trails::room_left))]
 pub fn enter(n: usize, work: &mut [u16], l: u16)
     requires area_size_in_bounds { (area_size ≤ length work.old) × (n ≤ most_nodes) }
     requires trail { Trail n (trail_at work.old) × Fresh n (g_of work.old) l }
@@ -63,6 +64,7 @@ pub fn enter(n: usize, work: &mut [u16], l: u16)
 }
 
 // The newest literal leaves the trail.
+#[tactic(auto, using(crate::proofs::Trails::poppable))]
 fn pop(n: usize, work: &mut [u16])
     requires area_size_in_bounds { (area_size ≤ length work.old) × (n ≤ most_nodes) × (0 < trail_at work.old 0) }
     requires trail { Trail n (trail_at work.old) }
@@ -111,6 +113,7 @@ pub fn strike(work: &mut [u16], m: usize, kind: u16)
 }
 
 // The strikes made since there were `head` are undone.
+#[tactic(auto, using(crate::proofs::Strikes::unwinding_ahead))]
 pub fn unwind(work: &mut [u16], head: u16)
     requires area_size_in_bounds { area_size ≤ length work.old }
     requires reaches { Reaches head work.old }
@@ -169,13 +172,12 @@ pub fn stands(work: &[u16], k: usize) -> bool
     if work[0] as usize <= k {
         return false;
     }
+    let start = base(work, k);
     let end = base(work, k + 1);
-    let mut s = base(work, k);
-    while s < end {
+    for s in start..end {
         if WHOLE <= strike_in(work, s) {
             return false;
         }
-        s += 1;
     }
     true
 }
@@ -200,58 +202,49 @@ fn remaining(work: &[u16], k: usize) -> Left
     ensures { result ≡ left_of (free_in work.now k) }
 {
     let start = base(work, k);
-    let mut s = base(work, k + 1);
+    let end = base(work, k + 1);
     let mut left = Left { count: 0, first: 0 };
-    while start < s {
-        s -= 1;
+    for s in (start..end).rev() {
         left = counted(left, s, strike_in(work, s));
     }
     left
 }
 
-// The one of two slots from s on with no strike, + 1, where the other's literal is struck; else 0. The branches are on what is struck,
-// which can be guessed: no later step waits for it.
-fn one_of_two(work: &[u16], s: usize) -> usize
+// The one of two slots from s on with no strike, where the other's literal is struck. The branches are on what is struck, which can be
+// guessed: no later step waits for it.
+fn one_of_two(work: &[u16], s: usize) -> Option<usize>
     requires { (area_size ≤ length work.now) × (s + 2 ≤ most_slots) }
-    ensures { result ≡ only_from work.now s 2 }
+    ensures { found_of result ≡ only_from work.now s 2 }
 {
     let first = strike_in(work, s);
     let second = strike_in(work, s + 1);
-    if first == 0 {
-        if second == NOTES {
-            return s + 1;
-        }
-        return 0;
+    match (first, second) {
+        (0, NOTES) => Some(s),
+        (NOTES, 0) => Some(s + 1),
+        _ => None,
     }
-    if first != NOTES {
-        return 0;
-    }
-    if second == 0 {
-        return s + 2;
-    }
-    0
 }
 
-// The one slot that clause k has left, + 1, where the clause stands; else 0.
-pub fn only(work: &[u16], k: usize) -> usize
+// The one slot that clause k has left, where the clause stands.
+pub fn only(work: &[u16], k: usize) -> Option<usize>
     requires { Ranged work.now }
-    ensures { result ≡ only_in work.now k }
+    ensures { found_of result ≡ only_in work.now k }
 {
     if work[0] as usize <= k {
-        return 0;
+        return None;
     }
     let s = base(work, k);
     if base(work, k + 1) == s + 2 {
         return one_of_two(work, s);
     }
     if !stands(work, k) {
-        return 0;
+        return None;
     }
     let left = remaining(work, k);
     if left.count != 1 {
-        return 0;
+        return None;
     }
-    left.first as usize + 1
+    Some(left.first as usize)
 }
 
 // Clause k is in the list and not struck, and all its literals are.
@@ -262,13 +255,12 @@ pub fn emptied(work: &[u16], k: usize) -> bool
     if work[0] as usize <= k {
         return false;
     }
+    let start = base(work, k);
     let end = base(work, k + 1);
-    let mut s = base(work, k);
-    while s < end {
+    for s in start..end {
         if strike_in(work, s) != NOTES {
             return false;
         }
-        s += 1;
     }
     true
 }
@@ -285,19 +277,18 @@ fn is_true(work: &[u16], n: usize, s: usize) -> bool
     value(work, n, literal_in(work, s)) == 1
 }
 
-// The slot + 1 of the first literal that clause k has left and that is held true, 0 where there is none.
-pub fn true_slot(work: &[u16], n: usize, k: usize) -> usize
+// The slot of the first literal that clause k has left and that is held true.
+pub fn true_slot(work: &[u16], n: usize, k: usize) -> Option<usize>
     requires ranged { Ranged work.now × (k < clause_count work.now) × (n ≤ most_nodes) }
     requires vals { Vals n (trail_at work.now) × ((s : ℕ) → s < base_at work.now (k + 1) → slot_at work.now s < 2 * n) }
-    ensures { result ≡ true_from work.now (base_at work.now k) (length_at work.now k) }
+    ensures { found_of result ≡ true_from work.now (base_at work.now k) (length_at work.now k) }
 {
+    let start = base(work, k);
     let end = base(work, k + 1);
-    let mut s = base(work, k);
-    while s < end {
+    for s in start..end {
         if is_true(work, n, s) {
-            return s + 1;
+            return Some(s);
         }
-        s += 1;
     }
-    0
+    None
 }

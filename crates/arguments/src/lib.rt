@@ -12,23 +12,15 @@ use std::fs::File;
 use std::io;
 use std::io::Read;
 use std::rt::{Env, Files};
-use text::Numeral;
-
-// What loading a file answers: how many bytes of it the buffer has, all of them unless the buffer is full.
-#[derive(Clone, Copy)]
-pub enum Loaded {
-    Bytes(usize),
-    Failed,
-}
 
 // Argument i as a number.
-pub fn number(rt: &impl Env, i: usize) -> Numeral
+pub fn number(rt: &impl Env, i: usize) -> Option<usize>
     ensures { Said result }
 {
     let mut word = [0u8; 64];
     match rt.arg(i, &mut word) {
         Ok(n) => text::value(&word[..n]),
-        Err(_) => Numeral::Not,
+        Err(_) => None,
     }
 }
 
@@ -68,15 +60,20 @@ fn read_all(file: &mut impl Read, buf: &mut [u8]) -> io::Result<usize>
     Ok(n)
 }
 
-// The open file's bytes.
-fn read_open(rt: &(impl Eprint + Alloc), file: &mut impl Read, path: &str, buf: &mut [u8]) -> Loaded
+// How many of the open file's bytes the buffer has: all of them unless it is full.
+fn read_open(
+    rt: &(impl Eprint + Alloc),
+    file: &mut impl Read,
+    path: &str,
+    buf: &mut [u8],
+) -> Option<usize>
     ensures { Holds result buf.new }
 {
     match read_all(file, buf) {
-        Ok(n) => Loaded::Bytes(n),
+        Ok(n) => Some(n),
         Err(e) => {
             fail(rt, path, e);
-            Loaded::Failed
+            None
         }
     }
 }
@@ -89,8 +86,8 @@ const TOO_LONG: i32 = 36;
 
 const NO_TEXT: i32 = 84;
 
-// The bytes of the file that argument i names.
-pub fn load(rt: &(impl Env + Files + Eprint + Alloc), i: usize, buf: &mut [u8]) -> Loaded
+// The bytes of the file that argument i names; how many the buffer has, all of them unless it is full.
+pub fn load(rt: &(impl Env + Files + Eprint + Alloc), i: usize, buf: &mut [u8]) -> Option<usize>
     ensures { Holds result buf.new }
 {
     let mut word = [0u8; 4096];
@@ -102,27 +99,24 @@ pub fn load(rt: &(impl Env + Files + Eprint + Alloc), i: usize, buf: &mut [u8]) 
                 FillError::TooLong => TOO_LONG,
             };
             fail(rt, "path", io::Error::from_raw_os_error(code));
-            return Loaded::Failed;
+            return None;
         }
     };
-    let path = match str::from_utf8(&word[..n]) {
-        Ok(path) => path,
-        Err(_) => {
-            fail(rt, "path", io::Error::from_raw_os_error(NO_TEXT));
-            return Loaded::Failed;
-        }
+    let Ok(path) = str::from_utf8(&word[..n]) else {
+        fail(rt, "path", io::Error::from_raw_os_error(NO_TEXT));
+        return None;
     };
     match File::open(rt, path) {
         Ok(mut file) => read_open(rt, &mut file, path, buf),
         Err(e) => {
             fail(rt, path, e);
-            Loaded::Failed
+            None
         }
     }
 }
 
-// The bytes of standard input.
-pub fn input(rt: &(impl Input + Eprint + Alloc), buf: &mut [u8]) -> Loaded
+// The bytes of standard input; how many the buffer has.
+pub fn input(rt: &(impl Input + Eprint + Alloc), buf: &mut [u8]) -> Option<usize>
     ensures { Holds result buf.new }
 {
     read_open(rt, &mut rt.reader(), "standard input", buf)

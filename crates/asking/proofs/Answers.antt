@@ -1,6 +1,9 @@
 -- The rows as the functions meet them, and what asking answers. Assumes nothing.
 use mathlib.Core.Path.{◌≡◌, sym, ap, ◌∙◌}
 use mathlib.Core.List.{List}
+use Rattle.std.specs.Prelude.{Result, Ok, Err}
+use Rattle.std.specs.Result.{IsErrAnd}
+use Rattle.std.proofs.lemmas.Result.{err_from_is_err_and}
 use Prim.Native.Nat.{ℕ}
 use native.Mathlib.Omega.{arith}
 use lib.ListN.{length}
@@ -8,9 +11,7 @@ use Rattle.scope.specs.declared.Refusal.{Refusal}
 use Rattle.scope.specs.Outcome.{Outcome, answer, refused, fine, ◌>>◌, ◌>>=◌}
 use Rattle.scope.specs.Table.{decode}
 use Rattle.scope.specs.Calls.{table_count}
-use Rattle.scope.proofs.Tests.{refused_no, passed_on}
-use Rattle.table.specs.declared.Counted.{Counted}
-use Rattle.table.specs.declared.Counted.TheVariants.{Nodes, Refused}
+use Rattle.scope.proofs.Tests.{refused_no, passed_on, handed_on}
 use Rattle.calculus.specs.Decide.{goals_test, lent_test, rows_test, Admitted, asked_by}
 use Rattle.calculus.proofs.Asked.{by_rows}
 use Rattle.asking.specs.Asks.{Prepared, Asks}
@@ -54,25 +55,32 @@ module _ (listed : Outcome (Unit {0})) (t goals : List ℕ) (needed points area 
       → asked_by listed t goals needed points area ≡ refused number place
   rows_refuse e q = asked_in e ∙ rw q
 
-  module _ (f : Refusal) (e : asked_by listed t goals needed points area ≡ refused f.number f.place) where
-    refused_as : (g : Refusal) → ◌≡◌ {A = Counted} (Refused f) (Refused g) → asked_by listed t goals needed points area ≡ refused g.number g.place
+  -- what a `?` hands on
+  module _ (f : Refusal) (e : asked_by listed t goals needed points area ≡ refused f.number f.place) (r : Result ℕ Refusal) (h : IsErrAnd r (λ x. x ≡ f)) where
+    handed : r ≡ Err f
+    handed = let p = err_from_is_err_and r h in p.1 ∙ ap Err p.2
+
+    refused_as : (g : Refusal) → r ≡ Err g → asked_by listed t goals needed points area ≡ refused g.number g.place
     refused_as g q =
-        let z : f ≡ g = cc in
-        e ∙ ap (λ (h : Refusal). refused h.number h.place) z
+        let z : ◌≡◌ {A = Result ℕ Refusal} (Err f) (Err g) = sym handed ∙ q in
+        let y : f ≡ g = cc in
+        e ∙ ap (λ (h : Refusal). refused h.number h.place) y
 
-    no-nodes : {P : Type 0} (n : ℕ) → ◌≡◌ {A = Counted} (Refused f) (Nodes n) → P
-    no-nodes n q = absurd (let z : ◌≡◌ {A = ℕ} 0 1 = cc in omega arith)
+    no-nodes : {P : Type 0} (n : ℕ) → r ≡ Ok n → P
+    no-nodes n q =
+        let z : ◌≡◌ {A = Result ℕ Refusal} (Err f) (Ok n) = sym handed ∙ q in
+        absurd (let y : ◌≡◌ {A = ℕ} 0 1 = cc in omega arith)
 
-    pub admits-none : Admits listed t goals needed points area (Refused f)
+    pub admits-none : Admits listed t goals needed points area r
     admits-none = record { refuses = refused_as; counted = λ n q. no-nodes n q; admitted = λ n q. no-nodes n q }
 
-    pub asks_none : (x : List ℕ) → Asks listed t goals needed points area x (Refused f)
-    asks_none x = record { answered = rw e; prepared = λ n q. no-nodes n q }
+    pub asks_none : (x : List ℕ) → Asks listed t goals needed points area x r
+    asks_none x = record { answered = handed_on (λ n. n) r h ∙ rw e; prepared = λ n q. no-nodes n q }
 
-    pub within_none : (x : List ℕ) → Within listed t goals needed points area x (Refused f)
+    pub within_none : (x : List ℕ) → Within listed t goals needed points area x r
     within_none x = record { refuses = refused_as; reached = λ n q. no-nodes n q }
 
-  pub admits_some : (n : ℕ) → table_count t ≡ answer n → Admitted listed n goals needed points area → Admits listed t goals needed points area (Nodes n)
+  pub admits_some : (n : ℕ) → table_count t ≡ answer n → Admitted listed n goals needed points area → Admits listed t goals needed points area (Ok n)
   admits_some n e a = record {
     refuses = λ f q. absurd (let z : ◌≡◌ {A = ℕ} 0 1 = cc in omega arith);
     counted = λ m q.
@@ -83,7 +91,7 @@ module _ (listed : Outcome (Unit {0})) (t goals : List ℕ) (needed points area 
         rw z at a;
   }
 
-  pub within_some : (x : List ℕ) (n : ℕ) → Reached listed t goals needed points area x n → Within listed t goals needed points area x (Nodes n)
+  pub within_some : (x : List ℕ) (n : ℕ) → Reached listed t goals needed points area x n → Within listed t goals needed points area x (Ok n)
   within_some x n p = record {
     refuses = λ f q. absurd (let z : ◌≡◌ {A = ℕ} 0 1 = cc in omega arith);
     reached = λ m q.
@@ -91,7 +99,7 @@ module _ (listed : Outcome (Unit {0})) (t goals : List ℕ) (needed points area 
         rw z at p;
   }
 
-  pub asks-some : (x : List ℕ) (n : ℕ) → Prepared listed t goals needed points area x n → Asks listed t goals needed points area x (Nodes n)
+  pub asks-some : (x : List ℕ) (n : ℕ) → Prepared listed t goals needed points area x n → Asks listed t goals needed points area x (Ok n)
   asks-some x n p = record {
     answered = rw p.answered (ap answer (sym p.count));
     prepared = λ m q.
@@ -100,7 +108,7 @@ module _ (listed : Outcome (Unit {0})) (t goals : List ℕ) (needed points area 
   }
 
 -- where the row on the list refuses, it is the same whatever the list is
-pub within_other : (listed : Outcome (Unit {0})) (t goals other : List ℕ) (needed points area : ℕ) {x : List ℕ} {r : Counted} {number place : ℕ}
+pub within_other : (listed : Outcome (Unit {0})) (t goals other : List ℕ) (needed points area : ℕ) {x : List ℕ} {r : Result ℕ Refusal} {number place : ℕ}
     → listed ≡ refused number place → Within listed t goals needed points area x r → Within listed t other needed points area x r
 unfolding asked_by rows_test
 within_other listed t goals other needed points area e a = record {

@@ -1,11 +1,9 @@
 -- What asking leaves where only the nodes below the literals are indexed. Assumes nothing.
-use Rattle.std.specs.Prelude.{◌≡◌, List, ℕ, ◌*◌, ◌<◌, ◌≤◌, length}
+use Rattle.std.specs.Prelude.{◌≡◌, List, ℕ, ◌*◌, ◌<◌, ◌≤◌, length, Result, Ok, Err}
 use Rattle.scope.specs.declared.Node.{Node}
 use Rattle.scope.specs.declared.Refusal.{Refusal}
 use Rattle.scope.specs.Outcome.{Outcome, answer, refused}
 use Rattle.scope.specs.Calls.{table_count}
-use Rattle.table.specs.declared.Counted.{Counted}
-use Rattle.table.specs.declared.Counted.TheVariants.{Nodes, Refused}
 use Rattle.calculus.specs.Model.{All, Below}
 use Rattle.calculus.specs.Agree.{Alike, Closed}
 use Rattle.calculus.specs.Decide.{nodes_of, Admitted, asked_by}
@@ -13,10 +11,10 @@ use Rattle.index.specs.Index.{index_node}
 use Rattle.index.specs.Indexed.{Indexed}
 
 -- no index yet: the node count of a table to which the literals may be put, or the first row's refusal
-pub record Admits (listed : Outcome (Unit {0})) (t goals : List ℕ) (needed lent area : ℕ) (r : Counted) : Type 0 where
-  pub refuses : (f : Refusal) → r ≡ Refused f → asked_by listed t goals needed lent area ≡ refused f.number f.place
-  pub counted : (n : ℕ) → r ≡ Nodes n → table_count t ≡ answer n
-  pub admitted : (n : ℕ) → r ≡ Nodes n → Admitted listed n goals needed lent area
+pub record Admits (listed : Outcome (Unit {0})) (t goals : List ℕ) (needed lent area : ℕ) (r : Result ℕ Refusal) : Type 0 where
+  pub refuses : (f : Refusal) → r ≡ Err f → asked_by listed t goals needed lent area ≡ refused f.number f.place
+  pub counted : (n : ℕ) → r ≡ Ok n → table_count t ≡ answer n
+  pub admitted : (n : ℕ) → r ≡ Ok n → Admitted listed n goals needed lent area
 
 -- as many nodes as before, or as many as have the literal
 pub record Farther (top l r : ℕ) : Type 0 where
@@ -42,6 +40,6 @@ pub record Reached (listed : Outcome (Unit {0})) (t goals : List ℕ) (needed le
   pub closed : Closed m (index_node x) (nodes_of nodes)
   pub points : (i : ℕ) → i < m → (index_node x i).kind ≡ 2 → (index_node x i).a < 1024
 
-pub record Within (listed : Outcome (Unit {0})) (t goals : List ℕ) (needed lent area : ℕ) (x : List ℕ) (r : Counted) : Type 0 where
-  pub refuses : (f : Refusal) → r ≡ Refused f → asked_by listed t goals needed lent area ≡ refused f.number f.place
-  pub reached : (m : ℕ) → r ≡ Nodes m → Reached listed t goals needed lent area x m
+pub record Within (listed : Outcome (Unit {0})) (t goals : List ℕ) (needed lent area : ℕ) (x : List ℕ) (r : Result ℕ Refusal) : Type 0 where
+  pub refuses : (f : Refusal) → r ≡ Err f → asked_by listed t goals needed lent area ≡ refused f.number f.place
+  pub reached : (m : ℕ) → r ≡ Ok m → Reached listed t goals needed lent area x m

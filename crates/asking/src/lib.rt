@@ -12,8 +12,7 @@ ghost use Rattle.repeats.specs.Chains.{Unlinked};
 ghost use Rattle.asking.specs.Asks.{Zeros, Asks};
 ghost use Rattle.asking.specs.Within.{Admits, Farther, Reach, Within};
 
-use scope::{Refusal, Verdict};
-use table::Counted;
+use scope::Refusal;
 
 // Where the edges of an index stand, and how far the chains go that stand there before.
 const EDGES: usize = 14112;
@@ -34,116 +33,99 @@ fn list_size(count: usize) -> bool
 }
 
 // Row 62.
-pub fn list_row(goals: &[u16]) -> Verdict
+pub fn list_row(goals: &[u16]) -> Result<(), Refusal>
     ensures { verdict_of result ≡ list_row goals.now }
 {
     if list_size(goals.len()) {
-        return Verdict::Fine;
+        return Ok(());
     }
-    Verdict::Refused(Refusal {
+    Err(Refusal {
         number: 62,
         place: 0,
     })
 }
 
 // Row 20 of each literal in turn.
-fn goal_rows(nodes: usize, goals: &[u16]) -> Verdict
+fn goal_rows(nodes: usize, goals: &[u16]) -> Result<(), Refusal>
     requires { nodes ≤ most_nodes }
     ensures { verdict_of result ≡ goals_test nodes goals.now }
 {
-    let mut i = 0;
-    while i < goals.len() {
-        if 2 * nodes <= wide(goals[i]) {
-            return Verdict::Refused(Refusal {
+    for (i, goal) in goals.iter().enumerate() {
+        if 2 * nodes <= wide(*goal) {
+            return Err(Refusal {
                 number: 20,
                 place: i,
             });
         }
-        i += 1;
     }
-    Verdict::Fine
+    Ok(())
 }
 
 // Rows 21 and 23.
-fn lent_rows(needed: usize, points: usize, area: usize) -> Verdict
+fn lent_rows(needed: usize, points: usize, area: usize) -> Result<(), Refusal>
     ensures { verdict_of result ≡ lent_test needed points area }
 {
     if points < needed {
-        return Verdict::Refused(Refusal {
+        return Err(Refusal {
             number: 21,
             place: 0,
         });
     }
     if area < 32768 {
-        return Verdict::Refused(Refusal {
+        return Err(Refusal {
             number: 23,
             place: 0,
         });
     }
-    Verdict::Fine
+    Ok(())
 }
 
 // The row on the list, then rows 20, 21 and 23.
 fn rows(
-    listed: Verdict,
+    listed: Result<(), Refusal>,
     nodes: usize,
     goals: &[u16],
     needed: usize,
     points: usize,
     area: usize,
-) -> Verdict
+) -> Result<(), Refusal>
     requires { nodes ≤ most_nodes }
     ensures { verdict_of result ≡ rows_test (verdict_of listed) nodes goals.now needed points area }
 {
-    match listed {
-        Verdict::Refused(f) => Verdict::Refused(f),
-        Verdict::Fine => {
-            let v = goal_rows(nodes, goals);
-            match v {
-                Verdict::Refused(f) => Verdict::Refused(f),
-                Verdict::Fine => lent_rows(needed, points, area),
-            }
-        }
-    }
+    listed?;
+    goal_rows(nodes, goals)?;
+    lent_rows(needed, points, area)
 }
 
 // The node count of a table to which the literals may be put, or the first row's refusal. `listed` is what the call's own row on the list
 // says. The chains that the reading goes by are lent, with no record in them.
 pub fn admit(
-    listed: Verdict,
+    listed: Result<(), Refusal>,
     t: &[u8],
     goals: &[u16],
     needed: usize,
     points: usize,
     area: usize,
     chains: &mut [u16],
-) -> Counted
+) -> Result<usize, Refusal>
     requires { Unlinked chains.old }
     ensures { Admits (verdict_of listed) t.now goals.now needed points area result }
 {
-    let c = table::count_by(t, chains);
-    match c {
-        Counted::Refused(f) => Counted::Refused(f),
-        Counted::Nodes(nodes) => {
-            let v = rows(listed, nodes, goals, needed, points, area);
-            match v {
-                Verdict::Refused(f) => Counted::Refused(f),
-                Verdict::Fine => Counted::Nodes(nodes),
-            }
-        }
-    }
+    let nodes = table::count_by(t, chains)?;
+    rows(listed, nodes, goals, needed, points, area)?;
+    Ok(nodes)
 }
 
 // The same, with the chains where the edges of an index will stand; before those it stays zeros.
 fn admit_over(
-    listed: Verdict,
+    listed: Result<(), Refusal>,
     t: &[u8],
     goals: &[u16],
     needed: usize,
     points: usize,
     area: usize,
     x: &mut [u16],
-) -> Counted
+) -> Result<usize, Refusal>
     requires { Zeros x.old }
     ensures admits { Admits (verdict_of listed) t.now goals.now needed points area result }
     ensures x_len { (length x.new ≡ index_size) × Unfilled x.new }
@@ -161,25 +143,20 @@ fn admit_over(
 
 // The same, and the index of the table's nodes. x is zeros.
 pub fn ask_by(
-    listed: Verdict,
+    listed: Result<(), Refusal>,
     t: &[u8],
     goals: &[u16],
     needed: usize,
     points: usize,
     area: usize,
     x: &mut [u16],
-) -> Counted
+) -> Result<usize, Refusal>
     requires { Zeros x.old }
     ensures { Asks (verdict_of listed) t.now goals.now needed points area x.new result }
 {
-    let a = admit_over(listed, t, goals, needed, points, area, x);
-    match a {
-        Counted::Refused(f) => Counted::Refused(f),
-        Counted::Nodes(nodes) => {
-            index::build(t, nodes, x);
-            Counted::Nodes(nodes)
-        }
-    }
+    let nodes = admit_over(listed, t, goals, needed, points, area, x)?;
+    index::build(t, nodes, x);
+    Ok(nodes)
 }
 
 // The same of a list of goals, whose row is 62.
@@ -190,7 +167,7 @@ pub fn ask(
     points: usize,
     area: usize,
     x: &mut [u16],
-) -> Counted
+) -> Result<usize, Refusal>
     requires { Zeros x.old }
     ensures { Asks (list_row goals.now) t.now goals.now needed points area x.new result }
 {
@@ -210,36 +187,29 @@ fn reach(goals: &[u16]) -> usize
     ensures { Reach goals.now result }
 {
     let mut top = 0;
-    let mut i = 0;
-    while i < goals.len() {
-        top = farther(top, goals[i]);
-        i += 1;
+    for goal in goals {
+        top = farther(top, *goal);
     }
     top
 }
 
 // What `ask_by` asks; the index is of the nodes below the literals alone, which are all that a search of them comes to. x is zeros.
 pub fn ask_within_by(
-    listed: Verdict,
+    listed: Result<(), Refusal>,
     t: &[u8],
     goals: &[u16],
     needed: usize,
     points: usize,
     area: usize,
     x: &mut [u16],
-) -> Counted
+) -> Result<usize, Refusal>
     requires { Zeros x.old }
     ensures { Within (verdict_of listed) t.now goals.now needed points area x.new result }
 {
-    let a = admit_over(listed, t, goals, needed, points, area, x);
-    match a {
-        Counted::Refused(f) => Counted::Refused(f),
-        Counted::Nodes(_) => {
-            let top = reach(goals);
-            index::build_below(t, goals, top, x);
-            Counted::Nodes(top)
-        }
-    }
+    admit_over(listed, t, goals, needed, points, area, x)?;
+    let top = reach(goals);
+    index::build_below(t, goals, top, x);
+    Ok(top)
 }
 
 // The same of a list of goals.
@@ -250,7 +220,7 @@ pub fn ask_within(
     points: usize,
     area: usize,
     x: &mut [u16],
-) -> Counted
+) -> Result<usize, Refusal>
     requires { Zeros x.old }
     ensures { Within (list_row goals.now) t.now goals.now needed points area x.new result }
 {

@@ -1,6 +1,7 @@
 -- The answers for a host in C: number 0 and the values, or the refusal's number and place and every value 0. Assumes nothing.
-use Rattle.std.specs.Prelude.{◌≡◌, true, cond, List, [], ◌∷◌, ◌++◌, ◌⊎◌, ℕ, suc, ◌-◌, ◌^◌, ◌<◌, ◌≤◌, eqb, length, get_or, take, replicate}
+use Rattle.std.specs.Prelude.{◌≡◌, true, cond, List, [], ◌∷◌, ◌++◌, ◌⊎◌, ℕ, suc, ◌-◌, ◌^◌, ◌<◌, ◌≤◌, eqb, length, get_or, take, replicate, Result, Ok, Err}
 use Rattle.scope.specs.declared.Node.{Node}
+use Rattle.scope.specs.declared.Refusal.{Refusal}
 use Rattle.scope.specs.declared.Truth.{Truth}
 use Rattle.scope.specs.declared.Truth.TheVariants.{Yes, No, Unknown}
 use Rattle.scope.specs.Outcome.{Outcome, answer, refused, fine, ◌>>◌, ◌>>=◌}
@@ -17,6 +18,7 @@ use Rattle.rules.specs.Steps.{step_at, encode_steps, decode_steps}
 use Rattle.rules.specs.Derive.{derivation_of, blocks, derive, derived_after, check}
 use Rattle.published.specs.Bytes.{PublishedBytes}
 use Rattle.deciding.specs.Decides.{Word, can, cannot, nothing, word_of, Said, said_of}
+use Rattle.clashing.specs.declared.Clashed.{Clashed}
 use Rattle.clashing.specs.Clash.{clash}
 use Rattle.clashing.specs.Clashes.{Clashing}
 use Rattle.wishing.specs.Wish.{count}
@@ -25,7 +27,7 @@ use Rattle.granting.specs.declared.Grant.{Grant}
 use Rattle.wishes.specs.Wishes.{grant_of}
 use Rattle.overview.specs.Overview.{overview, answers_after}
 use Rattle.overview.specs.Overviews.{Told}
-use Rattle.rooms.specs.declared.Turned.{Turned}
+use Rattle.rooms.specs.Rooms.{Turned}
 use Rattle.adding.specs.declared.Mark.{Mark}
 use Rattle.cnf.specs.Text.{File, file_of}
 use Rattle.cnf.specs.Meaning.{clauses_true}
@@ -104,6 +106,11 @@ abbrev pub clash_answer : Outcome (List ℕ) → BevClashed
 clash_answer (answer is) = record { number = 0; place = 0; count = length is; kept = is ++ replicate (most_goals - length is) 0 }
 clash_answer (refused n p) = record { number = n; place = p; count = 0; kept = replicate most_goals 0 }
 
+-- the same of what `clashing::clash` answers
+abbrev pub clash_told : Result Clashed Refusal → BevClashed
+clash_told (Ok k) = record { number = 0; place = 0; count = k.count; kept = k.kept }
+clash_told (Err f) = record { number = f.number; place = f.place; count = 0; kept = replicate most_goals 0 }
+
 -- clash for a host: the walk's list, a work area that a refusal by the rows 10 to 17, 62, 20 and 23 leaves as it was, and what the answer
 -- means: the goals kept are impossible together, and without any single one of them one setting makes the others true; behind these rows
 -- 63 is said exactly when one setting makes all goals true
@@ -116,6 +123,11 @@ pub record HostClashes (t goals w w' : List ℕ) (r : BevClashed) : Type 0 where
 abbrev pub overview_answer : Outcome (List ℕ) → BevAnswered
 overview_answer (answer after) = record { number = 0; place = 0 }
 overview_answer (refused n p) = record { number = n; place = p }
+
+-- the same of what `overview::overview` answers
+abbrev pub overview_told : Result (Unit {0}) Refusal → BevAnswered
+overview_told (Ok u) = record { number = 0; place = 0 }
+overview_told (Err f) = record { number = f.number; place = f.place }
 
 -- overview for a host: its answer, the answer bytes, a work area that a refusal leaves as it was, and what number 0 means: each goal's byte
 -- is what bev_decide says of that goal by itself, and it is 0 exactly when no setting makes the goal true

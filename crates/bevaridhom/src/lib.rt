@@ -2,25 +2,30 @@
 #![tactic(auto)]
 
 ghost use Rattle.std.specs.Prelude.{◌≡◌};
+ghost use Rattle.scope.specs.Outcome.{answer};
 ghost use Rattle.scope.specs.Calls.{table_count, table_record, evaluate, add, bytes_after};
+ghost use Rattle.record.specs.Read.{read_of};
+ghost use Rattle.table.specs.Counted.{counted_of};
+ghost use Rattle.adding.specs.Added.{added_of};
+ghost use Rattle.truth.specs.Evaluated.{evaluated_of};
 ghost use Rattle.steps.specs.Opened.{step_count};
 ghost use Rattle.rules.specs.Steps.{version_of};
-ghost use Rattle.step_reader.specs.Handed.{step_handed};
+ghost use Rattle.deciding.specs.Decides.{decision_said, decided_of};
+ghost use Rattle.deriver.specs.Derives.{derived_of};
+ghost use Rattle.checking.specs.Checks.{checked_of};
+ghost use Rattle.wishes.specs.Wishes.{wished_of};
+ghost use Rattle.step_reader.specs.Handed.{next_in, handed_of, step_handed};
+ghost use Rattle.rooms.specs.Rooms.{turned_of, told_of};
 ghost use Rattle.rooms.specs.Calls.{OpensRooms, TurnsRooms};
-ghost use Rattle.bevaridhom.specs.Answers.{count_answer, record_answer, truth_number, truth_answer, add_answer, rooms_answer, version_asked, version_number, open_answer, step_answer, HostDecides, HostClashes, HostOverviews, HostDerives, HostChecks, HostWishes, HostReads};
+ghost use Rattle.bevaridhom.specs.Answers.{count_answer, record_answer, truth_number, truth_answer, mark_answer, add_answer, decide_answer, clash_told, overview_told, derive_answer, check_answer, wishes_answer, rooms_answer, version_asked, version_number, open_answer, step_answer, HostDecides, HostClashes, HostOverviews, HostDerives, HostChecks, HostWishes, HostReads};
 
-use adding::Added;
-use checking::Checked;
-use deciding::Decided;
-use deriver::Derived;
-use record::NodeRead;
-use rules::Version;
-use scope::{Truth, Verdict};
-use step_reader::Handed;
-use steps::Opened;
-use table::Counted;
-use truth::Evaluated;
-use wishes::Wished;
+use adding::Mark;
+use clashing::Clashed;
+use deciding::Decision;
+use granting::Grant;
+use rooms::Told;
+use rules::{Step, Version};
+use scope::{Node, Refusal, Truth};
 
 // In each answer: number 0 and the values, or the refusal's number and place and every value 0.
 #[repr(C)]
@@ -59,22 +64,54 @@ pub struct BevAdded {
     pub used: usize,
 }
 
+impl From<Result<usize, Refusal>> for BevCount {
+    ghost from_gives = { λ c r. r ≡ count_answer (counted_of c) };
+
+    fn from(c: Result<usize, Refusal>) -> BevCount {
+        match c {
+            Ok(nodes) => BevCount {
+                number: 0,
+                place: 0,
+                nodes,
+            },
+            Err(f) => BevCount {
+                number: f.number,
+                place: f.place,
+                nodes: 0,
+            },
+        }
+    }
+}
+
 // Table reading: the node count.
 pub fn bev_count(t: &[u8]) -> BevCount
     ensures { result ≡ count_answer (table_count t.now) }
 {
-    let c = table::count(t);
-    match c {
-        Counted::Nodes(nodes) => BevCount {
-            number: 0,
-            place: 0,
-            nodes,
-        },
-        Counted::Refused(f) => BevCount {
-            number: f.number,
-            place: f.place,
-            nodes: 0,
-        },
+    BevCount::from(table::count(t))
+}
+
+impl From<Result<Node, Refusal>> for BevRecord {
+    ghost from_gives = { λ c r. r ≡ record_answer (read_of c) };
+
+    fn from(c: Result<Node, Refusal>) -> BevRecord {
+        match c {
+            Ok(x) => BevRecord {
+                number: 0,
+                place: 0,
+                kind: x.kind,
+                a: x.a,
+                b: x.b,
+                c: x.c,
+            },
+            Err(f) => BevRecord {
+                number: f.number,
+                place: f.place,
+                kind: 0,
+                a: 0,
+                b: 0,
+                c: 0,
+            },
+        }
     }
 }
 
@@ -82,25 +119,7 @@ pub fn bev_count(t: &[u8]) -> BevCount
 pub fn bev_record(t: &[u8], literal: usize) -> BevRecord
     ensures { result ≡ record_answer (table_record t.now literal) }
 {
-    let c = table::record_of(t, literal);
-    match c {
-        NodeRead::Found(x) => BevRecord {
-            number: 0,
-            place: 0,
-            kind: x.kind,
-            a: x.a,
-            b: x.b,
-            c: x.c,
-        },
-        NodeRead::Refused(f) => BevRecord {
-            number: f.number,
-            place: f.place,
-            kind: 0,
-            a: 0,
-            b: 0,
-            c: 0,
-        },
-    }
+    BevRecord::from(table::record_of(t, literal))
 }
 
 // The number of a truth.
@@ -114,22 +133,50 @@ fn truth_number(v: Truth) -> u8
     }
 }
 
+impl From<Result<Truth, Refusal>> for BevTruth {
+    ghost from_gives = { λ c r. r ≡ truth_answer (evaluated_of c) };
+
+    fn from(c: Result<Truth, Refusal>) -> BevTruth {
+        match c {
+            Ok(v) => BevTruth {
+                number: 0,
+                place: 0,
+                truth: truth_number(v),
+            },
+            Err(f) => BevTruth {
+                number: f.number,
+                place: f.place,
+                truth: 0,
+            },
+        }
+    }
+}
+
 // The truth of a literal under a setting: 0 no, 1 yes, 2 unknown.
 pub fn bev_evaluate(t: &[u8], literal: usize, s: &[u8]) -> BevTruth
     ensures { result ≡ truth_answer (evaluate t.now literal s.now) }
 {
-    let c = truth::evaluate(t, literal, s);
-    match c {
-        Evaluated::Told(v) => BevTruth {
-            number: 0,
-            place: 0,
-            truth: truth_number(v),
-        },
-        Evaluated::Refused(f) => BevTruth {
-            number: f.number,
-            place: f.place,
-            truth: 0,
-        },
+    BevTruth::from(truth::evaluate(t, literal, s))
+}
+
+impl From<Result<Mark, Refusal>> for BevAdded {
+    ghost from_gives = { λ c r. r ≡ mark_answer (added_of c) };
+
+    fn from(c: Result<Mark, Refusal>) -> BevAdded {
+        match c {
+            Ok(m) => BevAdded {
+                number: 0,
+                place: 0,
+                literal: m.literal,
+                used: m.used,
+            },
+            Err(f) => BevAdded {
+                number: f.number,
+                place: f.place,
+                literal: 0,
+                used: 0,
+            },
+        }
     }
 }
 
@@ -138,21 +185,7 @@ pub fn bev_add(buf: &mut [u8], used: usize, r: &[u8; 8]) -> BevAdded
     ensures answered { result ≡ add_answer (add buf.old used r.now) }
     ensures bytes { buf.new ≡ bytes_after buf.old (add buf.old used r.now) }
 {
-    let c = adding::add(buf, used, *r);
-    match c {
-        Added::At(m) => BevAdded {
-            number: 0,
-            place: 0,
-            literal: m.literal,
-            used: m.used,
-        },
-        Added::Refused(f) => BevAdded {
-            number: f.number,
-            place: f.place,
-            literal: 0,
-            used: 0,
-        },
-    }
+    BevAdded::from(adding::add(buf, used, *r))
 }
 
 #[repr(C)]
@@ -164,31 +197,47 @@ pub struct BevDecided {
     pub splits: u32,
 }
 
-// Whether one setting makes all goals true, 1 possible and 0 impossible; if so, the settings become such a one.
-pub fn bev_decide(t: &[u8], goals: &[u16], s: &mut [u8], w: &mut [u16]) -> BevDecided
-    ensures { HostDecides t.now goals.now s.old w.old s.new w.new result }
+// What is decided, with the splits made.
+fn decided(d: Decision) -> BevDecided
+    ensures { result ≡ decide_answer (answer (decision_said d)) }
 {
-    let c = deciding::decide(t, goals, s, w);
-    match c {
-        Decided::Possible(splits) => BevDecided {
+    match d {
+        Decision::Possible(splits) => BevDecided {
             number: 0,
             place: 0,
             possible: 1,
             splits,
         },
-        Decided::Impossible(splits) => BevDecided {
+        Decision::Impossible(splits) => BevDecided {
             number: 0,
             place: 0,
             possible: 0,
             splits,
         },
-        Decided::Refused(f) => BevDecided {
-            number: f.number,
-            place: f.place,
-            possible: 0,
-            splits: 0,
-        },
     }
+}
+
+impl From<Result<Decision, Refusal>> for BevDecided {
+    ghost from_gives = { λ c r. r ≡ decide_answer (decided_of c) };
+
+    fn from(c: Result<Decision, Refusal>) -> BevDecided {
+        match c {
+            Ok(d) => decided(d),
+            Err(f) => BevDecided {
+                number: f.number,
+                place: f.place,
+                possible: 0,
+                splits: 0,
+            },
+        }
+    }
+}
+
+// Whether one setting makes all goals true, 1 possible and 0 impossible; if so, the settings become such a one.
+pub fn bev_decide(t: &[u8], goals: &[u16], s: &mut [u8], w: &mut [u16]) -> BevDecided
+    ensures { HostDecides t.now goals.now s.old w.old s.new w.new result }
+{
+    BevDecided::from(deciding::decide(t, goals, s, w))
 }
 
 #[repr(C)]
@@ -200,18 +249,35 @@ pub struct BevClashed {
     pub kept: [u8; 64],
 }
 
+impl From<Result<Clashed, Refusal>> for BevClashed {
+    ghost from_gives = { λ c r. r ≡ clash_told c };
+
+    fn from(c: Result<Clashed, Refusal>) -> BevClashed {
+        match c {
+            Ok(k) => {
+                let kept = k.kept;
+                BevClashed {
+                    number: 0,
+                    place: 0,
+                    count: k.count,
+                    kept,
+                }
+            }
+            Err(f) => BevClashed {
+                number: f.number,
+                place: f.place,
+                count: 0,
+                kept: [0; 64],
+            },
+        }
+    }
+}
+
 // The few of goals that are impossible together to argue about: their indices, in rising order.
 pub fn bev_clash(t: &[u8], goals: &[u16], w: &mut [u16]) -> BevClashed
     ensures { HostClashes t.now goals.now w.old w.new result }
 {
-    let c = clashing::clash(t, goals, w);
-    let kept = c.kept;
-    BevClashed {
-        number: c.number,
-        place: c.place,
-        count: c.count,
-        kept,
-    }
+    BevClashed::from(clashing::clash(t, goals, w))
 }
 
 #[repr(C)]
@@ -221,21 +287,28 @@ pub struct BevAnswered {
     pub place: usize,
 }
 
+impl From<Result<(), Refusal>> for BevAnswered {
+    ghost from_gives = { λ c r. r ≡ overview_told c };
+
+    fn from(c: Result<(), Refusal>) -> BevAnswered {
+        match c {
+            Ok(()) => BevAnswered {
+                number: 0,
+                place: 0,
+            },
+            Err(f) => BevAnswered {
+                number: f.number,
+                place: f.place,
+            },
+        }
+    }
+}
+
 // Whether each goal by itself is possible: a byte for each, 1 possible and 0 impossible.
 pub fn bev_overview(t: &[u8], goals: &[u16], b: &mut [u8], w: &mut [u16]) -> BevAnswered
     ensures { HostOverviews t.now goals.now b.old w.old b.new w.new result }
 {
-    let c = overview::overview(t, goals, b, w);
-    match c {
-        Verdict::Fine => BevAnswered {
-            number: 0,
-            place: 0,
-        },
-        Verdict::Refused(f) => BevAnswered {
-            number: f.number,
-            place: f.place,
-        },
-    }
+    BevAnswered::from(overview::overview(t, goals, b, w))
 }
 
 #[repr(C)]
@@ -248,20 +321,38 @@ pub struct BevTurned {
     pub verdicts: [u8; 8],
 }
 
+impl From<Result<Told, Refusal>> for BevTurned {
+    ghost from_gives = { λ c r. rooms_answer r ≡ turned_of (told_of c) };
+
+    fn from(c: Result<Told, Refusal>) -> BevTurned {
+        match c {
+            Ok(told) => {
+                let turns = told.turns;
+                let verdicts = told.verdicts;
+                BevTurned {
+                    number: 0,
+                    place: 0,
+                    count: told.count,
+                    turns,
+                    verdicts,
+                }
+            }
+            Err(f) => BevTurned {
+                number: f.number,
+                place: f.place,
+                count: 0,
+                turns: [0; 8],
+                verdicts: [0; 8],
+            },
+        }
+    }
+}
+
 // The first call for questions under one allowance: each search stands at its start, unfinished.
 pub fn bev_rooms_open(t: &[u8], questions: &[u16], s: &[u8], w: &mut [u16]) -> BevTurned
     ensures { OpensRooms t.now questions.now s.now w.old w.new (rooms_answer result) }
 {
-    let v = rooms::open(t, questions, s, w);
-    let turns = v.turns;
-    let verdicts = v.verdicts;
-    BevTurned {
-        number: v.number,
-        place: v.place,
-        count: v.count,
-        turns,
-        verdicts,
-    }
+    BevTurned::from(rooms::open(t, questions, s, w))
 }
 
 // A later call: an allowance of turns goes round over the unfinished questions.
@@ -274,16 +365,7 @@ pub fn bev_rooms_turn(
 ) -> BevTurned
     ensures { TurnsRooms t.now questions.now s.old w.old allowance s.new w.new (rooms_answer result) }
 {
-    let v = rooms::turn(t, questions, s, w, allowance);
-    let turns = v.turns;
-    let verdicts = v.verdicts;
-    BevTurned {
-        number: v.number,
-        place: v.place,
-        count: v.count,
-        turns,
-        verdicts,
-    }
+    BevTurned::from(rooms::turn(t, questions, s, w, allowance))
 }
 
 #[repr(C)]
@@ -305,23 +387,30 @@ fn version_asked(wanted: u8) -> Version
     }
 }
 
+impl From<Result<usize, Refusal>> for BevDerived {
+    ghost from_gives = { λ c r. r ≡ derive_answer (derived_of c) };
+
+    fn from(c: Result<usize, Refusal>) -> BevDerived {
+        match c {
+            Ok(steps) => BevDerived {
+                number: 0,
+                place: 0,
+                steps,
+            },
+            Err(f) => BevDerived {
+                number: f.number,
+                place: f.place,
+                steps: 0,
+            },
+        }
+    }
+}
+
 // Writes the derivation, of the version wanted, of goals that are impossible together and answers its step count.
 pub fn bev_derive(t: &[u8], goals: &[u16], wanted: u8, w: &mut [u16], d: &mut [u8]) -> BevDerived
     ensures { HostDerives (version_asked wanted) t.now goals.now w.old d.old w.new d.new result }
 {
-    let c = deriver::derive(version_asked(wanted), t, goals, w, d);
-    match c {
-        Derived::Steps(steps) => BevDerived {
-            number: 0,
-            place: 0,
-            steps,
-        },
-        Derived::Refused(f) => BevDerived {
-            number: f.number,
-            place: f.place,
-            steps: 0,
-        },
-    }
+    BevDerived::from(deriver::derive(version_asked(wanted), t, goals, w, d))
 }
 
 #[repr(C)]
@@ -331,21 +420,28 @@ pub struct BevChecked {
     pub place: usize,
 }
 
+impl From<Result<(), Refusal>> for BevChecked {
+    ghost from_gives = { λ c r. r ≡ check_answer (checked_of c) };
+
+    fn from(c: Result<(), Refusal>) -> BevChecked {
+        match c {
+            Ok(()) => BevChecked {
+                number: 0,
+                place: 0,
+            },
+            Err(f) => BevChecked {
+                number: f.number,
+                place: f.place,
+            },
+        }
+    }
+}
+
 // Whether a derivation shows that the goals are impossible together: number 0 accepted.
 pub fn bev_check(t: &[u8], goals: &[u16], w: &mut [u16], d: &[u8]) -> BevChecked
     ensures { HostChecks t.now goals.now w.old d.now w.new result }
 {
-    let c = checking::check(t, goals, w, d);
-    match c {
-        Checked::Accepted => BevChecked {
-            number: 0,
-            place: 0,
-        },
-        Checked::Refused(f) => BevChecked {
-            number: f.number,
-            place: f.place,
-        },
-    }
+    BevChecked::from(checking::check(t, goals, w, d))
 }
 
 #[repr(C)]
@@ -356,6 +452,29 @@ pub struct BevWished {
     pub met: usize,
     pub bound: usize,
     pub questions: usize,
+}
+
+impl From<Result<Grant, Refusal>> for BevWished {
+    ghost from_gives = { λ c r. r ≡ wishes_answer (wished_of c) };
+
+    fn from(c: Result<Grant, Refusal>) -> BevWished {
+        match c {
+            Ok(g) => BevWished {
+                number: 0,
+                place: 0,
+                met: g.met,
+                bound: g.bound,
+                questions: g.questions,
+            },
+            Err(f) => BevWished {
+                number: f.number,
+                place: f.place,
+                met: 0,
+                bound: 0,
+                questions: 0,
+            },
+        }
+    }
 }
 
 // A setting that makes the goals true, and as many wishes as an allowance of questions finds: how many for certain, how many at most, and
@@ -370,23 +489,7 @@ pub fn bev_wishes(
 ) -> BevWished
     ensures { HostWishes t.now goals.now wishes.now allowance s.old w.old s.new w.new result }
 {
-    let c = wishes::grant(t, goals, wishes, allowance, s, w);
-    match c {
-        Wished::Granted(g) => BevWished {
-            number: 0,
-            place: 0,
-            met: g.met,
-            bound: g.bound,
-            questions: g.questions,
-        },
-        Wished::Refused(f) => BevWished {
-            number: f.number,
-            place: f.place,
-            met: 0,
-            bound: 0,
-            questions: 0,
-        },
-    }
+    BevWished::from(wishes::grant(t, goals, wishes, allowance, s, w))
 }
 
 #[repr(C)]
@@ -414,13 +517,13 @@ pub fn bev_open(d: &[u8]) -> BevOpened
 {
     let c = steps::count(d);
     match c {
-        Opened::Steps(steps) => BevOpened {
+        Ok(steps) => BevOpened {
             number: 0,
             place: 0,
             steps,
             version: version_number(steps::version_of(d)),
         },
-        Opened::Refused(f) => BevOpened {
+        Err(f) => BevOpened {
             number: f.number,
             place: f.place,
             steps: 0,
@@ -440,15 +543,12 @@ pub struct BevStep {
     pub value: u16,
 }
 
-// The reader as an entry: the step at an index (left 1), or that none is left there (left 0). Of the derivation it looks at the length
-// (row 40), at the first byte, which says the version, at the block of the index or, behind all blocks, the last (rows 41 to 43), and at
-// the step (rows 44 and 65).
-pub fn bev_step(d: &[u8], index: usize) -> BevStep
-    ensures { result ≡ step_answer (step_handed d.now index) }
+// What is handed out: a step, or that none is left.
+fn handed(next: Option<Step>) -> BevStep
+    ensures { result ≡ step_answer (answer (next_in next)) }
 {
-    let c = step_reader::step_of(d, index);
-    match c {
-        Handed::Step(s) => BevStep {
+    match next {
+        Some(s) => BevStep {
             number: 0,
             place: 0,
             left: 1,
@@ -456,17 +556,9 @@ pub fn bev_step(d: &[u8], index: usize) -> BevStep
             position: s.position,
             value: s.value,
         },
-        Handed::Done => BevStep {
+        None => BevStep {
             number: 0,
             place: 0,
-            left: 0,
-            rule: 0,
-            position: 0,
-            value: 0,
-        },
-        Handed::Refused(f) => BevStep {
-            number: f.number,
-            place: f.place,
             left: 0,
             rule: 0,
             position: 0,
@@ -475,23 +567,36 @@ pub fn bev_step(d: &[u8], index: usize) -> BevStep
     }
 }
 
+impl From<Result<Option<Step>, Refusal>> for BevStep {
+    ghost from_gives = { λ c r. r ≡ step_answer (handed_of c) };
+
+    fn from(c: Result<Option<Step>, Refusal>) -> BevStep {
+        match c {
+            Ok(next) => handed(next),
+            Err(f) => BevStep {
+                number: f.number,
+                place: f.place,
+                left: 0,
+                rule: 0,
+                position: 0,
+                value: 0,
+            },
+        }
+    }
+}
+
+// The reader as an entry: the step at an index (left 1), or that none is left there (left 0). Of the derivation it looks at the length
+// (row 40), at the first byte, which says the version, at the block of the index or, behind all blocks, the last (rows 41 to 43), and at
+// the step (rows 44 and 65).
+pub fn bev_step(d: &[u8], index: usize) -> BevStep
+    ensures { result ≡ step_answer (step_handed d.now index) }
+{
+    BevStep::from(step_reader::step_of(d, index))
+}
+
 // The goal of a DIMACS text and its table, built in an empty buffer. After 51 or 52 the buffer is free.
 pub fn bev_dimacs(text: &[u8], buf: &mut [u8]) -> BevAdded
     ensures { HostReads text.now buf.old result buf.new }
 {
-    let c = cnfread::read(text, buf);
-    match c {
-        Added::At(m) => BevAdded {
-            number: 0,
-            place: 0,
-            literal: m.literal,
-            used: m.used,
-        },
-        Added::Refused(f) => BevAdded {
-            number: f.number,
-            place: f.place,
-            literal: 0,
-            used: 0,
-        },
-    }
+    BevAdded::from(cnfread::read(text, buf))
 }

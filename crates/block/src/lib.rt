@@ -6,7 +6,7 @@ ghost use Rattle.scope.specs.Outcome.{verdict_of};
 ghost use Rattle.scope.specs.Block.{check_ok, head_ok, zeros, block_test};
 ghost use Rattle.block.specs.Format.{Fitting};
 
-use scope::{Format, Refusal, Verdict};
+use scope::{Format, Refusal};
 
 // Bytes 510 to 511 are the check of the others.
 fn check_ok(b: &[u8]) -> bool
@@ -48,40 +48,38 @@ fn padding_ok(b: &[u8], from: usize) -> bool
     requires { (length b.now ≡ 512) × (from ≤ 510) }
     ensures { result ≡ zeros b.now from (510 - from) }
 {
-    let mut i = from;
-    while i < 510 {
+    for i in from..510 {
         if b[i] != 0 {
             return false;
         }
-        i += 1;
     }
     true
 }
 
 // The first refusal of a block.
-pub fn test(b: &[u8], index: usize, last: bool, format: Format) -> Verdict
+pub fn test(b: &[u8], index: usize, last: bool, format: Format) -> Result<(), Refusal>
     requires { (length b.now ≡ 512) × Fitting format }
     ensures { verdict_of result ≡ block_test format b.now index last }
 {
     let number = format.number;
     if !check_ok(b) {
-        return Verdict::Refused(Refusal {
+        return Err(Refusal {
             number,
             place: index,
         });
     }
     if !head_ok(b, index, last, format) {
-        return Verdict::Refused(Refusal {
+        return Err(Refusal {
             number: number + 1,
             place: index,
         });
     }
     let count = b[1] as usize;
     if !padding_ok(b, 4 + format.width * count) {
-        return Verdict::Refused(Refusal {
+        return Err(Refusal {
             number: number + 2,
             place: index,
         });
     }
-    Verdict::Fine
+    Ok(())
 }

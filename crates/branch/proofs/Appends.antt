@@ -7,6 +7,9 @@ use Prim.Native.Nat.{ℕ, zero, suc, ◌+◌, ◌-◌, ◌*◌, ◌/◌, ◌%◌
 use native.Mathlib.Omega.{arith}
 use native.Mathlib.Decide.{ℕ_discrete, dec_lt}
 use lib.Dec.{leb, ltb}
+use borrow.Rule.Slice.PartMut.{put_mid}
+use Rattle.std.proofs.lemmas.Grind.{common_steps}
+use Rattle.std.proofs.lemmas.List.{places}
 use lib.ListN.{length, get_or, set, length-set, length-map, length-append, get_or-append}
 use lib.Seq.{get_or-set_same, get_or-set_other, get_or-append-add}
 use borrow.Author.Tests.{leb-true, le-ltb}
@@ -59,11 +62,23 @@ module _ {at : ℕ} {f : ℕ → ℕ} {w₀ : List ℕ} where
   pub filled_all : {m k : ℕ} {w : List ℕ} → Filled at m f w₀ w → m ≡ k → Filled at k f w₀ w
   filled_all {m} {k} {w} p e = subst (λ (i : ℕ). Filled at i f w₀ w) e p
 
+-- a part that is copied from a list
+pub filled_part : (at m k : ℕ) (w ys xs : List ℕ) → at + m ≤ length w → m ≡ length xs → ys ≡ xs → k ≡ m → Filled at m (λ i. get_or xs i 0) w (put_mid at k w ys)
+filled_part at m k w ys xs b s e z = record {
+  size = grind (arith, common_steps);
+  here = λ i h. grind (arith, common_steps);
+  else = λ i o. grind (arith, common_steps, places);
+}
+
 -- ---- clauses that are appended
 
 -- room for fewer
 pub room_fewer : {k m k' m' : ℕ} {w : List ℕ} → k' ≤ k → m' ≤ m → Room k m w → Room k' m' w
 room_fewer a b r = record { size = r.size; clauses = omega (arith, a, r.clauses); slots = omega (arith, b, r.slots) }
+
+-- room for a row's clauses is room for those of a part of it
+pub room_within : (k m : ℕ) (w : List ℕ) → Room 3 4 w → k ≤ 3 → m ≤ 4 → Room k m w
+room_within k m w r a b = room_fewer a b r
 
 -- room that is left
 pub room_left : {K M k m : ℕ} {ds : List (List ℕ)} {w w' : List ℕ} → length ds + k ≤ K → length (flat ds) + m ≤ M → Room K M w → Appended ds w w' → Room k m w'
@@ -133,7 +148,8 @@ module _ {ds es : List (List ℕ)} {w w₁ w₂ : List ℕ} (a : Appended ds w w
           let z : base_at w₁ (clause_count w₁) + j ≡ base_at w (clause_count w) + i = omega (arith, q, top) in
           let y : length (flat ds) + j ≡ i = omega (arith, q) in
           ap (packed_at w₂) (sym z) ∙ b.slots j (omega (arith, h, q, ap length (flat_append ds es), length-append (flat ds) (flat es)))
-          ∙ sym (ap (λ (c : List ℕ). get_or c i 0) (flat_append ds es) ∙ ap (λ (x : ℕ). get_or (flat ds ++ flat es) x 0) (sym y) ∙ get_or-append-add (flat ds) (flat es) j 0)
+          ∙ sym (ap (λ (c : List ℕ). get_or c i 0) (flat_append ds es) ∙ ap (λ (x : ℕ). get_or (flat ds ++ flat es) x 0) (sym y)
+          ∙ get_or-append-add (flat ds) (flat es) j 0)
 
 pub appended_as : {ds es : List (List ℕ)} {w w' : List ℕ} → ds ≡ es → Appended ds w w' → Appended es w w'
 appended_as {ds} {es} {w} {w'} e a = subst (λ (cs : List (List ℕ)). Appended cs w w') e a
@@ -174,14 +190,16 @@ module _ (c : List ℕ) (w w₁ : List ℕ) (r : Room 1 (length c) w) (p : Fille
       let y : bases_from + (K + 0) ≡ bases_from + K = omega arith in
       ap (λ (i : ℕ). get_or w₃ i 0) y ∙ low₃ (bases_from + K) (λ x. omega (arith, x)) (omega arith) ∙ omega arith
   base₃ (suc zero) a =
-      away₃ (bases_from + (K + 1)) (λ x. omega (arith, x)) ∙ get_or-set_same w₁ (bases_from + (K + 1)) (B + length c) 0 (omega (arith, p.size, r.size, r.clauses))
+      away₃ (bases_from + (K + 1)) (λ x. omega (arith, x)) ∙ get_or-set_same w₁ (bases_from + (K + 1)) (B + length c) 0
+      (omega (arith, p.size, r.size, r.clauses))
       ∙ omega arith
   base₃ (suc (suc j)) a = absurd (omega (arith, a))
 
   slot₃ : (i : ℕ) → i < length c → packed_at w₃ (B + i) ≡ get_or c i 0
   slot₃ i a =
       let y : slots_from + (B + i) ≡ slots_from + B + i = omega arith in
-      ap (λ (x : ℕ). get_or w₃ x 0) y ∙ away₃ (slots_from + B + i) (λ x. omega (arith, x)) ∙ away₂ (slots_from + B + i) (λ x. omega (arith, x, r.clauses)) ∙ p.here i a
+      ap (λ (x : ℕ). get_or w₃ x 0) y ∙ away₃ (slots_from + B + i) (λ x. omega (arith, x)) ∙ away₂ (slots_from + B + i) (λ x. omega (arith, x, r.clauses))
+      ∙ p.here i a
 
   flat-one : flat (c ∷ []) ≡ c
   unfolding flat
@@ -194,7 +212,8 @@ module _ (c : List ℕ) (w w₁ : List ℕ) (r : Room 1 (length c) w) (p : Fille
     bases = base₃;
     slots = λ i h. slot₃ i (omega (arith, h, ap length flat-one)) ∙ ap (λ (d : List ℕ). get_or d i 0) (sym flat-one);
     old_bases = λ k a. low₃ (bases_from + k) (λ x. omega (arith, x)) (omega (arith, a));
-    old_slots = λ i a. away₃ (slots_from + i) (λ x. omega (arith, x)) ∙ away₂ (slots_from + i) (λ x. omega (arith, x, r.clauses)) ∙ p.else (slots_from + i) (inl (omega (arith, a)));
+    old_slots = λ i a. away₃ (slots_from + i) (λ x. omega (arith, x)) ∙ away₂ (slots_from + i) (λ x. omega (arith, x, r.clauses))
+        ∙ p.else (slots_from + i) (inl (omega (arith, a)));
     beyond = λ i a. away₃ (slots_from + i) (λ x. omega (arith, x)) ∙ away₂ (slots_from + i) (λ x. omega (arith, x, r.clauses))
         ∙ p.else (slots_from + i) (inr (omega (arith, a, ap length flat-one)));
     depths = low₃ 1 (λ x. omega (arith, x)) (omega arith);
@@ -213,12 +232,14 @@ module _ (w : List ℕ) where
       subst (λ (v : ℕ). Appended ([] ∷ []) w (set (set w (bases_from + (clause_count w + 1)) v) 0 (clause_count w + 1))) z (appended_one [] w w r filled_none)
 
   pub one-is : (p : ℕ) → Room 1 1 w
-      → Appended ((p ∷ []) ∷ []) w (set (set (set w (slots_from + base_at w (clause_count w)) p) (bases_from + (clause_count w + 1)) (base_at w (clause_count w) + 1)) 0 (clause_count w + 1))
+      → Appended ((p ∷ []) ∷ []) w (set (set (set w (slots_from + base_at w (clause_count w)) p) (bases_from + (clause_count w + 1))
+      (base_at w (clause_count w) + 1)) 0 (clause_count w + 1))
   one-is p r = appended_one (p ∷ []) w _ r (filled_first (omega (arith, r.size, r.slots)) refl)
 
   pub two_is : (p q : ℕ) → Room 1 2 w
       → Appended ((p ∷ q ∷ []) ∷ []) w
-      (set (set (set (set w (slots_from + base_at w (clause_count w)) p) (slots_from + base_at w (clause_count w) + 1) q) (bases_from + (clause_count w + 1)) (base_at w (clause_count w) + 2)) 0 (clause_count w + 1))
+      (set (set (set (set w (slots_from + base_at w (clause_count w)) p) (slots_from + base_at w (clause_count w) + 1) q) (bases_from + (clause_count w + 1))
+      (base_at w (clause_count w) + 2)) 0 (clause_count w + 1))
   two_is p q r =
       appended_one (p ∷ q ∷ []) w _ r
       (filled_more (filled_first (omega (arith, r.size, r.slots)) refl) (omega (arith, r.size, r.slots)) refl)
@@ -227,17 +248,21 @@ module _ (w : List ℕ) where
   pub two_at : (k b p q : ℕ) → Room 1 2 w → k ≡ clause_count w → b ≡ base_at w (clause_count w)
       → Appended ((p ∷ q ∷ []) ∷ []) w (set (set (set (set w (slots_from + b) p) (slots_from + b + 1) q) (bases_from + (k + 1)) (b + 2)) 0 (k + 1))
   two_at k b p q r e f =
-      subst (λ (i : ℕ). Appended ((p ∷ q ∷ []) ∷ []) w (set (set (set (set w (slots_from + b) p) (slots_from + b + 1) q) (bases_from + (i + 1)) (b + 2)) 0 (i + 1))) (sym e)
-      (subst (λ (i : ℕ). Appended ((p ∷ q ∷ []) ∷ []) w (set (set (set (set w (slots_from + i) p) (slots_from + i + 1) q) (bases_from + (clause_count w + 1)) (i + 2)) 0 (clause_count w + 1))) (sym f)
+      subst (λ (i : ℕ). Appended ((p ∷ q ∷ []) ∷ []) w (set (set (set (set w (slots_from + b) p) (slots_from + b + 1) q) (bases_from + (i + 1)) (b + 2)) 0
+      (i + 1))) (sym e)
+      (subst (λ (i : ℕ). Appended ((p ∷ q ∷ []) ∷ []) w (set (set (set (set w (slots_from + i) p) (slots_from + i + 1) q) (bases_from + (clause_count w + 1))
+      (i + 2)) 0 (clause_count w + 1))) (sym f)
       (two_is p q r))
 
   pub three-is : (p q l : ℕ) → Room 1 3 w
       → Appended ((p ∷ q ∷ l ∷ []) ∷ []) w
-      (set (set (set (set (set w (slots_from + base_at w (clause_count w)) p) (slots_from + base_at w (clause_count w) + 1) q) (slots_from + base_at w (clause_count w) + 2) l)
+      (set (set (set (set (set w (slots_from + base_at w (clause_count w)) p) (slots_from + base_at w (clause_count w) + 1) q)
+      (slots_from + base_at w (clause_count w) + 2) l)
       (bases_from + (clause_count w + 1)) (base_at w (clause_count w) + 3)) 0 (clause_count w + 1))
   three-is p q l r =
       appended_one (p ∷ q ∷ l ∷ []) w _ r
-      (filled_more (filled_more (filled_first (omega (arith, r.size, r.slots)) refl) (omega (arith, r.size, r.slots)) refl) (omega (arith, r.size, r.slots)) refl)
+      (filled_more (filled_more (filled_first (omega (arith, r.size, r.slots)) refl) (omega (arith, r.size, r.slots)) refl)
+      (omega (arith, r.size, r.slots)) refl)
 
 -- ---- the clauses of a literal, by its row
 
@@ -253,14 +278,16 @@ two_operands kind h = subst (2 ≤◌) (sym (ap (λ (b : Bool). cond b 0 (cond (
     go true = omega arith
     go false = omega arith
 
-pub three-operands : (kind : ℕ) → 7 ≤ kind → 3 ≤ arity kind
+pub three_operands : (kind : ℕ) → 7 ≤ kind → 3 ≤ arity kind
 unfolding arity
-three-operands kind h =
-    let z : arity kind ≡ 3 = ap (λ (b : Bool). cond b 0 (cond (ltb kind 7) 2 3)) (le-ltb kind 3 (omega (arith, h))) ∙ ap (λ (b : Bool). cond b 2 3) (le-ltb kind 7 h) in
+three_operands kind h =
+    let z : arity kind ≡ 3 = ap (λ (b : Bool). cond b 0 (cond (ltb kind 7) 2 3)) (le-ltb kind 3 (omega (arith, h)))
+    ∙ ap (λ (b : Bool). cond b 2 3) (le-ltb kind 7 h) in
     omega (arith, z)
 
 -- the clauses of literals that are chosen
-pub each_is : {p q c d : ℕ} {w w₁ w₂ : List ℕ} → p ≡ c → q ≡ d → Appended ((p ∷ []) ∷ []) w w₁ → Appended ((q ∷ []) ∷ []) w₁ w₂ → Appended ((c ∷ []) ∷ (d ∷ []) ∷ []) w w₂
+pub each_is : {p q c d : ℕ} {w w₁ w₂ : List ℕ} → p ≡ c → q ≡ d → Appended ((p ∷ []) ∷ []) w w₁ → Appended ((q ∷ []) ∷ []) w₁ w₂
+    → Appended ((c ∷ []) ∷ (d ∷ []) ∷ []) w w₂
 each_is {p} {q} {c} {d} {w} {w₁} {w₂} f g a b =
     subst (λ (x : ℕ). Appended ((x ∷ []) ∷ (d ∷ []) ∷ []) w w₂) f (subst (λ (x : ℕ). Appended ((p ∷ []) ∷ (x ∷ []) ∷ []) w w₂) g (appended_both a b))
 
@@ -284,27 +311,33 @@ pub each_three-is : {p q l c d e : ℕ} {w w₁ w₂ w₃ : List ℕ} → p ≡ 
 each_three-is {p} {q} {l} {c} {d} {e} {w} {w₁} {w₂} {w₃} f g h a b o =
     subst (λ (x : ℕ). Appended ((c ∷ []) ∷ (d ∷ []) ∷ (x ∷ []) ∷ []) w w₃) h (appended_both (each_is f g a b) o)
 
-pub some-three-is : {p q l c d e : ℕ} {w w' : List ℕ} → p ≡ c → q ≡ d → l ≡ e → Appended ((p ∷ q ∷ l ∷ []) ∷ []) w w' → Appended ((c ∷ d ∷ e ∷ []) ∷ []) w w'
-some-three-is {p} {q} {l} {c} {d} {e} {w} {w'} f g h a =
-    subst (λ (x : ℕ). Appended ((x ∷ d ∷ e ∷ []) ∷ []) w w') f
-    (subst (λ (x : ℕ). Appended ((p ∷ x ∷ e ∷ []) ∷ []) w w') g (subst (λ (x : ℕ). Appended ((p ∷ q ∷ x ∷ []) ∷ []) w w') h a))
-
 -- the clauses of a row
-pub by_row : (N : Node) (row r : ℕ) {w w' : List ℕ} → row ≡ r → Appended (map (map (chosen N)) (get_or templates r [])) w w' → Appended (map (map (chosen N)) (get_or templates row [])) w w'
+pub by_row : (N : Node) (row r : ℕ) {w w' : List ℕ} → row ≡ r → Appended (map (map (chosen N)) (get_or templates r [])) w w'
+    → Appended (map (map (chosen N)) (get_or templates row [])) w w'
 by_row N row r {w} {w'} e a = subst (λ (i : ℕ). Appended (map (map (chosen N)) (get_or templates i [])) w w') (sym e) a
 
 -- a row that is none of some is past them
 pub past : {r row : ℕ} → r ≤ row → (row ≡ r → ⊥) → suc r ≤ row
 past h n = omega (arith, h, n)
 
-pub row_most : {row r m : ℕ} → row ≡ r → m ≤ r → m ≤ row
-row_most e h = omega (arith, e, h)
-
 -- those of an IFF and of its negation, by the sign
-pub iff_row : (N : Node) (row r : ℕ) {sign : ℕ} {w w' : List ℕ} → row ≡ r → sign ≡ row % 2
-    → Appended (map (map (chosen N)) (((1 - sign) ∷ 2 ∷ []) ∷ (sign ∷ 3 ∷ []) ∷ [])) w w' → Appended (map (map (chosen N)) (((1 - r % 2) ∷ 2 ∷ []) ∷ (r % 2 ∷ 3 ∷ []) ∷ [])) w w'
+iff_row : (N : Node) (row r : ℕ) {sign : ℕ} {w w' : List ℕ} → row ≡ r → sign ≡ row % 2
+    → Appended (map (map (chosen N)) (((1 - sign) ∷ 2 ∷ []) ∷ (sign ∷ 3 ∷ []) ∷ [])) w w'
+    → Appended (map (map (chosen N)) (((1 - r % 2) ∷ 2 ∷ []) ∷ (r % 2 ∷ 3 ∷ []) ∷ [])) w w'
 iff_row N row r {sign} {w} {w'} e f a =
     subst (λ (i : ℕ). Appended (map (map (chosen N)) (((1 - i) ∷ 2 ∷ []) ∷ (i ∷ 3 ∷ []) ∷ [])) w w') (f ∙ ap (◌% 2) e) a
+
+-- the rows of an IFF and of its negation
+pub iff_rows : (N : Node) (row : ℕ) {sign : ℕ} {w w' : List ℕ} → 12 ≤ row → row < 14 → sign ≡ row % 2
+    → Appended (map (map (chosen N)) (((1 - sign) ∷ 2 ∷ []) ∷ (sign ∷ 3 ∷ []) ∷ [])) w w' → Appended (map (map (chosen N)) (get_or templates row [])) w w'
+unfolding templates
+iff_rows N row {sign} {w} {w'} a b f h = go (ℕ_discrete row 12)
+  where
+    go : Dec (row ≡ 12) → Appended (map (map (chosen N)) (get_or templates row [])) w w'
+    go (yes e) = by_row N row 12 e (iff_row N row 12 e f h)
+    go (no n) =
+        let e : row ≡ 13 = omega arith in
+        by_row N row 13 e (iff_row N row 13 e f h)
 
 -- a row with no operands: not TRUE has an empty clause
 pub bare_same : (f : ℕ → ℕ) (row : ℕ) → row < 6 → get_or templates row [] ≡ map (map f) (get_or templates row [])
@@ -360,19 +393,22 @@ module _ {cs ds : List (List ℕ)} {w w' : List ℕ} where
           let j : ℕ = k - length cs in
           let z : clause_count w + j ≡ k = omega (arith, q, p.count) in
           let y : length cs + j ≡ k = omega (arith, q) in
-          ap (base_at w') (sym z) ∙ a.bases j (omega (arith, h, q, length-append cs ds)) ∙ ap (◌+ offset ds j) top ∙ sym (offset_high cs ds j) ∙ ap (offset (cs ++ ds)) y
+          ap (base_at w') (sym z) ∙ a.bases j (omega (arith, h, q, length-append cs ds)) ∙ ap (◌+ offset ds j) top ∙ sym (offset_high cs ds j)
+          ∙ ap (offset (cs ++ ds)) y
       base k h (no q) = a.old_bases k (omega (arith, q, p.count)) ∙ p.bases k (omega (arith, q)) ∙ sym (offset_low cs ds k (omega (arith, q)))
 
       slot : (i : ℕ) → i < length (flat (cs ++ ds)) → Dec (i < length (flat cs)) → slot_at w' i ≡ get_or (flat (cs ++ ds)) i 0
       slot i h (yes q) =
-          ap (◌% notes) (a.old_slots i (omega (arith, q, top))) ∙ p.slots i q ∙ sym (ap (λ (c : List ℕ). get_or c i 0) (flat_append cs ds) ∙ get_or-append (flat cs) (flat ds) 0 i q)
+          ap (◌% notes) (a.old_slots i (omega (arith, q, top))) ∙ p.slots i q
+          ∙ sym (ap (λ (c : List ℕ). get_or c i 0) (flat_append cs ds) ∙ get_or-append (flat cs) (flat ds) 0 i q)
       slot i h (no q) =
           let j : ℕ = i - length (flat cs) in
           let z : base_at w (clause_count w) + j ≡ i = omega (arith, q, top) in
           let y : length (flat cs) + j ≡ i = omega (arith, q) in
           let b : j < length (flat ds) = omega (arith, h, q, ap length (flat_append cs ds), length-append (flat cs) (flat ds)) in
           ap (slot_at w') (sym z) ∙ ap (◌% notes) (a.slots j b) ∙ bare_literal (get_or (flat ds) j 0) (low j b)
-          ∙ sym (ap (λ (c : List ℕ). get_or c i 0) (flat_append cs ds) ∙ ap (λ (x : ℕ). get_or (flat cs ++ flat ds) x 0) (sym y) ∙ get_or-append-add (flat cs) (flat ds) j 0)
+          ∙ sym (ap (λ (c : List ℕ). get_or c i 0) (flat_append cs ds) ∙ ap (λ (x : ℕ). get_or (flat cs ++ flat ds) x 0) (sym y)
+          ∙ get_or-append-add (flat cs) (flat ds) j 0)
 
 -- the first clauses alone, where their numbers are as they were
 pub listed-first : (all cs ds : List (List ℕ)) (w w' : List ℕ) → all ≡ cs ++ ds → length all ≤ most_clauses → length (flat all) ≤ most_slots
@@ -380,10 +416,12 @@ pub listed-first : (all cs ds : List (List ℕ)) (w w' : List ℕ) → all ≡ c
     → ((i : ℕ) → i < most_slots → slot_at w' i ≡ slot_at w i) → Listed cs w'
 listed-first all cs ds w w' e m n p c s l =
     let f : length all ≡ length cs + length ds = ap length e ∙ length-append cs ds in
-    let g : length (flat all) ≡ length (flat cs) + length (flat ds) = ap (λ (a : List (List ℕ)). length (flat a)) e ∙ ap length (flat_append cs ds) ∙ length-append (flat cs) (flat ds) in
+    let g : length (flat all) ≡ length (flat cs) + length (flat ds) = ap (λ (a : List (List ℕ)). length (flat a)) e ∙ ap length (flat_append cs ds)
+    ∙ length-append (flat cs) (flat ds) in
     record {
       count = c;
-      bases = λ k h. s (bases_from + k) (omega arith) (omega (arith, h, f, m)) ∙ p.bases k (omega (arith, h, f)) ∙ ap (λ (a : List (List ℕ)). offset a k) e ∙ offset_low cs ds k h;
+      bases = λ k h. s (bases_from + k) (omega arith) (omega (arith, h, f, m)) ∙ p.bases k (omega (arith, h, f)) ∙ ap (λ (a : List (List ℕ)). offset a k) e
+          ∙ offset_low cs ds k h;
       slots = λ i h. l i (omega (arith, h, g, n)) ∙ p.slots i (omega (arith, h, g))
           ∙ ap (λ (a : List (List ℕ)). get_or (flat a) i 0) e ∙ ap (λ (a : List ℕ). get_or a i 0) (flat_append cs ds) ∙ get_or-append (flat cs) (flat ds) 0 i h;
     }
@@ -397,7 +435,8 @@ all_flat P (c ∷ cs) a = all_append P c (flat cs) a.0 (all_flat P cs a.1)
 
 pub expand_below : (n : ℕ) (t : ℕ → Node) → Table n t → (l : ℕ) → l < 2 * n → All (Below n) (expand t l)
 expand_below n t T l b =
-    all_imply (All (λ m. m / 2 < l / 2)) (Below n) (all_imply (λ m. m / 2 < l / 2) (λ m. m < 2 * n) (λ m h. omega (arith, h, b))) (expand t l) (expand-under n t T l b)
+    all_imply (All (λ m. m / 2 < l / 2)) (Below n) (all_imply (λ m. m / 2 < l / 2) (λ m. m < 2 * n) (λ m h. omega (arith, h, b))) (expand t l)
+    (expand-under n t T l b)
 
 -- ---- how many literals the clause list has
 
@@ -409,7 +448,8 @@ flat_row_most : (i : ℕ) → length (flat (get_or templates i [])) ≤ literal_
 unfolding flat
 flat_row_most i =
     leb-true (length (flat (get_or templates i []))) literal_room
-    (all_get_d (λ ds. leb (length (flat ds)) literal_room ≡ true) templates i [] refl (every_all (λ ds. leb (length (flat ds)) literal_room) templates rows_short))
+    (all_get_d (λ ds. leb (length (flat ds)) literal_room ≡ true) templates i [] refl
+    (every_all (λ ds. leb (length (flat ds)) literal_room) templates rows_short))
 
 -- clauses of one literal each
 pub flat-singles : (goals : List ℕ) → flat (map (◌∷ []) goals) ≡ goals
@@ -428,10 +468,23 @@ module _ (t : ℕ → Node) where
   unfolding expand
   flat-few l =
       let i : ℕ = 2 * (t (l / 2)).kind + l % 2 in
-      omega (arith, ap length (flat_map (chosen (t (l / 2))) (get_or templates i [])), length-map (flat (get_or templates i [])) (chosen (t (l / 2))), flat_row_most i)
+      omega (
+        arith,
+        ap length (flat_map (chosen (t (l / 2))) (get_or templates i [])),
+        length-map (flat (get_or templates i []))
+            (chosen (t (l / 2))),
+        flat_row_most i,
+      )
 
   pub literals-few : (goals G : List ℕ) → length (flat (clauses (expand t) goals G)) ≤ length goals + literal_room * length G
   unfolding clauses
   literals-few goals [] = omega (arith, ap length (flat-singles goals))
   literals-few goals (l ∷ G) =
-      omega (arith, ap length (flat_append (clauses (expand t) goals G) (expand t l)), length-append (flat (clauses (expand t) goals G)) (flat (expand t l)), literals-few goals G, flat-few l)
+      omega (
+        arith,
+        ap length (flat_append (clauses (expand t) goals G) (expand t l)),
+        length-append (flat (clauses (expand t) goals G))
+            (flat (expand t l)),
+        literals-few goals G,
+        flat-few l,
+      )

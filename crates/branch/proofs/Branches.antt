@@ -43,7 +43,8 @@ module _ (t : ℕ → Node) (goals : List ℕ) where
       ([], ap (clauses_to t goals r) z ∙ sym (append-nil (clauses_to t goals r q)))
   clauses_first r (suc c) q h = go (ℕ_discrete q (suc c)) (clauses_first r c q)
     where
-      go : Dec (q ≡ suc c) → (q ≤ c → (ds : List (List ℕ)) × (clauses_to t goals r c ≡ clauses_to t goals r q ++ ds)) → (ds : List (List ℕ)) × (clauses_to t goals r (suc c) ≡ clauses_to t goals r q ++ ds)
+      go : Dec (q ≡ suc c) → (q ≤ c → (ds : List (List ℕ)) × (clauses_to t goals r c ≡ clauses_to t goals r q ++ ds))
+          → (ds : List (List ℕ)) × (clauses_to t goals r (suc c) ≡ clauses_to t goals r q ++ ds)
       go (yes z) f = ([], ap (clauses_to t goals r) (sym z) ∙ sym (append-nil (clauses_to t goals r q)))
       go (no z) f =
           let p = f (omega (arith, z, h)) in (
@@ -132,7 +133,8 @@ module _ (t : ℕ → Node) (n : ℕ) (goals w : List ℕ) (few : n ≤ most_nod
 
   -- the first q literals alone
   pub shorter_base : (q : ℕ) (w' : List ℕ) → q ≤ trail_at w 0 → area_size ≤ length w' → Trail n (trail_at w') → g_of w' ≡ trail q (trail_at w)
-      → clause_count w' ≡ length (clauses_to t goals (trail_at w) q) → Same bases_from slots_from w w' → ((i : ℕ) → i < most_slots → slot_at w' i ≡ slot_at w i) → Base t n goals w'
+      → clause_count w' ≡ length (clauses_to t goals (trail_at w) q) → Same bases_from slots_from w w'
+      → ((i : ℕ) → i < most_slots → slot_at w' i ≡ slot_at w i) → Base t n goals w'
   shorter_base q w' b z r g e s v =
       let p = clauses_first t goals (trail_at w) (trail_at w 0) q b in
       record {
@@ -245,7 +247,8 @@ module _ (t : ℕ → Node) (n : ℕ) (goals w : List ℕ) (few : n ≤ most_nod
 
     pub struck-holds : Holds t n goals w' (history (x ∷ s.strikes) s.frames)
     struck-holds = record {
-      base = shorter_base t n goals w few h.base (trail_at w 0) w' (omega arith) (omega (arith, h.base.size, p.size)) (subst (Trail n) (sym trail-kept) h.base.trail)
+      base = shorter_base t n goals w few h.base (trail_at w 0) w' (omega arith) (omega (arith, h.base.size, p.size))
+          (subst (Trail n) (sym trail-kept) h.base.trail)
           (ap held trail-kept) (p.else 0 (λ q. omega (arith, q)) (inl (omega arith)) ∙ h.base.listed.count)
           (λ i c d. p.else i (λ q. omega (arith, q, c)) (inl d)) p.slots;
       marked = subst (λ (c : List (List ℕ)). Marked c w' (x ∷ s.strikes)) (sym clauses-kept)
@@ -267,6 +270,7 @@ pub whole-strike : (k p : ℕ) (G : List ℕ) (S : List Strike) → branch_by G 
 unfolding clauses_in literals_in
 whole-strike k p G S = refl
 
-pub part-strike : (k p : ℕ) (G : List ℕ) (S : List Strike) → branch_by G (strike k p false ∷ S) ≡ strike_literal (record { clause = k; position = p }) (branch_by G S)
+pub part-strike : (k p : ℕ) (G : List ℕ) (S : List Strike) → branch_by G (strike k p false ∷ S) ≡ strike_literal (record { clause = k; position = p })
+    (branch_by G S)
 unfolding clauses_in literals_in
 part-strike k p G S = refl

@@ -163,13 +163,15 @@ module _ (cs : List (List ℕ)) (w w' : List ℕ) (S : List Strike) (room : leng
 
 -- ---- older strikes come back
 
-pub marked_back : (cs : List (List ℕ)) (head : ℕ) (w w' : List ℕ) (K S : List Strike) → Marked cs w (K ++ S) → Unwound head w w' → head ≡ head_of (map (slot_of cs) S)
+pub marked_back : (cs : List (List ℕ)) (head : ℕ) (w w' : List ℕ) (K S : List Strike) → Marked cs w (K ++ S) → Unwound head w w'
+    → head ≡ head_of (map (slot_of cs) S)
     → Marked cs w' S
 marked_back cs head w w' K S h u e =
     let r = u.strikes (map (slot_of cs) K) (map (slot_of cs) S) (subst (Strikes w) (map_append (slot_of cs) K S) h.chained) e in
     record {
       chained = r.0;
-      valid = all_with (slot_of cs) (Valid cs w) (Valid cs w') S (λ s i v. record { clause = v.clause; position = v.position; kind = ap (leb whole) (r.1 (slot_of cs s) i) ∙ v.kind })
+      valid = all_with (slot_of cs) (Valid cs w) (Valid cs w') S (λ s i v.
+          record { clause = v.clause; position = v.position; kind = ap (leb whole) (r.1 (slot_of cs s) i) ∙ v.kind })
           (later K h.valid);
     }
   where
@@ -206,13 +208,15 @@ module _ (cs : List (List ℕ)) (w : List ℕ) (k p : ℕ) (a : k < length cs) (
 
   -- the strike at a place says what the slot says
   pub hit_kind : (S : List Strike) → All (Valid cs w) S → hit k p S ≡ true
-      → ((is_whole w (offset cs k + p) ≡ true) × (mem k (clauses_in S) ≡ true)) ⊎ ((is_whole w (offset cs k + p) ≡ false) × (among (record { clause = k; position = p }) (literals_in S) ≡ true))
+      → ((is_whole w (offset cs k + p) ≡ true) × (mem k (clauses_in S) ≡ true)) ⊎ ((is_whole w (offset cs k + p) ≡ false) × (among
+      (record { clause = k; position = p }) (literals_in S) ≡ true))
   unfolding hit clauses_in literals_in mem among
   hit_kind [] v e = absurd (false≢true e)
   hit_kind (s ∷ S) v e = go s.whole v.0.kind (ℕ_discrete k s.clause) (ℕ_discrete p s.position) (hit_kind S v.1)
     where
       Says : List ℕ → List Place → Type 0
-      Says C P = ((is_whole w (offset cs k + p) ≡ true) × (mem k C ≡ true)) ⊎ ((is_whole w (offset cs k + p) ≡ false) × (among (record { clause = k; position = p }) P ≡ true))
+      Says C P = ((is_whole w (offset cs k + p) ≡ true) × (mem k C ≡ true)) ⊎ ((is_whole w (offset cs k + p) ≡ false) × (among
+          (record { clause = k; position = p }) P ≡ true))
 
       here : {x : Bool} → is_whole w (slot_of cs s) ≡ x → k ≡ s.clause → p ≡ s.position → is_whole w (offset cs k + p) ≡ x
       here i y z = ap (λ (j : ℕ). is_whole w (offset cs j + p)) y ∙ ap (λ (j : ℕ). is_whole w (offset cs s.clause + j)) z ∙ i
@@ -221,7 +225,8 @@ module _ (cs : List (List ℕ)) (w : List ℕ) (k p : ℕ) (a : k < length cs) (
       place y z = simp (eq-eqb k s.clause y, eq-eqb p s.position z)
 
       later : (x : Bool) → Says (clauses_in S) (literals_in S)
-          → Says (cond x (s.clause ∷ clauses_in S) (clauses_in S)) (cond x (literals_in S) (record { clause = s.clause; position = s.position } ∷ literals_in S))
+          → Says (cond x (s.clause ∷ clauses_in S) (clauses_in S)) (cond x (literals_in S)
+          (record { clause = s.clause; position = s.position } ∷ literals_in S))
       later true (inl r) = inl (r.0, mem-later (clauses_in S) s.clause k r.1)
       later true (inr r) = inr r
       later false (inl r) = inl r
@@ -232,7 +237,8 @@ module _ (cs : List (List ℕ)) (w : List ℕ) (k p : ℕ) (a : k < length cs) (
           or-true false q = q
 
       go : (x : Bool) → is_whole w (slot_of cs s) ≡ x → Dec (k ≡ s.clause) → Dec (p ≡ s.position) → (hit k p S ≡ true → Says (clauses_in S) (literals_in S))
-          → Says (cond x (s.clause ∷ clauses_in S) (clauses_in S)) (cond x (literals_in S) (record { clause = s.clause; position = s.position } ∷ literals_in S))
+          → Says (cond x (s.clause ∷ clauses_in S) (clauses_in S)) (cond x (literals_in S)
+          (record { clause = s.clause; position = s.position } ∷ literals_in S))
       go true i (yes y) (yes z) r = inl (here i y z, mem_same (clauses_in S) s.clause k y)
       go false i (yes y) (yes z) r = inr (here i y z, ap (◌|| among (record { clause = k; position = p }) (literals_in S)) (place y z))
       go x i (no y) z r = later x (r (sym (simp (ne_eqb k s.clause y)) ∙ e))
@@ -244,7 +250,8 @@ module _ (cs : List (List ℕ)) (w : List ℕ) (k p : ℕ) (a : k < length cs) (
   among_hit [] e = e
   among_hit (s ∷ S) e = go s.whole e (among_hit S)
     where
-      go : (x : Bool) → among (record { clause = k; position = p }) (cond x (literals_in S) (record { clause = s.clause; position = s.position } ∷ literals_in S)) ≡ true
+      go : (x : Bool) → among (record { clause = k; position = p })
+          (cond x (literals_in S) (record { clause = s.clause; position = s.position } ∷ literals_in S)) ≡ true
           → (among (record { clause = k; position = p }) (literals_in S) ≡ true → hit k p S ≡ true) → ((eqb k s.clause && eqb p s.position) || hit k p S) ≡ true
       go true q r = by_test (eqb k s.clause && eqb p s.position) (λ y. simp y) (λ y. simp (y, r q))
       go false q r = by_test (eqb k s.clause && eqb p s.position) (λ y. simp y) (λ y. simp (y, r (rw y at q)))

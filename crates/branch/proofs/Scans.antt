@@ -3,7 +3,7 @@ use mathlib.Core.Path.{◌≡◌, refl, sym, ap, ◌∙◌, subst}
 use mathlib.Core.Bool.{Bool, true, false, cond, not, ◌&&◌, ◌||◌, false≢true}
 use mathlib.Core.Logic.{◌⊎◌, inl, inr}
 use mathlib.Core.List.{List, [], ◌∷◌, map}
-use Prim.Native.Nat.{ℕ, zero, suc, ◌+◌, ◌-◌, ◌<◌, ◌≤◌}
+use Prim.Native.Nat.{ℕ, zero, suc, ◌+◌, ◌<◌, ◌≤◌}
 use native.Mathlib.Omega.{arith}
 use lib.Dec.{eqb}
 use lib.ListN.{length, get_or}
@@ -68,7 +68,8 @@ module _ (cs : List (List ℕ)) (w : List ℕ) (S : List Strike) (room : length 
     whole_mem : is_whole w (offset cs k + p) ≡ true → mem k (clauses_in S) ≡ true
     whole_mem e = go (hit_kind cs w k p a b S h.valid (whole-hit e))
       where
-        go : ((is_whole w (offset cs k + p) ≡ true) × (mem k (clauses_in S) ≡ true)) ⊎ ((is_whole w (offset cs k + p) ≡ false) × (among (record { clause = k; position = p }) (literals_in S) ≡ true))
+        go : ((is_whole w (offset cs k + p) ≡ true) × (mem k (clauses_in S) ≡ true)) ⊎ ((is_whole w (offset cs k + p) ≡ false) × (among
+            (record { clause = k; position = p }) (literals_in S) ≡ true))
             → mem k (clauses_in S) ≡ true
         go (inl r) = r.1
         go (inr r) = absurd (false≢true (sym r.0 ∙ e))
@@ -83,13 +84,15 @@ module _ (cs : List (List ℕ)) (w : List ℕ) (S : List Strike) (room : length 
         back : hit k p S ≡ true → among (record { clause = k; position = p }) (literals_in S) ≡ true
         back q = go (hit_kind cs w k p a b S h.valid q)
           where
-            go : ((is_whole w (offset cs k + p) ≡ true) × (mem k (clauses_in S) ≡ true)) ⊎ ((is_whole w (offset cs k + p) ≡ false) × (among (record { clause = k; position = p }) (literals_in S) ≡ true))
+            go : ((is_whole w (offset cs k + p) ≡ true) × (mem k (clauses_in S) ≡ true)) ⊎ ((is_whole w (offset cs k + p) ≡ false) × (among
+                (record { clause = k; position = p }) (literals_in S) ≡ true))
                 → among (record { clause = k; position = p }) (literals_in S) ≡ true
             go (inl r) = absurd (false≢true (sym e ∙ whole-at w (offset cs k) (length (get_or cs k [])) p b r.0))
             go (inr r) = r.1
 
   -- a struck clause has a slot that says so
-  mem_whole : (T : List Strike) → All (Valid cs w) T → mem k (clauses_in T) ≡ true → (p : ℕ) × (p < length (get_or cs k [])) × (is_whole w (offset cs k + p) ≡ true)
+  mem_whole : (T : List Strike) → All (Valid cs w) T → mem k (clauses_in T) ≡ true
+      → (p : ℕ) × (p < length (get_or cs k [])) × (is_whole w (offset cs k + p) ≡ true)
   unfolding clauses_in mem
   mem_whole [] v e = absurd (false≢true e)
   mem_whole (s ∷ T) v e = go s.whole v.0.kind e (mem_whole T v.1)
@@ -97,13 +100,18 @@ module _ (cs : List (List ℕ)) (w : List ℕ) (S : List Strike) (room : length 
       Found : Type 0
       Found = (p : ℕ) × (p < length (get_or cs k [])) × (is_whole w (offset cs k + p) ≡ true)
 
-      go : (x : Bool) → is_whole w (slot_of cs s) ≡ x → mem k (cond x (s.clause ∷ clauses_in T) (clauses_in T)) ≡ true → (mem k (clauses_in T) ≡ true → Found) → Found
+      go : (x : Bool) → is_whole w (slot_of cs s) ≡ x → mem k (cond x (s.clause ∷ clauses_in T) (clauses_in T)) ≡ true → (mem k (clauses_in T) ≡ true → Found)
+          → Found
       go false i q r = r q
       go true i q r =
           by_test (eqb k s.clause)
           (λ y.
-          let z : s.clause ≡ k = sym (eqb-true k s.clause y) in
-          (s.position, subst (λ (j : ℕ). s.position < length (get_or cs j [])) z v.0.position, ap (λ (j : ℕ). is_whole w (offset cs j + s.position)) (sym z) ∙ i))
+          let z : s.clause ≡ k = sym (eqb-true k s.clause y) in (
+            s.position,
+            subst (λ (j : ℕ). s.position < length (get_or cs j [])) z v.0.position,
+            ap (λ (j : ℕ). is_whole w (offset cs j + s.position)) (sym z)
+                ∙ i,
+          ))
           (λ y. r (rw y at q))
 
   pub whole_is : whole_in w (offset cs k) (length (get_or cs k [])) ≡ mem k (clauses_in S)
@@ -124,11 +132,13 @@ pub left-from : (w : List ℕ) (b : Branch) (k s p : ℕ) (c : List ℕ) → ((i
 unfolding free_from unstruck
 left-from w b k s p [] f g = refl
 left-from w b k s p (l ∷ c) f g =
-    go (eqb (strike_at w s) 0) (ap (λ (q : ℕ). among (record { clause = k; position = q }) b.struck_literals) (sym y) ∙ g 0 (omega arith) ∙ ap (λ (q : ℕ). not (eqb (strike_at w q) 0)) z)
+    go (eqb (strike_at w s) 0) (ap (λ (q : ℕ). among (record { clause = k; position = q }) b.struck_literals) (sym y) ∙ g 0 (omega arith)
+    ∙ ap (λ (q : ℕ). not (eqb (strike_at w q) 0)) z)
     (ap (slot_at w) (sym z) ∙ f 0 (omega arith))
     (left-from w b k (suc s) (suc p) c
     (λ i h. ap (slot_at w) (shift s i) ∙ f (suc i) (omega (arith, h)))
-    (λ i h. ap (λ (q : ℕ). among (record { clause = k; position = q }) b.struck_literals) (shift p i) ∙ g (suc i) (omega (arith, h)) ∙ ap (λ (q : ℕ). not (eqb (strike_at w q) 0)) (sym (shift s i))))
+    (λ i h. ap (λ (q : ℕ). among (record { clause = k; position = q }) b.struck_literals) (shift p i) ∙ g (suc i) (omega (arith, h))
+    ∙ ap (λ (q : ℕ). not (eqb (strike_at w q) 0)) (sym (shift s i))))
   where
     z : s + 0 ≡ s
     z = omega arith
@@ -143,7 +153,8 @@ left-from w b k s p (l ∷ c) f g =
         → map (slot_at w) (free_from w (suc s) (length c)) ≡ unstruck b k (suc p) c
         → map (slot_at w) (cond x (s ∷ free_from w (suc s) (length c)) (free_from w (suc s) (length c)))
         ≡ cond (among (record { clause = k; position = p }) b.struck_literals) (unstruck b k (suc p) c) (l ∷ unstruck b k (suc p) c)
-    go true e q r = ap (◌∷ map (slot_at w) (free_from w (suc s) (length c))) q ∙ ap (l ∷◌) r ∙ sym (ap (λ (u : Bool). cond u (unstruck b k (suc p) c) (l ∷ unstruck b k (suc p) c)) e)
+    go true e q r = ap (◌∷ map (slot_at w) (free_from w (suc s) (length c))) q ∙ ap (l ∷◌) r
+        ∙ sym (ap (λ (u : Bool). cond u (unstruck b k (suc p) c) (l ∷ unstruck b k (suc p) c)) e)
     go false e q r = r ∙ sym (ap (λ (u : Bool). cond u (unstruck b k (suc p) c) (l ∷ unstruck b k (suc p) c)) e)
 
 -- the slots that are left lie within the clause, and have no strike
@@ -162,7 +173,8 @@ free_open w s (suc m) = go (eqb (strike_at w s) 0) refl (wider (free_from w (suc
     wider [] a = tt
     wider (x ∷ xs) a = (open_wider w s m x a.0, wider xs a.1)
 
-    go : (b : Bool) → eqb (strike_at w s) 0 ≡ b → All (Open w s (suc m)) (free_from w (suc s) m) → All (Open w s (suc m)) (cond b (s ∷ free_from w (suc s) m) (free_from w (suc s) m))
+    go : (b : Bool) → eqb (strike_at w s) 0 ≡ b → All (Open w s (suc m)) (free_from w (suc s) m)
+        → All (Open w s (suc m)) (cond b (s ∷ free_from w (suc s) m) (free_from w (suc s) m))
     go true e a = ((omega arith, omega arith, eqb-true (strike_at w s) 0 e), a)
     go false e a = a
 
@@ -172,23 +184,26 @@ unfolding true_from free_from any_holds
 true-is w s zero = refl
 true-is w s (suc m) = go (eqb (strike_at w s) 0) (is_holds (value_of (g_of w) (slot_at w s))) refl (true-is w (suc s) m)
   where
-    go : (x y : Bool) → is_holds (value_of (g_of w) (slot_at w s)) ≡ y → any_holds (g_of w) (map (slot_at w) (free_from w (suc s) m)) ≡ not (eqb (true_from w (suc s) m) 0)
-        → any_holds (g_of w) (map (slot_at w) (cond x (s ∷ free_from w (suc s) m) (free_from w (suc s) m))) ≡ not (eqb (cond (x && y) (suc s) (true_from w (suc s) m)) 0)
+    go : (x y : Bool) → is_holds (value_of (g_of w) (slot_at w s)) ≡ y
+        → any_holds (g_of w) (map (slot_at w) (free_from w (suc s) m)) ≡ not (eqb (true_from w (suc s) m) 0)
+        → any_holds (g_of w) (map (slot_at w) (cond x (s ∷ free_from w (suc s) m) (free_from w (suc s) m))) ≡ not
+        (eqb (cond (x && y) (suc s) (true_from w (suc s) m)) 0)
     go false y q r = r
     go true true q r = ap (◌|| any_holds (g_of w) (map (slot_at w) (free_from w (suc s) m))) q ∙ sym (ap not (ne_eqb (suc s) 0 (λ e. omega (arith, e))))
     go true false q r = ap (◌|| any_holds (g_of w) (map (slot_at w) (free_from w (suc s) m))) q ∙ r
 
-pub true_open : (w : List ℕ) (s m : ℕ) {v : ℕ} → v ≡ true_from w s m → (v ≡ 0 → ⊥) → Open w s m (v - 1)
+pub true_open : (w : List ℕ) (s m : ℕ) {v : ℕ} → suc v ≡ true_from w s m → Open w s m v
 unfolding true_from
-true_open w s zero {v} e n = absurd (n e)
-true_open w s (suc m) {v} e n = go (eqb (strike_at w s) 0) (is_holds (value_of (g_of w) (slot_at w s))) refl e (λ q. true_open w (suc s) m q n)
+true_open w s zero {v} e = absurd (omega (arith, e))
+true_open w s (suc m) {v} e = go (eqb (strike_at w s) 0) (is_holds (value_of (g_of w) (slot_at w s))) refl e (λ q. true_open w (suc s) m q)
   where
-    at : v ≡ suc s → strike_at w s ≡ 0 → Open w s (suc m) (v - 1)
+    at : suc v ≡ suc s → strike_at w s ≡ 0 → Open w s (suc m) v
     at q z =
-        let y : s ≡ v - 1 = omega (arith, q) in
+        let y : s ≡ v = omega (arith, q) in
         subst (Open w s (suc m)) y (omega arith, omega arith, z)
 
-    go : (x y : Bool) → eqb (strike_at w s) 0 ≡ x → v ≡ cond (x && y) (suc s) (true_from w (suc s) m) → (v ≡ true_from w (suc s) m → Open w (suc s) m (v - 1)) → Open w s (suc m) (v - 1)
-    go false y p q r = open_wider w s m (v - 1) (r q)
+    go : (x y : Bool) → eqb (strike_at w s) 0 ≡ x → suc v ≡ cond (x && y) (suc s) (true_from w (suc s) m)
+        → (suc v ≡ true_from w (suc s) m → Open w (suc s) m v) → Open w s (suc m) v
+    go false y p q r = open_wider w s m v (r q)
     go true true p q r = at q (eqb-true (strike_at w s) 0 p)
-    go true false p q r = open_wider w s m (v - 1) (r q)
+    go true false p q r = open_wider w s m v (r q)

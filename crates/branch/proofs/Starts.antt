@@ -32,7 +32,8 @@ mem-none m = refl
 abbrev Clear : ℕ → Type 0
 Clear i = (i < bases_from + 1) ⊎ ((slots_from ≤ i) × (i < slots_from + 8144)) ⊎ ((trail_from ≤ i) × (i < trail_from + 4033))
 
-module _ {w a b c : List ℕ} (p : Filled 0 (bases_from + 1) (λ _. 0) w a) (q : Filled slots_from 8144 (λ _. 0) a b) (r : Filled trail_from 4033 (λ _. 0) b c) where
+module _ {w a b c : List ℕ} (p : Filled 0 (bases_from + 1) (λ _. 0) w a) (q : Filled slots_from 8144 (λ _. 0) a b)
+    (r : Filled trail_from 4033 (λ _. 0) b c) where
   cleared : (i : ℕ) → Clear i → get_or c i 0 ≡ 0
   cleared i (inl h) =
       let e : 0 + i ≡ i = omega arith in
@@ -44,7 +45,8 @@ module _ {w a b c : List ℕ} (p : Filled 0 (bases_from + 1) (λ _. 0) w a) (q :
       let e : trail_from + (i - trail_from) ≡ i = omega (arith, h.0) in
       ap (λ (k : ℕ). get_or c k 0) (sym e) ∙ r.here (i - trail_from) (omega (arith, h.0, h.1))
 
-module _ (t : ℕ → Node) (n : ℕ) (goals w₀ w₁ w₂ : List ℕ) (size : area_size ≤ length w₀) (few : n ≤ most_nodes) (gs : Goals n goals) (z : (i : ℕ) → Clear i → get_or w₀ i 0 ≡ 0)
+module _ (t : ℕ → Node) (n : ℕ) (goals w₀ w₁ w₂ : List ℕ) (size : area_size ≤ length w₀) (few : n ≤ most_nodes) (gs : Goals n goals)
+    (z : (i : ℕ) → Clear i → get_or w₀ i 0 ≡ 0)
     (b : Filled (bases_from + 1) (length goals) suc w₀ w₁) (a : Filled slots_from (length goals) (λ k. get_or goals k 0) w₁ w₂) where
   w₃ : List ℕ
   w₃ = set w₂ 0 (length goals)
@@ -80,7 +82,8 @@ module _ (t : ℕ → Node) (n : ℕ) (goals w₀ w₁ w₂ : List ℕ) (size : 
   base₃ zero h = zero_low (bases_from + 0) (λ q. omega (arith, q)) (omega arith)
   base₃ (suc k) h =
       let e : bases_from + suc k ≡ bases_from + 1 + k = omega arith in
-      ap (λ (i : ℕ). get_or w₃ i 0) e ∙ away (bases_from + 1 + k) (λ q. omega (arith, q)) ∙ a.else (bases_from + 1 + k) (inl (omega (arith, h, gs.most))) ∙ b.here k (omega (arith, h))
+      ap (λ (i : ℕ). get_or w₃ i 0) e ∙ away (bases_from + 1 + k) (λ q. omega (arith, q)) ∙ a.else (bases_from + 1 + k) (inl (omega (arith, h, gs.most)))
+      ∙ b.here k (omega (arith, h))
 
   -- the goals are literals, without a strike
   goal₃ : (i : ℕ) → i < length goals → packed_at w₃ i ≡ get_or goals i 0

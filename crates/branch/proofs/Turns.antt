@@ -38,7 +38,12 @@ module _ (t : ℕ → Node) (l : ℕ) {w w₁ : List ℕ} (a : Appended (expand 
   -- the literals that it brings are the table's, and without a strike
   brought : {n : ℕ} → Table n t → n ≤ most_nodes → l < 2 * n → (i : ℕ) → get_or (flat (expand t l)) i 0 < notes
   brought {n} T few b i =
-      omega (arith, few, all_get_d (λ m. m < 2 * n) (flat (expand t l)) i 0 (omega (arith, b)) (all_flat (λ m. m < 2 * n) (expand t l) (expand_below n t T l b)))
+      omega (
+        arith,
+        few,
+        all_get_d (λ m. m < 2 * n) (flat (expand t l)) i 0 (omega (arith, b))
+            (all_flat (λ m. m < 2 * n) (expand t l) (expand_below n t T l b)),
+      )
 
   stays_clean : ((i : ℕ) → get_or (flat (expand t l)) i 0 < notes) → (m : ℕ) → strike_at w m ≡ 0 → strike_at w₁ m ≡ 0
   stays_clean low m z = go (dec_lt m (base_at w (clause_count w))) (dec_lt m (base_at w (clause_count w) + length (flat (expand t l))))
@@ -68,7 +73,8 @@ module _ (t : ℕ → Node) (l : ℕ) {w w₁ : List ℕ} (a : Appended (expand 
     rest = λ i x y. e.under i (omega arith) y ∙ a.later i x;
   }
     where
-      listed_kept : (cs : List (List ℕ)) → length (cs ++ expand t l) ≤ most_clauses → length (flat (cs ++ expand t l)) ≤ most_slots → Listed (cs ++ expand t l) w₁ → Listed (cs ++ expand t l) w₂
+      listed_kept : (cs : List (List ℕ)) → length (cs ++ expand t l) ≤ most_clauses → length (flat (cs ++ expand t l)) ≤ most_slots
+          → Listed (cs ++ expand t l) w₁ → Listed (cs ++ expand t l) w₂
       listed_kept cs m f p = record {
         count = e.under 0 (omega arith) (omega arith) ∙ p.count;
         bases = λ k h. e.under (bases_from + k) (omega arith) (omega (arith, h, m)) ∙ p.bases k h;
@@ -142,11 +148,14 @@ module _ (t : ℕ → Node) (n : ℕ) (goals w : List ℕ) (few : n ≤ most_nod
         kept : Kept (length s.frames) w w₂
         kept = record {
           counts = λ i b. saved (counts_from + i) (omega arith) (omega (arith, b, d, depth_is))
-              ∙ p.else (counts_from + i) (λ q. omega (arith, q)) (λ q. omega (arith, q, b, depth_is)) (λ q. omega (arith, q, b, d, depth_is)) (λ q. omega (arith, q, b, d, depth_is));
+              ∙ p.else (counts_from + i) (λ q. omega (arith, q)) (λ q. omega (arith, q, b, depth_is)) (λ q. omega (arith, q, b, d, depth_is))
+              (λ q. omega (arith, q, b, d, depth_is));
           clauses = λ i b. saved (sizes_from + i) (omega arith) (omega (arith, b, d, depth_is))
-              ∙ p.else (sizes_from + i) (λ q. omega (arith, q)) (λ q. omega (arith, q, b, d, depth_is)) (λ q. omega (arith, q, b, depth_is)) (λ q. omega (arith, q, b, d, depth_is));
+              ∙ p.else (sizes_from + i) (λ q. omega (arith, q)) (λ q. omega (arith, q, b, d, depth_is)) (λ q. omega (arith, q, b, depth_is))
+              (λ q. omega (arith, q, b, d, depth_is));
           heads = λ i b. saved (heads_from + i) (omega arith) (omega (arith, b, d, depth_is))
-              ∙ p.else (heads_from + i) (λ q. omega (arith, q)) (λ q. omega (arith, q, b, d, depth_is)) (λ q. omega (arith, q, b, d, depth_is)) (λ q. omega (arith, q, b, depth_is));
+              ∙ p.else (heads_from + i) (λ q. omega (arith, q)) (λ q. omega (arith, q, b, d, depth_is)) (λ q. omega (arith, q, b, d, depth_is))
+              (λ q. omega (arith, q, b, depth_is));
         }
 
         -- what is saved at the new split
@@ -156,7 +165,8 @@ module _ (t : ℕ → Node) (n : ℕ) (goals w : List ℕ) (few : n ≤ most_nod
         newest-split : Split t goals w₂ (length s.frames) (trail_at w₂ 0) s.strikes frame
         newest-split = record {
           count = at-depth split_count (trail_at w 0) (saved (counts_from + depth w) (omega arith) (omega (arith, d))) p.count;
-          clauses = at-depth split_size (length (clauses_to t goals (trail_at w₂) (trail_at w 0))) (saved (sizes_from + depth w) (omega arith) (omega (arith, d)))
+          clauses = at-depth split_size (length (clauses_to t goals (trail_at w₂) (trail_at w 0)))
+              (saved (sizes_from + depth w) (omega arith) (omega (arith, d)))
               (p.clauses ∙ h.base.listed.count ∙ ap length (sym old));
           head = at-depth split_head (head_of (map (slot_of (clauses_to t goals (trail_at w₂) (trail_at w 0))) s.strikes))
               (saved (heads_from + depth w) (omega arith) (omega (arith, d)))
@@ -172,11 +182,16 @@ module _ (t : ℕ → Node) (n : ℕ) (goals w : List ℕ) (few : n ≤ most_nod
           base = joined-base t n goals w₁ few saved-base l w₂ j;
           marked = subst (λ (c : List (List ℕ)). Marked c w₂ s.strikes) (sym all)
               (marked_more (clauses_of t goals w) (expand t l) w w₂ s.strikes (j.heads ∙ saved-away 2 (inl (omega arith)) (λ q. omega (arith, q)) d)
-              (λ m i. j.rest (strikes_from + m) (omega arith) (omega (arith, i)) ∙ saved-away (strikes_from + m) (inl (omega (arith, i))) (λ q. omega (arith, q)) d)
+              (λ m i. j.rest (strikes_from + m) (omega arith) (omega (arith, i))
+              ∙ saved-away (strikes_from + m) (inl (omega (arith, i))) (λ q. omega (arith, q)) d)
               (slots_fit t n goals w few h.base) (λ m i b. j.strikes m i (omega (arith, b, top₁)) ∙ ap flag_of (saved-slot m i))
               (λ m i z. j.clean m i (ap flag_of (saved-slot m i) ∙ z)) h.marked);
           depths = j.depths ∙ p.depths ∙ ap suc depth_is;
-          splits = (newest-split, splits_same t goals w w₂ (trail_at w 0) (trail_at w 0) s.strikes s.strikes s.frames kept (omega arith) lits ([], refl) h.splits);
+          splits = (
+            newest-split,
+            splits_same t goals w w₂ (trail_at w 0) (trail_at w 0) s.strikes s.strikes s.frames kept (omega arith) lits
+                ([], refl) h.splits,
+          );
         }
 
         pub split-branch : branch_of w₂ (history s.strikes (frame ∷ s.frames)) ≡ join l (branch_of w s)
@@ -188,11 +203,13 @@ module _ (t : ℕ → Node) (n : ℕ) (goals w : List ℕ) (few : n ≤ most_nod
             ap (λ (bs : List Branch). join (neg (trail_at w₂ (1 + trail_at w 0))) (branch (trail_at w₂) (trail_at w 0) s.strikes) ∷ bs)
             (waits_same t goals w (trail_at w₂) (trail_at w 0) s.strikes s.frames lits h.splits)
             ∙ ap (λ (x : ℕ). join (neg x) (branch (trail_at w₂) (trail_at w 0) s.strikes) ∷ waits (trail_at w) s.frames) top₂
-            ∙ ap (λ (G : List ℕ). join (neg l) (branch_by G s.strikes) ∷ waits (trail_at w) s.frames) (trail_same (trail_at w 0) (trail_at w₂) (trail_at w) lits)
+            ∙ ap (λ (G : List ℕ). join (neg l) (branch_by G s.strikes) ∷ waits (trail_at w) s.frames)
+            (trail_same (trail_at w 0) (trail_at w₂) (trail_at w) lits)
 
 -- ---- the newest split has its old state again
 
-module _ (t : ℕ → Node) (n : ℕ) (goals w : List ℕ) (few : n ≤ most_nodes) (S : List Strike) (f : Frame) (fs : List Frame) (h : Holds t n goals w (history S (f ∷ fs))) where
+module _ (t : ℕ → Node) (n : ℕ) (goals w : List ℕ) (few : n ≤ most_nodes) (S : List Strike) (f : Frame) (fs : List Frame)
+    (h : Holds t n goals w (history S (f ∷ fs))) where
   depth-some : depth w ≡ suc (length fs)
   depth-some = h.depths
 
@@ -377,10 +394,17 @@ module _ (t : ℕ → Node) (n : ℕ) (w : List ℕ) (few : n ≤ most_nodes) wh
     pub shrink-ready : {head d : ℕ} {w₁ : List ℕ} → d ≡ depth w - 1 → Unwound head w w₁
         → ((area_size ≤ length w₁) × (n ≤ most_nodes) × (split_count w d ≤ trail_at w₁ 0)) × Trail n (trail_at w₁)
     shrink-ready {head} {d} {w₁} e u =
-        let r : trail_at w₁ ≡ trail_at w = fun_ext (λ j. u.else (trail_from + j) (λ q. omega (arith, q)) (inr (omega arith))) in
-        ((omega (arith, restorable, u.size), few, omega (arith, restorable, ap (λ (k : ℕ). split_count w k) e, ap (λ (g : ℕ → ℕ). g 0) r)), subst (Trail n) (sym r) o.holds.base.trail)
+        let r : trail_at w₁ ≡ trail_at w = fun_ext (λ j. u.else (trail_from + j) (λ q. omega (arith, q)) (inr (omega arith))) in (
+          (omega (arith, restorable, u.size), few, omega (arith, restorable, ap (λ (k : ℕ). split_count w k) e, ap (λ (g : ℕ → ℕ). g 0) r)),
+          subst (Trail n)
+              (sym r) o.holds.base.trail,
+        )
+
+pub held_restorable : (t : ℕ → Node) (n : ℕ) (w : List ℕ) → n ≤ most_nodes → Held t n w → 0 < depth w → Restorable n w
+held_restorable t n w few H b = restorable t n w few (opened t n w few H b)
 
 -- the splits' old state, whatever they were
-pub restores : {t : ℕ → Node} {n : ℕ} {w w₁ w₂ : List ℕ} {d : ℕ} → n ≤ most_nodes → d ≡ depth w - 1 → Unwound (split_head w d) w w₁ → Shrunk n (split_count w d) w₁ w₂
+pub restores : {t : ℕ → Node} {n : ℕ} {w w₁ w₂ : List ℕ} {d : ℕ} → n ≤ most_nodes → d ≡ depth w - 1 → Unwound (split_head w d) w w₁
+    → Shrunk n (split_count w d) w₁ w₂
     → Restores t n w (set (set w₂ 0 (split_size w₂ d)) 1 d) (trail_at w (1 + split_count w d))
 restores {t} {n} {w} {w₁} {w₂} {d} few e u k goals S f fs h = restored t n goals w few S f fs h d e w₁ w₂ u k

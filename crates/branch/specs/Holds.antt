@@ -145,7 +145,8 @@ pub record Joined (t : ℕ → Node) (n l : ℕ) (w w' : List ℕ) : Type 0 wher
   pub count : trail_at w' 0 ≡ suc (trail_at w 0)
   pub lits : (q : ℕ) → q < trail_at w 0 → trail_at w' (1 + q) ≡ trail_at w (1 + q)
   pub top : trail_at w' (1 + trail_at w 0) ≡ l
-  pub listed : (cs : List (List ℕ)) → length (cs ++ expand t l) ≤ most_clauses → length (flat (cs ++ expand t l)) ≤ most_slots → Listed cs w → Listed (cs ++ expand t l) w'
+  pub listed : (cs : List (List ℕ)) → length (cs ++ expand t l) ≤ most_clauses → length (flat (cs ++ expand t l)) ≤ most_slots → Listed cs w
+      → Listed (cs ++ expand t l) w'
   pub strikes : (m : ℕ) → m < most_slots → m < base_at w (clause_count w) → strike_at w' m ≡ strike_at w m
   pub clean : (m : ℕ) → m < most_slots → strike_at w m ≡ 0 → strike_at w' m ≡ 0
   pub depths : depth w' ≡ depth w

@@ -178,6 +178,7 @@ fn put_bare(work: &mut [u16], row: usize)
 }
 
 // The clauses of a row with operands: choice 0 is a, 1 is not a, 2 is b, 3 is not b, 4 is c, 5 is not c.
+#[tactic(auto, using(crate::proofs::Appends::two_operands, crate::proofs::Appends::three_operands, crate::proofs::Appends::room_within))]
 fn put_row(x: &[u16], n: usize, work: &mut [u16], node: usize, row: usize, sign: u8)
     requires indexed { Indexed x.now n }
     requires node_lt_n { (node < n) × ((index_node x.now node).kind ≡ row / 2) × (6 ≤ row) × (row < 18) × (sign ≡ row % 2) }
@@ -195,8 +196,7 @@ fn put_row(x: &[u16], n: usize, work: &mut [u16], node: usize, row: usize, sign:
         10 => some_of(x, n, work, node, 1, 2),
         11 => each_of(x, n, work, node, 0, 3),
         // IFF: one code for both signs, so that the sign need not be guessed
-        12 => same_or_not(x, n, work, node, sign),
-        13 => same_or_not(x, n, work, node, sign),
+        12 | 13 => same_or_not(x, n, work, node, sign),
         // AND of three
         14 => each_of_three(x, n, work, node, 0),
         15 => some_of_three(x, n, work, node, 1),
@@ -234,6 +234,7 @@ pub fn push(x: &[u16], n: usize, work: &mut [u16], l: u16)
 }
 
 // The newest split has its old state again; the literal that was split on.
+#[tactic(auto, using(crate::proofs::Turns::held_restorable))]
 pub fn restore(x: &[u16], n: usize, work: &mut [u16]) -> u16
     requires indexed { Indexed x.now n }
     requires held { Held (index_node x.now) n work.old × (0 < depth work.old) }
@@ -255,11 +256,7 @@ fn clear(work: &mut [u16], from: usize, m: usize)
     requires { from + m ≤ length work.old }
     ensures { Filled from m (λ _. 0) work.old work.new }
 {
-    let mut i = 0;
-    while i < m {
-        work[from + i] = 0;
-        i += 1;
-    }
+    work[from..from + m].fill(0);
 }
 
 // Each of the first m clauses ends after one slot.
@@ -267,10 +264,8 @@ fn number(work: &mut [u16], m: usize)
     requires { (area_size ≤ length work.old) × (m ≤ goal_room) }
     ensures { Filled (bases_from + 1) m suc work.old work.new }
 {
-    let mut k = 0;
-    while k < m {
+    for k in 0..m {
         work[BASES + 1 + k] = (k + 1) as u16;
-        k += 1;
     }
 }
 
@@ -279,11 +274,7 @@ fn aim(goals: &[u16], work: &mut [u16])
     requires { (area_size ≤ length work.old) × (length goals.now ≤ goal_room) }
     ensures { Filled slots_from (length goals.now) (λ k. get_or goals.now k 0) work.old work.new }
 {
-    let mut k = 0;
-    while k < goals.len() {
-        work[SLOTS + k] = goals[k];
-        k += 1;
-    }
+    work[SLOTS..SLOTS + goals.len()].copy_from_slice(goals);
 }
 
 // The start: nothing is held, and the slots are cleared, so that none has a strike. What else is written before it is read is not.

@@ -5,11 +5,8 @@
 ghost use Rattle.std.specs.Prelude.{◌≡◌, ◌≤◌, min, length};
 ghost use Rattle.check_file.specs.Said.{Verified};
 
-use arguments::Loaded;
-use checking::Checked;
 use std::env::FillError;
 use std::rt::{Env, Files};
-use text::Numeral;
 
 // The text of check's answer; its length in the buffer.
 fn verify(t: &[u8], goals: &[u16], d: &[u8], out: &mut [u8]) -> usize
@@ -17,10 +14,9 @@ fn verify(t: &[u8], goals: &[u16], d: &[u8], out: &mut [u8]) -> usize
     ensures { Verified t.now goals.now d.now out.old out.new result }
 {
     let mut work = [0u16; 32768];
-    let c = checking::check(t, goals, &mut work, d);
-    match c {
-        Checked::Accepted => text::put(out, 0, b"accepted\n"),
-        Checked::Refused(f) => text::refused(out, 0, f),
+    match checking::check(t, goals, &mut work, d) {
+        Ok(()) => text::put(out, 0, b"accepted\n"),
+        Err(f) => text::refused(out, 0, f),
     }
 }
 
@@ -45,26 +41,20 @@ fn run_derivation(
     last: usize,
 ) {
     let mut d = room();
-    let l = arguments::load(rt, last, &mut d);
-    match l {
-        Loaded::Bytes(n) => {
-            if n > 4194304 {
-                let _ = eprintln!(rt; "check_file: a derivation of more than 4194304 bytes");
-            } else {
-                say(rt, t, goals, &d[..n]);
-            }
+    if let Some(n) = arguments::load(rt, last, &mut d) {
+        if n > 4194304 {
+            let _ = eprintln!(rt; "check_file: a derivation of more than 4194304 bytes");
+        } else {
+            say(rt, t, goals, &d[..n]);
         }
-        Loaded::Failed => {}
     }
 }
 
 // Argument 1 is the table, and `last` the derivation. A table of more than 16,384 bytes fills the buffer, and is refused by its length.
 fn run(rt: &(impl Env + Files + Print + Eprint + Alloc), goals: &[u16], last: usize) {
     let mut table = [0u8; 16385];
-    let l = arguments::load(rt, 1, &mut table);
-    match l {
-        Loaded::Bytes(n) => run_derivation(rt, &table[..n], goals, last),
-        Loaded::Failed => {}
+    if let Some(n) = arguments::load(rt, 1, &mut table) {
+        run_derivation(rt, &table[..n], goals, last);
     }
 }
 
@@ -83,26 +73,21 @@ fn literal(goal: usize) -> u16
 fn read_goal(rt: &impl Env, a: usize, goals: &mut [u16]) -> bool
     requires { 2 ≤ a }
 {
-    let g = arguments::number(rt, a);
-    match g {
-        Numeral::Number(goal) => {
-            if a - 2 < goals.len() {
-                goals[a - 2] = literal(goal);
-            }
-            true
-        }
-        Numeral::Not => false,
+    let Some(goal) = arguments::number(rt, a) else {
+        return false;
+    };
+    if a - 2 < goals.len() {
+        goals[a - 2] = literal(goal);
     }
+    true
 }
 
 // The goals are the arguments from 2 on, before the last; whether all are numbers.
 fn read_goals(rt: &impl Env, last: usize, goals: &mut [u16]) -> bool {
-    let mut a = 2;
-    while a < last {
+    for a in 2..last {
         if !read_goal(rt, a, goals) {
             return false;
         }
-        a += 1;
     }
     true
 }
@@ -130,9 +115,5 @@ fn main(rt: HostRuntime) {
         usage(&rt);
         return;
     }
-    if args - 3 < 65 {
-        run(&rt, &goals[..args - 3], args - 1);
-    } else {
-        run(&rt, &goals, args - 1);
-    }
+    run(&rt, &goals[..(args - 3).min(65)], args - 1);
 }

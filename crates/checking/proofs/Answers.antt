@@ -8,7 +8,7 @@ use Rattle.scope.specs.declared.Node.{Node}
 use Rattle.scope.specs.declared.Refusal.{Refusal}
 use Rattle.scope.specs.Outcome.{Outcome, answer, refused, fine, ◌>>◌, ◌>>=◌}
 use Rattle.scope.specs.Table.{list_from}
-use Rattle.scope.proofs.Tests.{refused_no, then_first, then_next, bound, passed_on}
+use Rattle.scope.proofs.Tests.{handed_on, refused_no, then_first, then_next, bound, passed_on}
 use Rattle.codec.specs.Valid.{Bytes}
 use Rattle.calculus.specs.Expansion.{expand}
 use Rattle.calculus.specs.Decide.{nodes_of, asked}
@@ -26,18 +26,17 @@ use Rattle.naming.specs.Named.{head_of}
 use Rattle.naming.proofs.Heads.{names_most, body-from}
 use Rattle.meaning.proofs.Derivations.{check_never, own_accepted}
 use Rattle.checking.specs.Checks.{checked_of, Replayed, Checks}
-use Rattle.checking.specs.declared.Checked.{Checked}
-use Rattle.checking.specs.declared.Checked.TheVariants.{Accepted, Refused}
+use Rattle.std.proofs.Common.{Result, Ok, Err, IsErrAnd}
 use Rattle.checking.proofs.Same.{accepts_same}
 use Rattle.checking.proofs.Nodes.{Ready}
 
 -- ---- rows 40 to 47
 
 -- the derivation's form is refused
-pub form_refused : (t : ℕ → Node) (n : ℕ) (goals w d : List ℕ) (f : Refusal) → step_count d ≡ refused f.number f.place
-    → Replayed t n goals w d w (Refused f)
+pub form_refused : (t : ℕ → Node) (n : ℕ) (goals w d : List ℕ) (f : Refusal) {r : Result (Unit {0}) Refusal} → step_count d ≡ refused f.number f.place
+    → IsErrAnd r (λ x. x ≡ f) → Replayed t n goals w d w r
 unfolding step_count
-form_refused t n goals w d f e = record { answered = sym (passed_on (decode_steps d) length _ e); work = λ number place q. refl }
+form_refused t n goals w d f {r} e q = record { answered = handed_on (λ u. u) r q ∙ sym (passed_on (decode_steps d) length _ e); work = λ number place z. refl }
 
 -- a derivation that was counted
 module _ (d : List ℕ) {count : ℕ} (e : step_count d ≡ answer count) where
@@ -56,7 +55,7 @@ module _ (d : List ℕ) {count : ℕ} (e : step_count d ≡ answer count) where
       step_within d (read-fine d s.0 s.1) k (omega (arith, read_length d s.0 s.1, q))
 
   -- what the steps come to is the answer; a refusal is none of 40 to 44 and 65
-  pub steps_end : {t : ℕ → Node} {n : ℕ} {goals w w' : List ℕ} {r : Checked}
+  pub steps_end : {t : ℕ → Node} {n : ℕ} {goals w w' : List ℕ} {r : Result (Unit {0}) Refusal}
       → checked_of r ≡ accepts (version_of d) (expand t) goals n (list_from (step_at d) 0 count) → Replayed t n goals w d w' r
   steps_end {t} {n} {goals} q =
       record {
@@ -103,13 +102,13 @@ in_version e goals n ss q = ap (λ (v : Version). accepts v e goals n ss) q
 
 -- ---- the answer, and what it means
 
-checked_accepted : (r : Checked) → checked_of r ≡ fine → r ≡ Accepted
-checked_accepted Accepted e = refl
-checked_accepted (Refused f) e = refused_no e
+checked_accepted : (r : Result (Unit {0}) Refusal) → checked_of r ≡ fine → r ≡ Ok tt
+checked_accepted (Ok u) e = refl
+checked_accepted (Err f) e = refused_no e
 
 module _ (t goals w d : List ℕ) (all : Bytes t) where
   -- the answer of the definition has the definition's meaning
-  checks : {w' : List ℕ} (r : Checked) → checked_of r ≡ check t goals w d
+  checks : {w' : List ℕ} (r : Result (Unit {0}) Refusal) → checked_of r ≡ check t goals w d
       → ((number place : ℕ) → (asked t goals 0 0 (length w) >> decode_steps d) ≡ refused number place → w' ≡ w) → Checks t goals w d w' r
   checks r e kept = record {
     answered = e;
@@ -124,8 +123,9 @@ module _ (t goals w d : List ℕ) (all : Bytes t) where
   unfolding check
   refused_by q = rw q
 
-  pub refuses : (f : Refusal) → asked t goals 0 0 (length w) ≡ refused f.number f.place → Checks t goals w d w (Refused f)
-  refuses f q = checks (Refused f) (sym (refused_by q)) (λ number place z. refl)
+  pub refuses : (f : Refusal) {r : Result (Unit {0}) Refusal} → asked t goals 0 0 (length w) ≡ refused f.number f.place → IsErrAnd r (λ x. x ≡ f)
+      → Checks t goals w d w r
+  refuses f {r} q e = checks r (handed_on (λ u. u) r e ∙ sym (refused_by q)) (λ number place z. refl)
 
   module _ {x : List ℕ} {n : ℕ} (p : Ready t goals (length w) x n) where
     -- the run over the index is that over the nodes
@@ -133,9 +133,10 @@ module _ (t goals w d : List ℕ) (all : Bytes t) where
     unfolding check checked
     check-in = rw (p.answered, p.count) (go (decode_steps d))
       where
-        go : (o : Outcome (List Step)) → (o >>= accepts (version_of d) (expand (nodes_of p.nodes)) goals n) ≡ (o >>= accepts (version_of d) (expand (index_node x)) goals n)
+        go : (o : Outcome (List Step)) → (o >>= accepts (version_of d) (expand (nodes_of p.nodes)) goals n) ≡ (o >>= accepts (version_of d)
+            (expand (index_node x)) goals n)
         go (answer ss) = sym (accepts_same n (index_node x) goals p.indexed.table p.admitted.below (nodes_of p.nodes) p.same (version_of d) ss)
         go (refused number place) = refl
 
-    pub ends : {w' : List ℕ} (r : Checked) → Replayed (index_node x) n goals w d w' r → Checks t goals w d w' r
+    pub ends : {w' : List ℕ} (r : Result (Unit {0}) Refusal) → Replayed (index_node x) n goals w d w' r → Checks t goals w d w' r
     ends r h = checks r (h.answered ∙ sym check-in) (λ number place q. h.work number place (rw p.answered at q))

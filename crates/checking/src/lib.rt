@@ -18,23 +18,20 @@ ghost use Rattle.calculus.specs.Expansion.{expand};
 ghost use Rattle.checking.specs.Checks.{checked_of, Replayed, Checks};
 ghost use Rattle.checking.specs.Nodes.{Placed, Loaded};
 
-use naming::Named;
-use scope::{Refusal, Verdict};
-use steps::Opened;
-use table::Counted;
+use scope::Refusal;
 
 // The numbers that the chains of the reading take, where the nodes will stand.
 const CHAINS: usize = 6112;
 
-// What check answers.
-#[derive(Clone, Copy)]
-pub enum Checked {
-    Accepted,
-    Refused(Refusal),
-}
-
 // Row 64 of the goals that the derivation names, then its other steps in turn over an index, rows 45 to 47 and 64.
-fn judged(x: &[u16], n: usize, goals: &[u16], work: &mut [u16], d: &[u8], count: usize) -> Checked
+fn judged(
+    x: &[u16],
+    n: usize,
+    goals: &[u16],
+    work: &mut [u16],
+    d: &[u8],
+    count: usize,
+) -> Result<(), Refusal>
     requires indexed { Indexed x.now n }
     requires goals { Goals n goals.now }
     requires area_size_in_bounds { area_size ≤ length work.old }
@@ -42,31 +39,19 @@ fn judged(x: &[u16], n: usize, goals: &[u16], work: &mut [u16], d: &[u8], count:
     ensures { checked_of result ≡ accepts (version_of d.now) (expand (index_node x.now)) goals.now n (list_from (step_at d.now) 0 count) }
 {
     let version = steps::version_of(d);
-    let head = naming::head(version, goals, d, count);
-    match head {
-        Named::Refused(f) => Checked::Refused(f),
-        Named::Goals(from) => {
-            let v = replay::check_run(version, x, n, goals, work, d, from, count);
-            match v {
-                Verdict::Fine => Checked::Accepted,
-                Verdict::Refused(failed) => Checked::Refused(failed),
-            }
-        }
-    }
+    let from = naming::head(version, goals, d, count)?;
+    replay::check_run(version, x, n, goals, work, d, from, count)
 }
 
 // Rows 40 to 44 and 65, then the steps.
-fn replayed(x: &[u16], n: usize, goals: &[u16], work: &mut [u16], d: &[u8]) -> Checked
+fn replayed(x: &[u16], n: usize, goals: &[u16], work: &mut [u16], d: &[u8]) -> Result<(), Refusal>
     requires indexed { Indexed x.now n }
     requires goals { Goals n goals.now }
     requires area_size_in_bounds { area_size ≤ length work.old }
     ensures { Replayed (index_node x.now) n goals.now work.old d.now work.new result }
 {
-    let o = steps::count(d);
-    match o {
-        Opened::Refused(f) => Checked::Refused(f),
-        Opened::Steps(count) => judged(x, n, goals, work, d, count),
-    }
+    let count = steps::count(d)?;
+    judged(x, n, goals, work, d, count)
 }
 
 // Node m is read from its record, which is at a place of the table.
@@ -101,18 +86,16 @@ fn load(t: &[u8], nodes: usize, x: &mut [u16])
     requires { (nodes ≤ most_nodes) × Records t.now nodes × (length x.old ≡ node_cells) }
     ensures { Loaded t.now nodes x.new }
 {
-    let mut m = 0;
     let mut at = 4;
-    while m < nodes {
+    for m in 0..nodes {
         load_node(t, x, m, at);
         at = place_after(m, at);
-        m += 1;
     }
 }
 
 // The node count of a table to which the goals may be put, or the first row's refusal. The chains of the reading stand where the nodes
 // will, and there x is zeros.
-fn admit(t: &[u8], goals: &[u16], area: usize, x: &mut [u16]) -> Counted
+fn admit(t: &[u8], goals: &[u16], area: usize, x: &mut [u16]) -> Result<usize, Refusal>
     requires { (length x.old ≡ node_cells) × ((i : ℕ) → i < chain_cells → get_or x.old i 0 ≡ 0) }
     ensures { Admits (list_row goals.now) t.now goals.now 0 0 area result }
 {
@@ -128,16 +111,11 @@ fn admit(t: &[u8], goals: &[u16], area: usize, x: &mut [u16]) -> Counted
 }
 
 // Whether the derivation is accepted: then no setting makes all goals true.
-pub fn check(t: &[u8], goals: &[u16], work: &mut [u16], d: &[u8]) -> Checked
+pub fn check(t: &[u8], goals: &[u16], work: &mut [u16], d: &[u8]) -> Result<(), Refusal>
     ensures { Checks t.now goals.now work.old d.now work.new result }
 {
     let mut x = [0u16; 8064];
-    let a = admit(t, goals, work.len(), &mut x);
-    match a {
-        Counted::Refused(f) => Checked::Refused(f),
-        Counted::Nodes(n) => {
-            load(t, n, &mut x);
-            replayed(&x, n, goals, work, d)
-        }
-    }
+    let n = admit(t, goals, work.len(), &mut x)?;
+    load(t, n, &mut x);
+    replayed(&x, n, goals, work, d)
 }

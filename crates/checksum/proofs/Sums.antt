@@ -1,14 +1,13 @@
 -- The rows of a block make up its weighted sum, modulo 65,521. Assumes nothing.
 use mathlib.Core.Path.{◌≡◌, ◌∙◌, ap, sym, refl}
 use mathlib.Core.List.{List}
-use Prim.Native.Nat.{ℕ, zero, suc, ◌+◌, ◌-◌, ◌*◌, ◌/◌, ◌%◌, ◌<◌, ◌≤◌}
+use Prim.Native.Nat.{ℕ, zero, suc, ◌+◌, ◌*◌, ◌/◌, ◌%◌, ◌<◌, ◌≤◌}
 use native.Mathlib.Nat.{add-zero, add-suc, mul-zero, mul-suc, mul_comm, mul-one, mul-add, mul_assoc, mul_left_comm, mul-le-mul, mod-lt, add-mod, div-add-mod, mul-add-mod_self_left}
 use native.Mathlib.Numerals.{add-one}
 use native.Mathlib.Omega.{arith}
-use native.Mathlib.Decide.{ℕ_discrete}
 use lib.Dec.{lit<}
-use lib.ListN.{length, get_or, set, drop}
-use lib.Seq.{drop-drop, get_or-drop, get_or-set_same, get_or-set_other}
+use lib.ListN.{get_or, drop}
+use lib.Seq.{drop-drop, get_or-drop}
 use Rattle.scope.specs.Block.{weight, weighted, check_of}
 use Rattle.checksum.specs.Sums.{Rows, rows_sum}
 
@@ -52,18 +51,6 @@ weighted-from b m (suc n) =
     rw (add-suc, get_or-drop m b n 0, apart) (sum_mod _ _ _ _ (weighted-from b m n) here)
 
 -- Parts
-
--- what a byte adds at most, or takes away
-pub gain_small : (x power : ℕ) → x < 256 → power < 32768 → x * power ≤ 8355585
-gain_small x power h l = mul-le-mul {n₂ = 255} {m₂ = 32767} (omega arith) (omega arith)
-
--- taking away what a power lacks to 65,521 is adding it
-pub taken : (sum x power : ℕ) → power < 65521 → x * (65521 - power) ≤ sum → (sum - x * (65521 - power)) % 65521 ≡ (sum + x * power) % 65521
-taken sum x power h l =
-    let e : 65521 - power + power ≡ 65521 = omega arith in
-    let whole : x * (65521 - power) + x * power ≡ 65521 * x = sym (mul-add x (65521 - power) power) ∙ ap (x *◌) e ∙ mul_comm x 65521 in
-    let f : sum + x * power ≡ 65521 * x + (sum - x * (65521 - power)) = omega (arith, whole) in
-    sym (ap (◌% 65521) f ∙ mul-add-mod_self_left 65521 x (sum - x * (65521 - power)))
 
 pub part_none : (b : List ℕ) (at first : ℕ) → 133728361 % 65521 ≡ (first * weighted (drop at b) 0) % 65521
 unfolding weighted
@@ -112,17 +99,6 @@ pub row_parts : (s t u v : ℕ) (b : List ℕ) (at : ℕ)
 unfolding weight
 row_parts s t u v b at p q r w =
     row_more (s + t + u) v b at 48 43384 refl (row_more (s + t) u b at 32 20855 refl (row_more s t b at 16 62641 refl p q) r) w
-
--- one row more in the list
-pub rows_more : (b s : List ℕ) (r v : ℕ) → r < length s
-    → ((k : ℕ) → k < r → get_or s k 0 % 65521 ≡ (5 * weighted (drop (64 * k) b) 64) % 65521)
-    → v % 65521 ≡ (5 * weighted (drop (64 * r) b) 64) % 65521
-    → (k : ℕ) → k < r + 1 → get_or (set s r v) k 0 % 65521 ≡ (5 * weighted (drop (64 * k) b) 64) % 65521
-rows_more b s r v l each p k h = on (ℕ_discrete k r)
-  where
-    on : Dec (k ≡ r) → get_or (set s r v) k 0 % 65521 ≡ (5 * weighted (drop (64 * k) b) 64) % 65521
-    on (yes q) = rw (q, get_or-set_same s r v 0 l) p
-    on (no q) = rw (get_or-set_other s r k v 0 q) (each k (omega arith))
 
 -- The sum of the rows
 

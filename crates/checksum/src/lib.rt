@@ -26,11 +26,9 @@ fn part_of(b: &[u8], at: usize, first: u32) -> u32
 {
     let mut sum: u32 = 133728361;
     let mut power = first;
-    let mut j = 0;
-    while j < 16 {
+    for j in 0..16 {
         sum = added(sum, b[at + j] as u32, power);
         power = power * 3 % 65521;
-        j += 1;
     }
     sum
 }
@@ -53,10 +51,8 @@ fn rows(b: &[u8]) -> [u32; 8]
     ensures { Rows b.now result }
 {
     let mut sums = [0u32; 8];
-    let mut r = 0;
-    while r < 8 {
+    for r in 0..8 {
         sums[r] = row_of(b, 64 * r);
-        r += 1;
     }
     sums
 }
@@ -68,11 +64,9 @@ fn weighed(s: &[u32]) -> u64
 {
     let mut sum: u64 = 0;
     let mut power: u32 = 52417;
-    let mut r = 0;
-    while r < 8 {
-        sum += (s[r] as u64) * (power as u64);
+    for x in s {
+        sum += (*x as u64) * (power as u64);
         power = power * 34176 % 65521;
-        r += 1;
     }
     sum
 }

@@ -1,7 +1,9 @@
 -- Where clash ends: at the first row's refusal, or with the walk; and what its answer means. Assumes nothing.
-use mathlib.Core.Path.{◌≡◌, refl, sym, ap, ap₂, ◌∙◌}
+use mathlib.Core.Path.{◌≡◌, refl, sym, ap, ap₂, subst, ◌∙◌}
 use mathlib.Core.List.{List, [], ◌++◌}
 use mathlib.Core.Bool.{Bool, true, false, false≢true}
+use Rattle.std.specs.Prelude.{Result, Ok}
+use Rattle.std.specs.Result.{IsErrAnd}
 use Prim.Native.Nat.{ℕ, ◌*◌, ◌-◌, ◌<◌}
 use native.Mathlib.Omega.{arith}
 use lib.Dec.{ltb}
@@ -30,7 +32,7 @@ use Rattle.questions.specs.Asking.{asks, answered, Decides, Setting, says, Fille
 use Rattle.questions.proofs.Answers.{is-possible, not-impossible}
 use Rattle.questions.proofs.Settings.{made, making, some-node, decides}
 use Rattle.clashing.specs.Clash.{clashes, walk, argued, clash}
-use Rattle.clashing.specs.Clashes.{clashed_of, Clashing, Clashes}
+use Rattle.clashing.specs.Clashes.{counted_kept, clashed_of, Clashing, Clashes}
 use Rattle.clashing.specs.Walks.{Passed, Among, Grows}
 use Rattle.clashing.specs.declared.Clashed.{Clashed}
 use Rattle.clashing.proofs.Walks.{walk_same, walk_rises, walk-clashes}
@@ -79,10 +81,11 @@ module _ (t : List ℕ) (rs : List Node) (all : Bytes t) (e : decode t ≡ answe
 -- ---- the contract, of the definition's answer
 
 -- the indices shown are those of the answer
-shown : (is : List ℕ) → take (clashed_of (answer is)).count (clashed_of (answer is)).kept ≡ is
+shown : (is : List ℕ) → take (counted_kept is).count (counted_kept is).kept ≡ is
 shown is = take-append_seam is (replicate (most_goals - length is) 0)
 
-clash-numbered : (t goals w : List ℕ) → Numbered (clash t goals w)
+-- no refusal has the number 0
+pub clash-numbered : (t goals w : List ℕ) → Numbered (clash t goals w)
 unfolding clash
 clash-numbered t goals w =
     then (asked t goals 0 0 (length w)) _ (asked-numbered t goals 0 0 (length w))
@@ -112,21 +115,23 @@ module _ (t goals w : List ℕ) (bytes : Bytes t) where
           rw s at (clashing t rs bytes a.0 goals a.1.below (list_met goals a.1.list).0 z)
       go rs a false z q = refused_no q
 
-  kept_by : (o : Outcome (List ℕ)) → clash t goals w ≡ o → (clashed_of o).number ≡ 0 → Clashing t goals (take (clashed_of o).count (clashed_of o).kept)
-  kept_by (answer is) q z = rw (shown is) (of_walk q)
-  kept_by (refused number place) q z = absurd (omega (arith, (clash-numbered t goals w).positive number place q))
+  kept_by : (o : Outcome (List ℕ)) → clash t goals w ≡ o → (k : Clashed) → clashed_of o ≡ Ok k → Clashing t goals (take k.count k.kept)
+  kept_by (answer is) q k z =
+      let y : counted_kept is ≡ k = cc in
+      subst (λ (k : Clashed). Clashing t goals (take k.count k.kept)) y (rw (shown is) (of_walk q))
+  kept_by (refused number place) q k z = absurd (let y : ◌≡◌ {A = ℕ} 0 1 = cc in omega arith)
 
-  exact_by : (rs : List Node) → asked t goals 0 0 (length w) ≡ answer rs → ((clashed_of (argued (answered rs) goals)).number ≡ 63) ⇔ ((v : List ℕ) × Satisfies t goals v)
+  exact_by : (rs : List Node) → asked t goals 0 0 (length w) ≡ answer rs → IsErrAnd (clashed_of (argued (answered rs) goals)) (λ f. f.number ≡ 63) ⇔ ((v : List ℕ) × Satisfies t goals v)
   exact_by rs q =
       let a = asked-read t goals 0 0 (length w) q in
       go (is_impossible (answered rs goals)) refl (possible_exact t rs bytes a.0 goals a.1.below (list_met goals a.1.list).0)
     where
       go : (b : Bool) → is_impossible (answered rs goals) ≡ b → (is_impossible (answered rs goals) ≡ false) ⇔ ((v : List ℕ) × Satisfies t goals v)
-          → ((clashed_of (require b 63 0 >> answer (walk (clashes (answered rs) goals) (length goals) []))).number ≡ 63) ⇔ ((v : List ℕ) × Satisfies t goals v)
-      go true z x = (λ e. absurd (omega arith), λ s. absurd (false≢true (sym (x.1 s) ∙ z)))
+          → IsErrAnd (clashed_of (require b 63 0 >> answer (walk (clashes (answered rs) goals) (length goals) []))) (λ f. f.number ≡ 63) ⇔ ((v : List ℕ) × Satisfies t goals v)
+      go true z x = (λ e. absurd e, λ s. absurd (false≢true (sym (x.1 s) ∙ z)))
       go false z x = (λ e. x.0 z, λ s. refl)
 
-  pub clashes-by : {w' : List ℕ} (r : Clashed) → r ≡ clashed_of (clash t goals w)
+  pub clashes-by : {w' : List ℕ} (r : Result Clashed Refusal) → r ≡ clashed_of (clash t goals w)
       → ((number place : ℕ) → asked t goals 0 0 (length w) ≡ refused number place → w' ≡ w) → Clashes t goals w w' r
   clashes-by r e kept = record {
     answered = e;
@@ -137,7 +142,7 @@ module _ (t goals w : List ℕ) (bytes : Bytes t) where
 
   -- ---- where clash ends
 
-  pub refuses : (r : Clashed) (f : Refusal) → r ≡ clashed_of (refused f.number f.place) → asked t goals 0 0 (length w) ≡ refused f.number f.place
+  pub refuses : (r : Result Clashed Refusal) (f : Refusal) → r ≡ clashed_of (refused f.number f.place) → asked t goals 0 0 (length w) ≡ refused f.number f.place
       → Clashes t goals w w r
   unfolding clash
   refuses r f e q = clashes-by r (e ∙ rw q) (λ number place z. refl)
@@ -170,5 +175,5 @@ module _ (t goals w : List ℕ) (bytes : Bytes t) where
         (walk_same (clashes (asks (index_node x) n) goals) (clashes (answered p.nodes) goals) (length goals)
         same-clashes (length goals) [] (omega arith) tt)
 
-    pub ends : {w' : List ℕ} (r : Clashed) → r ≡ clashed_of (argued (asks (index_node x) n) goals) → Clashes t goals w w' r
+    pub ends : {w' : List ℕ} (r : Result Clashed Refusal) → r ≡ clashed_of (argued (asks (index_node x) n) goals) → Clashes t goals w w' r
     ends r e = clashes-by r (e ∙ ap clashed_of (same ∙ sym (clash-asked p.answered))) (λ number place z. refused_no (sym z ∙ p.answered))

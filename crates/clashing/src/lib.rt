@@ -4,7 +4,6 @@
 #![tactic(auto)]
 
 ghost use Rattle.std.specs.Prelude.{◌≡◌, [], ◌≤◌, ◌<◌, length, take, drop};
-ghost use Rattle.scope.specs.Outcome.{answer, refused};
 ghost use Rattle.calculus.specs.Model.{most_goals, Goals};
 ghost use Rattle.index.specs.Index.{index_node};
 ghost use Rattle.index.specs.Indexed.{Indexed};
@@ -13,16 +12,14 @@ ghost use Rattle.rests.specs.Words.{Sets};
 ghost use Rattle.questions.specs.Asking.{asks};
 ghost use Rattle.clashing.specs.Clash.{clashes, walk, argued};
 ghost use Rattle.clashing.specs.Walks.{list_size, refuted, Passed, Held, Grows};
-ghost use Rattle.clashing.specs.Clashes.{clashed_of, Clashes};
+ghost use Rattle.clashing.specs.Clashes.{counted_kept, clashed_of, Clashes};
 
+use scope::Refusal;
 use searching::Found;
-use table::Counted;
 
-// What clash answers: number 0 and the indices of the goals kept, in rising order, with their count, and 0 past them; or a refusal.
+// The indices of the goals kept, in rising order, with their count, and 0 past them.
 #[derive(Clone, Copy)]
 pub struct Clashed {
-    pub number: u16,
-    pub place: usize,
     pub count: usize,
     pub kept: [u8; 64],
 }
@@ -30,35 +27,15 @@ pub struct Clashed {
 // The first position whose clause is all false: a cell of the work area.
 const CONFLICT: usize = 1;
 
-// A refusal's number and place.
-fn refuse(number: u16, place: usize) -> Clashed
-    ensures { result ≡ clashed_of (refused number place) }
-{
-    Clashed {
-        number,
-        place,
-        count: 0,
-        kept: [0u8; 64],
-    }
-}
-
 // The indices from `first` on, put to the front.
 fn give(held: [u8; 64], first: usize) -> Clashed
     requires { Held held first }
-    ensures { result ≡ clashed_of (answer (drop first held)) }
+    ensures { result ≡ counted_kept (drop first held) }
 {
+    let count = 64 - first;
     let mut kept = [0u8; 64];
-    let mut j = 0;
-    while first + j < 64 {
-        kept[j] = held[first + j];
-        j += 1;
-    }
-    Clashed {
-        number: 0,
-        place: 0,
-        count: j,
-        kept,
-    }
+    kept[..count].copy_from_slice(&held[first..]);
+    Clashed { count, kept }
 }
 
 // The literals of the goals, in a list behind 64 places.
@@ -66,11 +43,7 @@ fn copy(goals: &[u16], list: &mut [u16])
     requires { (length goals.now ≤ most_goals) × (length list.old ≡ list_size) }
     ensures { take (length goals.now) (drop most_goals list.new) ≡ goals.now }
 {
-    let mut j = 0;
-    while j < goals.len() {
-        list[64 + j] = goals[j];
-        j += 1;
-    }
+    list[64..64 + goals.len()].copy_from_slice(goals);
 }
 
 // Whether literals are impossible together.
@@ -106,43 +79,37 @@ fn closed_at(work: &[u16], size: usize) -> usize
     if waiting == 0 {
         return work[CONFLICT] as usize;
     }
-    if size < waiting {
-        return 0;
-    }
-    size - waiting
+    size.saturating_sub(waiting)
 }
 
 // How many goals may be enough, where a search of those kept and of m goals closed: those up to where it did, and one where that is among
-// those kept; 0 where it is none of them. A guess, which is asked about: it only chooses a way to the same answer, so nothing is said of it.
-fn hint(work: &[u16], kept: usize, m: usize) -> usize
+// those kept; none where it is none of them. A guess, which is asked about: it only chooses a way to the same answer, so nothing is said of it.
+fn hint(work: &[u16], kept: usize, m: usize) -> Option<usize>
     requires area_in_bounds { area ≤ length work.now }
     requires kept_le_most_goals { (kept ≤ most_goals) × (m ≤ most_goals) }
 {
     let at = closed_at(work, kept + m);
     if kept + m <= at {
-        return 0;
+        return None;
     }
-    if at < kept {
-        return 1;
-    }
-    at - kept + 1
+    Some(at.saturating_sub(kept) + 1)
 }
 
 // How many goals to ask about next, from `floor` on and fewer than i: one fewer than may be enough, then as many; else farther back each
 // time from where the last goal was kept, and then between.
-fn guess(enough: usize, floor: usize, i: usize, from: usize) -> usize
+fn guess(enough: Option<usize>, floor: usize, i: usize, from: usize) -> usize
     requires { (floor < i) × (i ≤ from) × (from ≤ most_goals) }
     ensures { (floor ≤ result) × (result < i) }
 {
-    if floor < enough {
-        if enough <= i {
-            return enough - 1;
+    if let Some(most) = enough {
+        if floor < most && most <= i {
+            return most - 1;
+        }
+        if floor == most {
+            return floor;
         }
     }
     if 0 < floor {
-        if floor == enough {
-            return floor;
-        }
         return i - 1 - (i - floor) / 3;
     }
     let back = from - i + 1;
@@ -165,7 +132,7 @@ fn narrow(
     requires passed { Passed n goals.now }
     requires grows { Grows (length goals.now) (clashes (asks (index_node x.now) n) goals.now) }
     requires ready { Ready n work.old × Sets rests.old }
-    ensures { result ≡ clashed_of (answer (walk (clashes (asks (index_node x.now) n) goals.now) (length goals.now) [])) }
+    ensures { result ≡ counted_kept (walk (clashes (asks (index_node x.now) n) goals.now) (length goals.now) []) }
 {
     let mut list = [0u16; 128];
     copy(goals, &mut list);
@@ -192,14 +159,14 @@ fn narrow(
             list[first] = goals[i];
             from = i;
             floor = 0;
-            enough = 0;
+            enough = None;
         }
     }
     give(kept, first)
 }
 
 // Which goals to argue about, over an index; 63 where all are possible together.
-fn argue(x: &[u16; 22626], n: usize, goals: &[u16], work: &mut [u16]) -> Clashed
+fn argue(x: &[u16; 22626], n: usize, goals: &[u16], work: &mut [u16]) -> Result<Clashed, Refusal>
     requires indexed { Indexed x.now n }
     requires passed { Passed n goals.now }
     requires grows { Grows (length goals.now) (clashes (asks (index_node x.now) n) goals.now) }
@@ -210,19 +177,19 @@ fn argue(x: &[u16; 22626], n: usize, goals: &[u16], work: &mut [u16]) -> Clashed
     let mut rests = [0u64; 4036];
     let found = searching::solve(x, n, goals, work, &mut rests);
     match found {
-        Found::Model => refuse(63, 0),
-        Found::Closed => narrow(x, n, goals, work, &mut rests),
+        Found::Model => Err(Refusal {
+            number: 63,
+            place: 0,
+        }),
+        Found::Closed => Ok(narrow(x, n, goals, work, &mut rests)),
     }
 }
 
 // Which of the goals clash.
-pub fn clash(t: &[u8], goals: &[u16], work: &mut [u16]) -> Clashed
+pub fn clash(t: &[u8], goals: &[u16], work: &mut [u16]) -> Result<Clashed, Refusal>
     ensures { Clashes t.now goals.now work.old work.new result }
 {
     let mut x = [0u16; 22626];
-    let a = asking::ask_within(t, goals, 0, 0, work.len(), &mut x);
-    match a {
-        Counted::Refused(f) => refuse(f.number, f.place),
-        Counted::Nodes(n) => argue(&x, n, goals, work),
-    }
+    let n = asking::ask_within(t, goals, 0, 0, work.len(), &mut x)?;
+    argue(&x, n, goals, work)
 }

@@ -20,7 +20,7 @@ use Rattle.calculus.proofs.Literals.{neg_below, holds-neg}
 use Rattle.trail.specs.Trail.{value_code}
 use Rattle.index.specs.Codes.{choice_value, state_by, code_of, code_at, class_of, code_place, class_at, classes_size}
 use Rattle.index.specs.Index.{most_nodes, most_edges, classes_at, index_node}
-use Rattle.index.specs.Edges.{operand_of, Pair, PairAt, ThreeAt, parent_of, type_of, other_of}
+use Rattle.index.specs.Edges.{operand_of, Pair, PairAt, ThreeAt, edge_at, parent_of, type_of, other_of}
 use Rattle.index.specs.Indexed.{Indexed}
 use Rattle.index.proofs.Nodes.{operand_cell}
 use Rattle.clause.specs.Coded.{states_of, Coded}
@@ -117,7 +117,8 @@ sides = refl
 sided : (i : ℕ) → i < classes_size → code_by i % 2 ≡ 1 → code_by i / 32 % 8 / 2 ≡ 1 - i / 108
 sided i h u =
     let a : get_or (list_from side_by 0 classes_size) i 0 ≡ side_by i = get_d_list_from side_by classes_size 0 i 0 h ∙ ap side_by (zero-add i) in
-    let b : get_or (list_from (λ i. 1 - i / 108) 0 classes_size) i 0 ≡ 1 - i / 108 = get_d_list_from (λ i. 1 - i / 108) classes_size 0 i 0 h ∙ ap (λ (i : ℕ). 1 - i / 108) (zero-add i) in
+    let b : get_or (list_from (λ i. 1 - i / 108) 0 classes_size) i 0 ≡ 1 - i / 108 = get_d_list_from (λ i. 1 - i / 108) classes_size 0 i 0 h
+    ∙ ap (λ (i : ℕ). 1 - i / 108) (zero-add i) in
     let c : side_by i ≡ code_by i / 32 % 8 / 2 = ap (λ (z : Bool). cond z (code_by i / 32 % 8 / 2) (1 - i / 108)) (eq-eqb (code_by i % 2) 1 u) in
     sym c ∙ sym a ∙ ap (λ (ls : List ℕ). get_or ls i 0) sides ∙ b
 
@@ -243,6 +244,23 @@ pair_within I node k h e = omega (arith, e.1, I.edges.order node h)
 
 pub three_within : {x : List ℕ} {n : ℕ} (I : Indexed x n) (node k : ℕ) → node < n → ThreeAt x node k → k < most_edges
 three_within I node k h e = omega (arith, e.1, I.edges.order node h)
+
+-- its parent is one of the nodes, its other operand a literal of one, and its type and a sign are a row of the classes
+pub parent_low : {x : List ℕ} {n : ℕ} (I : Indexed x n) (node k : ℕ) → node < n → PairAt x node k → parent_of x k < n
+parent_low I node k h e = (I.edges.pairs node k h e).low
+
+pub other_within : {x : List ℕ} {n : ℕ} (I : Indexed x n) (node k : ℕ) → node < n → PairAt x node k → other_of x k < 2 * n
+other_within I node k h e = (I.edges.pairs node k h e).other_low
+
+pub row_low : {x : List ℕ} {n : ℕ} (I : Indexed x n) (node k sign : ℕ) → node < n → PairAt x node k → sign < 2 → type_of x k + sign < 24
+row_low I node k sign h e s =
+    let p = I.edges.pairs node k h e in
+    omega (arith, p.type, p.kind, p.side_low, s)
+
+pub three_low : {x : List ℕ} {n : ℕ} (I : Indexed x n) (node k : ℕ) → node < n → ThreeAt x node k → (edge_at x k < n) × (6 < (index_node x (edge_at x k)).kind)
+three_low I node k h e =
+    let t = I.edges.threes node k h e in
+    (t.low, t.kind)
 
 module _ {x : List ℕ} {n : ℕ} (I : Indexed x n) (G : List ℕ) (good : Good n G) (node k sign : ℕ) (h : node < n) (on : PairAt x node k) (hs : sign < 2)
     (is : value_of G (2 * node + sign) ≡ holds) where

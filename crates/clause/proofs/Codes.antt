@@ -23,7 +23,7 @@ use Rattle.index.specs.Codes.{numbered, opposite, choice_value, state_by, row_st
 use Rattle.index.specs.Index.{codes_at, most_literals, index_node}
 use Rattle.index.specs.Indexed.{Indexed}
 use Rattle.index.proofs.Nodes.{operand_cell, operand_low}
-use Rattle.clause.specs.Coded.{row_place, states_of, Choice, Coded}
+use Rattle.clause.specs.Coded.{tail, value_at, g_of, Valued, row_place, states_of, Choice, Coded}
 use Rattle.clause.proofs.Rows.{Chooses, of_operand, choice_few}
 use Rattle.clause.proofs.States.{renamed, Right, states_renamed, one_kept, empty-kept, open_kept, one_open, first_most, first_has, some_renamed, first_renamed, literal_renamed, state_has}
 
@@ -137,7 +137,12 @@ module _ (t : ℕ → Node) (l : ℕ) (known : (t (l / 2)).kind < 9) (vs : List 
   few : length states ≤ 3
   unfolding expand
   few =
-      omega (arith, expand-few t l, length-map (row_of node.kind (l % 2)) (map (chosen node)), length-map (row_of node.kind (l % 2)) (state_by (choice_value vs)))
+      omega (
+        arith,
+        expand-few t l,
+        length-map (row_of node.kind (l % 2)) (map (chosen node)),
+        length-map (row_of node.kind (l % 2)) (state_by (choice_value vs)),
+      )
 
   -- the literal of an open state is a choice of an operand
   chooses : All (λ s. is_open s ≡ true → Chooses node (literal_of s)) states
@@ -204,6 +209,11 @@ module _ (t : ℕ → Node) (l : ℕ) (known : (t (l / 2)).kind < 9) (vs : List 
     }
 
 -- ---- the code of a literal of the index, at the numbers of its node's values
+
+-- the value of a literal in the work area
+pub value_low : (w : List ℕ) (l : ℕ) → l < most_literals → Valued (tail w)
+    → (value_at (tail w) l ≡ value_code (value_of (g_of w) l)) × (value_at (tail w) l < 3)
+value_low w l h v = (v l h, omega (arith, v l h, code_low (value_of (g_of w) l)))
 
 -- a number that is read for a literal has its value
 read_value : (G : List ℕ) (m v : ℕ) → v ≡ value_code (value_of G m) → value_of G m ≡ numbered v
@@ -278,19 +288,19 @@ module _ {x : List ℕ} {n : ℕ} (I : Indexed x n) (G : List ℕ) (good : Good 
         let q : codes_at + (18 + i) ≡ 22194 + i = omega arith in
         rw q at r
 
-    pub place-two : i < 108 → From i
+    pub place_two : i < 108 → From i
     unfolding index_node
-    place-two k = from i (rw place at (pair-right refl (refl, lows.0) (refl, lows.1) (omega (arith, k, place))))
+    place_two k = from i (rw place at (pair-right refl (refl, lows.0) (refl, lows.1) (omega (arith, k, place))))
 
-    pub place-kind : 108 ≤ i → 6 < own.kind
-    place-kind k = omega (arith, k, place, h.1, lows)
+    pub place_kind : 108 ≤ i → 6 < own.kind
+    place_kind k = omega (arith, k, place, h.1, lows)
 
     module _ (k : 6 < own.kind) where
-      pub place-within : (108 ≤ i) × (i < 144)
-      place-within = (omega (arith, k, place), omega (arith, known, h.1, place, lows))
+      pub place_within : (108 ≤ i) × (i < 144)
+      place_within = (omega (arith, k, place), omega (arith, known, h.1, place, lows))
 
-      pub place-three : (c : ℕ) → (c ≡ value_in 2) × (c < 3) → From (3 * i + c - 216)
+      pub place_three : (c : ℕ) → (c ≡ value_in 2) × (c < 3) → From (3 * i + c - 216)
       unfolding index_node
-      place-three c ec =
-          let q : 3 * (18 + i) + c - 2 * pair_codes ≡ 18 + (3 * i + c - 216) = omega (arith, place-within) in
+      place_three c ec =
+          let q : 3 * (18 + i) + c - 2 * pair_codes ≡ 18 + (3 * i + c - 216) = omega (arith, place_within) in
           from (3 * i + c - 216) (rw (place, q) at (three-right refl (refl, lows.0) (refl, lows.1) k c ec))

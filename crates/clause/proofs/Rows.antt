@@ -35,6 +35,16 @@ of_operand y c h = omega (arith, h, operands-length y)
 pub choice_few : (y : Node) (c : ℕ) → Chooses y c → c < 6
 choice_few y c h = omega (arith, h, arity_most y.kind)
 
+-- what the index has for a node
+pub kind_few : {x : List ℕ} {n : ℕ} (I : Indexed x n) (m : ℕ) → m < n → get_or x (4 * m) 0 + 1 < 9
+unfolding index_node
+kind_few I m h = (I.table.kinds m h).1
+
+pub cells_few : {x : List ℕ} {n : ℕ} (I : Indexed x n) (m : ℕ) → m < n
+    → (get_or x (4 * m + 1) 0 < most_literals) × (get_or x (4 * m + 2) 0 < most_literals)
+unfolding index_node
+cells_few I m h = I.cells m h
+
 -- of the index the operands are the cells
 module _ {x : List ℕ} {n : ℕ} (I : Indexed x n) (m : ℕ) (h : m < n) (c : ℕ) (k : c / 2 < length (operands (index_node x m))) where
   -- the number that is read of node m for choice c
@@ -136,7 +146,8 @@ module _ {x : List ℕ} {n l j : ℕ} (I : Indexed x n) (p : (l < 2 * n) × (j <
     unfolding rows templates
     cell-is i column r h q p =
         p ∙ ap (λ (c : List ℕ). get_or c column 0) (get_d_map (λ cs. list_from (choice_at cs) 0 9) templates row [] [] (omega (arith, o.1)))
-        ∙ get_d_list_from (choice_at (get_or templates row [])) 9 0 column 0 (omega (arith, j_most)) ∙ ap (choice_at (get_or templates row [])) (zero-add column)
+        ∙ get_d_list_from (choice_at (get_or templates row [])) 9 0 column 0 (omega (arith, j_most))
+        ∙ ap (choice_at (get_or templates row [])) (zero-add column)
         ∙ ap (λ (s : ℕ). choice_at (get_or templates s []) column) is ∙ same
       where
         is : row ≡ 2 * node.kind + l % 2
@@ -160,9 +171,9 @@ module _ {x : List ℕ} {n l j : ℕ} (I : Indexed x n) (p : (l < 2 * n) × (j <
     of-choice : (i a : ℕ) → a ≡ at choices i → a ≤ 5 → (l / 2 < n) × (a / 2 < length (operands node))
     of-choice i a e h = (omega (arith, p.0), rw e (of_operand node (at choices i) (choice_has (Chooses node) choices i chooses (omega (arith, h, e)))))
 
-    module _ {a : ℕ} (pa : a ≡ cell row (3 * j)) where
+    module _ {a : ℕ} (pa : a ≡ cell row (3 * j + 0)) where
       ea : a ≡ at choices 0
-      ea = cell-is 0 (3 * j) a (omega arith) (omega arith) pa
+      ea = cell-is 0 (3 * j + 0) a (omega arith) refl pa
 
       pub first_of : a ≤ 5 → (l / 2 < n) × (a / 2 < length (operands node))
       first_of h = of-choice 0 a ea h

@@ -24,6 +24,14 @@ pub struct Clause {
     pub third: u16,
 }
 
+// The clause of no literal.
+const EMPTY: Clause = Clause {
+    len: 0,
+    first: 0,
+    second: 0,
+    third: 0,
+};
+
 // The clauses of a literal, by kind and sign, row 2 * kind + sign: for each of three clauses three choices, 0 is a, 1 is not a, 2 is b,
 // 3 is not b, 4 is c, 5 is not c, 6 where the clause has no more; a missing clause is 7 three times.
 const TEMPLATES: [[u8; 9]; 18] = [
@@ -89,16 +97,17 @@ pub fn templates() -> [[u8; 9]; 18]
     TEMPLATES
 }
 
-// A number of TEMPLATES, which is lent.
-fn template(templates: &[[u8; 9]; 18], row: usize, column: usize) -> u8
+// Choice k of clause j in a row of TEMPLATES, which are lent.
+fn template(templates: &[[u8; 9]; 18], row: usize, j: usize, k: usize) -> u8
     requires templates_value { templates.now ≡ rows }
-    requires row_bound { (row < 18) × (column < 9) }
-    ensures { result ≡ cell row column }
+    requires row_bound { (row < 18) × (j < 3) × (k < 3) }
+    ensures { result ≡ cell row (3 * j + k) }
 {
-    templates[row][column]
+    templates[row][3 * j + k]
 }
 
 // The row of a literal of a node, from TRUE's on.
+#[tactic(auto, using(crate::proofs::Rows::kind_few), unfolding(index::specs::Index::index_node))]
 fn row_of(x: &[u16], n: usize, node: usize, sign: usize) -> usize
     requires indexed { Indexed x.now n }
     requires node_lt_n { (node < n) × (sign < 2) }
@@ -108,6 +117,7 @@ fn row_of(x: &[u16], n: usize, node: usize, sign: usize) -> usize
 }
 
 // The literal that a choice is, of a node's operands: an even choice is the operand, an odd one its negation.
+#[tactic(auto, using(crate::proofs::Rows::six))]
 pub fn choose(x: &[u16], n: usize, node: usize, c: usize) -> u16
     requires indexed { Indexed x.now n }
     requires node_lt_n { (node < n) × (c / 2 < length (operands (index_node x.now node))) }
@@ -127,33 +137,27 @@ pub fn clause_of(templates: &[[u8; 9]; 18], x: &[u16], n: usize, l: u16, j: usiz
     let node = (l / 2) as usize;
     // TEMPLATES has two rows before TRUE's
     let row = row_of(x, n, node, (l % 2) as usize) + 2;
-    let a = template(templates, row, 3 * j);
+    let a = template(templates, row, j, 0);
     if LAST_CHOICE < a {
-        return Clause {
-            len: 0,
-            first: 0,
-            second: 0,
-            third: 0,
-        };
+        return EMPTY;
     }
     let first = choose(x, n, node, a as usize);
-    let b = template(templates, row, 3 * j + 1);
+    let b = template(templates, row, j, 1);
     if LAST_CHOICE < b {
         return Clause {
             len: 1,
             first,
-            second: 0,
-            third: 0,
+            ..EMPTY
         };
     }
     let second = choose(x, n, node, b as usize);
-    let c = template(templates, row, 3 * j + 2);
+    let c = template(templates, row, j, 2);
     if LAST_CHOICE < c {
         return Clause {
             len: 2,
             first,
             second,
-            third: 0,
+            ..EMPTY
         };
     }
     let third = choose(x, n, node, c as usize);
@@ -166,6 +170,7 @@ pub fn clause_of(templates: &[[u8; 9]; 18], x: &[u16], n: usize, l: u16, j: usiz
 }
 
 // The value of a literal: 0 undecided, 1 true, 2 false.
+#[tactic(auto, using(crate::proofs::Codes::value_low))]
 fn value(work: &[u16], l: u16) -> usize
     requires { (l < most_literals) × (32768 ≤ length work.now) × Valued (tail work.now) }
     ensures { (result ≡ value_code (value_of (g_of work.now) l)) × (result < 3) }
@@ -174,6 +179,7 @@ fn value(work: &[u16], l: u16) -> usize
 }
 
 // The place of a node's literal of a sign by the values of the first two operands: each row has nine.
+#[tactic(auto, using(crate::proofs::Rows::cells_few), unfolding(index::specs::Index::index_node))]
 fn row_place(x: &[u16], n: usize, work: &[u16], node: usize, sign: usize) -> usize
     requires indexed { Indexed x.now n }
     requires node_lt_n { (node < n) × (sign < 2) }
@@ -187,6 +193,7 @@ fn row_place(x: &[u16], n: usize, work: &[u16], node: usize, sign: usize) -> usi
 }
 
 // What the clauses of the literal come to, where the node has three operands: a code of 27 by their values.
+#[tactic(auto, using(crate::proofs::Codes::place_within))]
 pub fn code_of_three(x: &[u16], n: usize, work: &[u16], node: usize, sign: usize) -> u16
     requires indexed { Indexed x.now n }
     requires node_lt_n { (node < n) × (sign < 2) }
@@ -200,6 +207,7 @@ pub fn code_of_three(x: &[u16], n: usize, work: &[u16], node: usize, sign: usize
 }
 
 // The same for any node: a code of nine by the values of two operands, or one of 27.
+#[tactic(auto, using(crate::proofs::Codes::place_kind))]
 pub fn code(x: &[u16], n: usize, work: &[u16], node: usize, sign: usize) -> u16
     requires indexed { Indexed x.now n }
     requires node_lt_n { (node < n) × (sign < 2) }
@@ -216,6 +224,7 @@ pub fn code(x: &[u16], n: usize, work: &[u16], node: usize, sign: usize) -> u16
 // ---- edges
 
 // The parent of an edge from a node of two operands, at an offset.
+#[tactic(auto, using(crate::proofs::Classes::pair_within, crate::proofs::Classes::parent_low))]
 pub fn parent(x: &[u16], n: usize, node: usize, k: usize) -> usize
     requires indexed { Indexed x.now n }
     requires node_lt_n { (node < n) × PairAt x.now node k }
@@ -225,6 +234,7 @@ pub fn parent(x: &[u16], n: usize, node: usize, k: usize) -> usize
 }
 
 // The parent's other operand.
+#[tactic(auto, using(crate::proofs::Classes::pair_within, crate::proofs::Classes::other_within))]
 pub fn other(x: &[u16], n: usize, node: usize, k: usize) -> u16
     requires indexed { Indexed x.now n }
     requires node_lt_n { (node < n) × PairAt x.now node k }
@@ -234,6 +244,7 @@ pub fn other(x: &[u16], n: usize, node: usize, k: usize) -> u16
 }
 
 // The parent of an edge from a node of three operands.
+#[tactic(auto, using(crate::proofs::Classes::three_within, crate::proofs::Classes::three_low))]
 pub fn parent_of_three(x: &[u16], n: usize, node: usize, k: usize) -> usize
     requires indexed { Indexed x.now n }
     requires node_lt_n { (node < n) × ThreeAt x.now node k }
@@ -243,6 +254,7 @@ pub fn parent_of_three(x: &[u16], n: usize, node: usize, k: usize) -> usize
 }
 
 // The class of an edge of a node, whose literal of a sign is true: what the clauses of the parent's held literal come to.
+#[tactic(auto, using(crate::proofs::Classes::pair_within, crate::proofs::Classes::parent_low, crate::proofs::Classes::other_within, crate::proofs::Classes::row_low))]
 pub fn class(x: &[u16], n: usize, work: &[u16], node: usize, k: usize, sign: usize) -> u16
     requires indexed { Indexed x.now n }
     requires node_lt_n { (node < n) × PairAt x.now node k × (sign < 2) }

@@ -36,7 +36,8 @@ AllBelow vars [] = Unit {0}
 AllBelow vars (c ∷ cs) = Below vars c × AllBelow vars cs
 
 -- the same meaning said otherwise, with fewer nodes before it
-gives_as : {vars : ℕ} {qs rs : List Node} {f : List ℕ → Bool} (g : List ℕ → Bool) (u : Added) → Extends qs rs → ((s : List ℕ) → f s ≡ g s) → Gives vars rs f u → Gives vars qs g u
+gives_as : {vars : ℕ} {qs rs : List Node} {f : List ℕ → Bool} (g : List ℕ → Bool) (u : Added) → Extends qs rs → ((s : List ℕ) → f s ≡ g s) → Gives vars rs f u
+    → Gives vars qs g u
 gives_as g u e q p = record {
   rs' = p.rs';
   holds = p.holds;
@@ -47,7 +48,8 @@ gives_as g u e q p = record {
 
 module _ (vars : ℕ) where
   -- a table whose literal means f, as it stands
-  gives_here : (t : Added) (rs : List Node) (f : List ℕ → Bool) → Holds vars t.used t.bytes rs → t.literal / 2 < length rs → ((s : List ℕ) → truth s rs t.literal ≡ f s) → Gives vars rs f t
+  gives_here : (t : Added) (rs : List Node) (f : List ℕ → Bool) → Holds vars t.used t.bytes rs → t.literal / 2 < length rs
+      → ((s : List ℕ) → truth s rs t.literal ≡ f s) → Gives vars rs f t
   gives_here t rs f h i m = record { rs' = rs; holds = h; extends = extends_same rs; inside = i; means = m }
 
   -- 'folded left by OR'
@@ -80,7 +82,8 @@ module _ (vars : ℕ) where
       or_runs d (at t l) rs (λ s. literal_true s l) h (omega (arith, h.wide)) (λ s. literal_truth h s l low) (λ x y. b x (holds_later x l d y)) (apart l d refl)
 
   -- a clause: 'one holding both signs of a variable is true'
-  clause-runs : (c : List ℕ) (t : Added) (rs : List Node) → Holds vars t.used t.bytes rs → Below vars c → Runs (Gives vars rs (λ s. clause_true s c)) (clause t c)
+  clause-runs : (c : List ℕ) (t : Added) (rs : List Node) → Holds vars t.used t.bytes rs → Below vars c
+      → Runs (Gives vars rs (λ s. clause_true s c)) (clause t c)
   unfolding clause
   clause-runs c t rs h b =
       by_test (both_signs c)
@@ -158,7 +161,8 @@ record Pointed (vars : ℕ) (u : Added) : Type 0 where
   holds : Holds vars u.used u.bytes rs
 
 -- the ATOM of point p joins those of the points below it
-point_next : (p : ℕ) (rs : List Node) (u : Added) → length rs ≡ p → PutAt p rs (node 2 p 0) u → (rs' : List Node) × Holds (suc p) u.used u.bytes rs' × (length rs' ≡ suc p)
+point_next : (p : ℕ) (rs : List Node) (u : Added) → length rs ≡ p → PutAt p rs (node 2 p 0) u → (rs' : List Node) × Holds (suc p) u.used u.bytes rs'
+    × (length rs' ≡ suc p)
 point_next p rs u l q =
     let there : p ≤ u.literal / 2 =
     by_test (ltb (u.literal / 2) p)

@@ -105,7 +105,8 @@ module _ (kind : ℕ) (above : 2 < kind) (below : kind < 5) {vars used : ℕ} {b
   ordered_kind = by_test (ltb (b / 2) (a / 2)) (λ e. rw e) (λ e. rw e)
 
   -- the operands' truths, in either order
-  either : (s : List ℕ) (qs : List Node) → joined classical kind (map (truth s qs) (operands (ordered kind a b))) ≡ joined classical kind (truth s qs a ∷ truth s qs b ∷ [])
+  either : (s : List ℕ) (qs : List Node)
+      → joined classical kind (map (truth s qs) (operands (ordered kind a b))) ≡ joined classical kind (truth s qs a ∷ truth s qs b ∷ [])
   unfolding ordered
   either s qs =
       by_test (ltb (b / 2) (a / 2))

@@ -11,7 +11,8 @@ Ends R P (refused number place) = R number place
 
 module _ (R : ℕ → ℕ → Type 0) where
   -- by what it is
-  pub ends : {A : Type 0} (P : A → Type 0) (o : Outcome A) → ((a : A) → o ≡ answer a → P a) → ((number place : ℕ) → o ≡ refused number place → R number place) → Ends R P o
+  pub ends : {A : Type 0} (P : A → Type 0) (o : Outcome A) → ((a : A) → o ≡ answer a → P a) → ((number place : ℕ) → o ≡ refused number place → R number place)
+      → Ends R P o
   ends P (answer a) f g = f a refl
   ends P (refused number place) f g = g number place refl
 
@@ -21,12 +22,14 @@ module _ (R : ℕ → ℕ → Type 0) where
   ends_as P Q (refused number place) f r = r
 
   -- one outcome after another
-  pub ends_on : {A B : Type 0} (P : A → Type 0) (Q : B → Type 0) (o : Outcome A) (next : A → Outcome B) → Ends R P o → ((a : A) → P a → Ends R Q (next a)) → Ends R Q (o >>= next)
+  pub ends_on : {A B : Type 0} (P : A → Type 0) (Q : B → Type 0) (o : Outcome A) (next : A → Outcome B) → Ends R P o → ((a : A) → P a → Ends R Q (next a))
+      → Ends R Q (o >>= next)
   ends_on P Q (answer a) next r f = f a r
   ends_on P Q (refused number place) next r f = r
 
   -- a row before it
-  pub ends_row : {A : Type 0} (P : A → Type 0) (t : Bool) (number place : ℕ) (next : Outcome A) → R number place → (t ≡ true → Ends R P next) → Ends R P (require t number place >> next)
+  pub ends_row : {A : Type 0} (P : A → Type 0) (t : Bool) (number place : ℕ) (next : Outcome A) → R number place → (t ≡ true → Ends R P next)
+      → Ends R P (require t number place >> next)
   ends_row P true number place next r f = f refl
   ends_row P false number place next r f = r
 

@@ -58,7 +58,8 @@ module _ (kind : ℕ) (above : 2 < kind) (below : kind < 5) where
       normalized_bytes (node kind a b)
       ∙ rw (turned_other (node kind a b) (λ q. omega arith), ordered-two (node kind a b) above (omega arith))
 
-  pub join-reads : (a b n : ℕ) → a / 2 < n → b / 2 < n → (a / 2 ≡ b / 2 → ⊥) → read_record (normalized (node_bytes (node kind a b))) n ≡ answer (ordered kind a b)
+  pub join-reads : (a b n : ℕ) → a / 2 < n → b / 2 < n → (a / 2 ≡ b / 2 → ⊥)
+      → read_record (normalized (node_bytes (node kind a b))) n ≡ answer (ordered kind a b)
   unfolding ordered
   join-reads a b n h i apart =
       rw (sorts a b)

@@ -61,7 +61,9 @@ module _ (kind : ℕ) (above : 2 < kind) (below : kind < 5) (a b n : ℕ) where
 
   rows_16 : (ltb (a / 2) n && (ltb (b / 2) n && true)) ≡ true → a / 2 ≡ b / 2 → read_record (normalized (node_bytes (node kind a b))) n ≡ refused 16 n
   unfolding read_given node_bytes apart among
-  rows_16 e q = given-rows (node_bytes (node kind a b)) n ∙ rw (node_of_bytes (node kind a b), form, range, e, operands-two (node kind a b) above (omega arith), eq-eqb (a / 2) (b / 2) q)
+  rows_16 e q =
+      given-rows (node_bytes (node kind a b)) n
+      ∙ rw (node_of_bytes (node kind a b), form, range, e, operands-two (node kind a b) above (omega arith), eq-eqb (a / 2) (b / 2) q)
 
   module _ {r : Pair} (o : InOrder a b r) where
     -- by the order given

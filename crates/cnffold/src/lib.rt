@@ -2,11 +2,11 @@
 #![tactic(auto)]
 
 ghost use Rattle.std.specs.Prelude.{◌≡◌, ◌<◌, ◌≤◌, take};
-ghost use Rattle.growing.specs.Growing.{state, Under, Grows};
+ghost use Rattle.growing.specs.Growing.{state, Grows};
 ghost use Rattle.cnf.specs.Fold.{opposite, put, points, no_literal, or_clause, and_join, empty};
 ghost use Rattle.cnffold.specs.Built.{Small, InOrder};
 
-use growing::{Grown, Spot};
+use growing::Draft;
 use scope::Refusal;
 
 // Two literals in order of their nodes.
@@ -25,79 +25,38 @@ pub fn opposite(l: usize) -> usize
 }
 
 // TRUE.
-pub fn add_true(
-    keys: &mut [u32],
-    head: &mut [u16],
-    next: &mut [u16],
-    room: usize,
-    nodes: usize,
-) -> Grown
-    requires { Under keys.old head.old next.old room nodes }
-    ensures { Grows (λ buf. put (state 0 keys.old nodes buf) 1 0 0) room result keys.new head.new next.new }
+pub fn add_true(nodes: &mut Draft) -> Result<usize, Refusal>
+    ensures { Grows (λ buf. put (state 0 nodes.old buf) 1 0 0) nodes.old.room result nodes.new }
 {
-    growing::grow(keys, head, next, room, nodes, 16777216)
+    nodes.grow(16777216)
 }
 
 // A point.
-fn add_point(
-    keys: &mut [u32],
-    head: &mut [u16],
-    next: &mut [u16],
-    room: usize,
-    nodes: usize,
-    p: usize,
-) -> Grown
-    requires { Under keys.old head.old next.old room nodes × (p < 1024) }
-    ensures { Grows (λ buf. put (state 0 keys.old nodes buf) 2 p 0) room result keys.new head.new next.new }
+fn add_point(nodes: &mut Draft, p: usize) -> Result<usize, Refusal>
+    requires { p < 1024 }
+    ensures { Grows (λ buf. put (state 0 nodes.old buf) 2 p 0) nodes.old.room result nodes.new }
 {
-    growing::grow(keys, head, next, room, nodes, 33554432 + (p as u32))
+    nodes.grow(33554432 + (p as u32))
 }
 
 // The points below `vars`, where there are no nodes yet.
-pub fn add_points(
-    keys: &mut [u32],
-    head: &mut [u16],
-    next: &mut [u16],
-    room: usize,
-    vars: usize,
-) -> Grown
-    requires { Under keys.old head.old next.old room 0 × (vars ≤ 1024) }
-    ensures { Grows (λ buf. points (empty buf) 0 vars) room result keys.new head.new next.new }
+pub fn add_points(nodes: &mut Draft, vars: usize) -> Result<usize, Refusal>
+    requires { (nodes.old.count ≡ 0) × (vars ≤ 1024) }
+    ensures { Grows (λ buf. points (empty buf) 0 vars) nodes.old.room result nodes.new }
 {
     let mut literal = 0;
-    let mut nodes = 0;
-    let mut p = 0;
-    while p < vars {
-        let a = add_point(keys, head, next, room, nodes, p);
-        let Grown::At(s) = a else {
-            return a;
-        };
-        literal = s.literal;
-        nodes = s.nodes;
-        p += 1;
+    for p in 0..vars {
+        literal = add_point(nodes, p)?;
     }
-    Grown::At(Spot { literal, nodes })
+    Ok(literal)
 }
 
 // False: TRUE's negation.
-fn add_false(
-    keys: &mut [u32],
-    head: &mut [u16],
-    next: &mut [u16],
-    room: usize,
-    nodes: usize,
-) -> Grown
-    requires { Under keys.old head.old next.old room nodes }
-    ensures { Grows (λ buf. no_literal (state 0 keys.old nodes buf)) room result keys.new head.new next.new }
+fn add_false(nodes: &mut Draft) -> Result<usize, Refusal>
+    ensures { Grows (λ buf. no_literal (state 0 nodes.old buf)) nodes.old.room result nodes.new }
 {
-    let a = add_true(keys, head, next, room, nodes);
-    let Grown::At(s) = a else {
-        return a;
-    };
-    Grown::At(Spot {
-        literal: opposite(s.literal),
-        nodes: s.nodes,
-    })
+    let l = add_true(nodes)?;
+    Ok(opposite(l))
 }
 
 // Two literals, that of the lower node first.
@@ -111,97 +70,46 @@ fn in_order(a: usize, b: usize) -> Pair
 }
 
 // AND or OR of two literals.
-fn add_pair(
-    keys: &mut [u32],
-    head: &mut [u16],
-    next: &mut [u16],
-    room: usize,
-    nodes: usize,
-    kind: u32,
-    a: usize,
-    b: usize,
-) -> Grown
-    requires under { Under keys.old head.old next.old room nodes }
-    requires lt_kind { (2 < kind) × (kind < 5) × (a < 4032) × (b < 4032) }
-    ensures { Grows (λ buf. put (state 0 keys.old nodes buf) kind a b) room result keys.new head.new next.new }
+fn add_pair(nodes: &mut Draft, kind: u32, a: usize, b: usize) -> Result<usize, Refusal>
+    requires { (2 < kind) × (kind < 5) × (a < 4032) × (b < 4032) }
+    ensures { Grows (λ buf. put (state 0 nodes.old buf) kind a b) nodes.old.room result nodes.new }
 {
     let o = in_order(a, b);
-    if nodes <= o.high / 2 {
-        return Grown::Refused(Refusal {
-            number: 15,
-            place: nodes,
-        });
+    let place = nodes.count();
+    if place <= o.high / 2 {
+        return Err(Refusal { number: 15, place });
     }
     if o.low / 2 == o.high / 2 {
-        return Grown::Refused(Refusal {
-            number: 16,
-            place: nodes,
-        });
+        return Err(Refusal { number: 16, place });
     }
-    growing::grow(
-        keys,
-        head,
-        next,
-        room,
-        nodes,
-        16777216 * kind + ((4096 * o.high + o.low) as u32),
-    )
+    nodes.grow(16777216 * kind + ((4096 * o.high + o.low) as u32))
 }
 
 // The first `count` literals, folded left by OR; none are false.
-pub fn or_clause(
-    keys: &mut [u32],
-    head: &mut [u16],
-    next: &mut [u16],
-    room: usize,
-    nodes: usize,
-    held: &[u16],
-    count: usize,
-) -> Grown
-    requires under { Under keys.old head.old next.old room nodes }
-    requires small { Small held.now count }
-    ensures { Grows (λ buf. or_clause (state 0 keys.old nodes buf) (take count held.now)) room result keys.new head.new next.new }
+pub fn or_clause(nodes: &mut Draft, held: &[u16], count: usize) -> Result<usize, Refusal>
+    requires { Small held.now count }
+    ensures { Grows (λ buf. or_clause (state 0 nodes.old buf) (take count held.now)) nodes.old.room result nodes.new }
 {
     if count == 0 {
-        return add_false(keys, head, next, room, nodes);
+        return add_false(nodes);
     }
     let mut literal = held[0] as usize;
-    let mut end = nodes;
-    let mut i = 1;
-    while i < count {
-        let a = add_pair(keys, head, next, room, end, 4, literal, held[i] as usize);
-        let Grown::At(s) = a else {
-            return a;
-        };
-        literal = s.literal;
-        end = s.nodes;
-        i += 1;
+    for i in 1..count {
+        literal = add_pair(nodes, 4, literal, held[i] as usize)?;
     }
-    Grown::At(Spot {
-        literal,
-        nodes: end,
-    })
+    Ok(literal)
 }
 
 // AND of the goal so far and a clause's literal.
-pub fn and_join(
-    keys: &mut [u32],
-    head: &mut [u16],
-    next: &mut [u16],
-    room: usize,
-    nodes: usize,
-    goal: usize,
-    literal: usize,
-) -> Grown
-    requires under { Under keys.old head.old next.old room nodes }
-    requires goal_bound { (goal < 4032) × (literal < 4032) }
-    ensures { Grows (λ buf. and_join goal (state literal keys.old nodes buf)) room result keys.new head.new next.new }
+pub fn and_join(nodes: &mut Draft, goal: usize, literal: usize) -> Result<usize, Refusal>
+    requires { (goal < 4032) × (literal < 4032) }
+    ensures { Grows (λ buf. and_join goal (state literal nodes.old buf)) nodes.old.room result nodes.new }
 {
     if goal == literal {
-        return Grown::At(Spot { literal, nodes });
+        return Ok(literal);
     }
     if goal == opposite(literal) {
-        return add_false(keys, head, next, room, nodes);
+        return add_false(nodes);
     }
-    add_pair(keys, head, next, room, nodes, 3, goal, literal)
+    add_pair(nodes, 3, goal, literal)
 }

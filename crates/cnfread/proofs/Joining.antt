@@ -4,26 +4,22 @@ use mathlib.Core.List.{List, [], ◌∷◌, ◌++◌, append_assoc, append-nil}
 use mathlib.Core.Bool.{Bool, true, false, cond}
 use Prim.Native.Nat.{ℕ, ◌+◌, ◌<◌, ◌≤◌}
 use native.Mathlib.Omega.{arith}
-use lib.Dec.{eqb, ltb}
-use lib.ListN.{length, take, replicate, length-append, length-replicate}
-use borrow.Author.Tests.{eq-eqb, ne_eqb, ltb-true}
+use lib.Dec.{eqb}
+use lib.ListN.{length, take, length-append}
+use borrow.Author.Tests.{eq-eqb, ne_eqb}
+use Rattle.std.specs.Prelude.{Result, Ok, Err}
+use Rattle.std.specs.Result.{IsErrAnd}
+use Rattle.std.proofs.lemmas.Result.{err_from_is_err_and}
 use Rattle.scope.specs.declared.Refusal.{Refusal}
 use Rattle.scope.specs.Outcome.{Outcome, answer, refused, require, ◌>>◌, ◌>>=◌}
 use Rattle.scope.specs.Calls.{Added}
-use Rattle.scope.proofs.Tests.{by_test, bound}
+use Rattle.scope.proofs.Tests.{bound, refused_no}
 use Rattle.codec.proofs.Rows.{row}
-use Rattle.growing.specs.declared.Spot.{Spot}
-use Rattle.growing.specs.declared.Grown.{Grown}
-use Rattle.growing.specs.declared.Grown.TheVariants.{At, Refused}
-use Rattle.growing.specs.Growing.{state, room_of, Under, Grows}
-use Rattle.growing.proofs.Chains.{no_chains}
-use Rattle.growing.proofs.Nodes.{nodes_count}
+use Rattle.growing.specs.Growing.{Table, state, Grows}
 use Rattle.cnf.specs.Fold.{put, yes_literal, no_literal, distinct_from, both_signs, or_clause, clause, and_join, and_all, goal_of, points, empty, build}
 use Rattle.cnftext.specs.declared.Heading.{Heading}
-use Rattle.cnffold.proofs.Built.{Over, grows_as, grows_refused, grows_next, grows_turned}
+use Rattle.cnffold.proofs.Built.{Over, grows_as, grows_in, grows_refused, grows_next, grows_turned}
 use Rattle.cnfread.specs.declared.Gathered.{Gathered}
-use Rattle.cnfread.specs.declared.Folded.{Folded}
-use Rattle.cnfread.specs.declared.Folded.TheVariants.{Table, Malformed}
 use Rattle.cnfread.specs.Clauses.{body_at, ReadsClause, folded, joined, joined_clause, remaining, filed, Folds}
 use Rattle.cnfread.specs.Reads.{file_with}
 
@@ -36,14 +32,14 @@ bind_same (answer a) = refl
 bind_same (refused number place) = refl
 
 -- the literal of the table before does not matter to a clause
-or_any : (keys : List ℕ) (n : ℕ) (buf : List ℕ) (l : ℕ) (d : List ℕ) → or_clause (state l keys n buf) d ≡ or_clause (state 0 keys n buf) d
+or_any : (t : Table) (buf : List ℕ) (l : ℕ) (d : List ℕ) → or_clause (state l t buf) d ≡ or_clause (state 0 t buf) d
 unfolding or_clause no_literal
-or_any keys n buf l [] = refl
-or_any keys n buf l (x ∷ d) = refl
+or_any t buf l [] = refl
+or_any t buf l (x ∷ d) = refl
 
-clause_folds : (keys : List ℕ) (n : ℕ) (buf : List ℕ) (l : ℕ) (c : List ℕ) → clause (state l keys n buf) c ≡ folded (both_signs c) (state 0 keys n buf) (distinct_from [] c)
+clause_folds : (t : Table) (buf : List ℕ) (l : ℕ) (c : List ℕ) → clause (state l t buf) c ≡ folded (both_signs c) (state 0 t buf) (distinct_from [] c)
 unfolding clause yes_literal
-clause_folds keys n buf l c = ap (cond (both_signs c) (yes_literal (state 0 keys n buf))) (or_any keys n buf l (distinct_from [] c))
+clause_folds t buf l c = ap (cond (both_signs c) (yes_literal (state 0 t buf))) (or_any t buf l (distinct_from [] c))
 
 -- TRUE, or an OR
 module _ {both : Bool} (t : Added) (d : List ℕ) where
@@ -71,89 +67,94 @@ unfolding and_all
 ended_some t e = rw e
 
 -- a clause is joined, then those behind it
-remaining-step : (first : Bool) (t : Added) (c : List ℕ) (cs : List (List ℕ)) → remaining first t (c ∷ cs) ≡ (clause t c >>= joined first t.literal >>= λ w. remaining false w cs)
+remaining-step : (first : Bool) (t : Added) (c : List ℕ) (cs : List (List ℕ))
+    → remaining first t (c ∷ cs) ≡ (clause t c >>= joined first t.literal >>= λ w. remaining false w cs)
 unfolding goal_of and_all
 remaining-step true t c cs = sym (bind_assoc (clause t c) (joined true t.literal) (λ w. and_all w cs))
 remaining-step false t c cs = sym (bind_assoc (clause t c) (joined false t.literal) (λ w. and_all w cs))
 
--- what a body folded is
-pub folds_unread : {body : Outcome (List (List ℕ))} {out : List (List ℕ) → List ℕ → Outcome Added} {room : ℕ} {keys head next : List ℕ} → body ≡ refused 61 0 → Folds body out room Malformed keys head next
-folds_unread e = record {
-  table = λ g q. absurd (let z : ◌≡◌ {A = ℕ} 0 1 = cc in omega arith);
-  there = λ s q. absurd (let z : ◌≡◌ {A = ℕ} 0 1 = cc in omega arith);
-  unread = λ q. e;
-}
+-- what a `?` hands on
+pub handed : {w : Result ℕ Refusal} {r : Refusal} → IsErrAnd w (λ x. x ≡ r) → w ≡ Err r
+handed {w} h =
+    let p = err_from_is_err_and w h in
+    p.1 ∙ ap Err p.2
 
-pub folds_table : {body : Outcome (List (List ℕ))} {out : List (List ℕ) → List ℕ → Outcome Added} {room : ℕ} {g : Grown} {keys head next : List ℕ}
-    → ((cs : List (List ℕ)) → body ≡ answer cs → Grows (out cs) room g keys head next) → ((s : Spot) → g ≡ At s → (cs : List (List ℕ)) × (body ≡ answer cs)) → Folds body out room (Table g) keys head next
-folds_table {out = out} {room = room} {g = g} {keys = keys} {head = head} {next = next} f t = record {
-  table = λ g' q cs e. let same : g ≡ g' = cc in subst (λ (z : Grown). Grows (out cs) room z keys head next) same (f cs e);
-  there = λ s q. t s (cc);
-  unread = λ q. absurd (let z : ◌≡◌ {A = ℕ} 0 1 = cc in omega arith);
+no_literal_of : {g : Result ℕ Refusal} {r : Refusal} {l : ℕ} → g ≡ Err r → g ≡ Ok l → ⊥
+no_literal_of {r = r} {l = l} e q =
+    let p : Ok l ≡ Err r = sym q ∙ e in
+    let z : ◌≡◌ {A = ℕ} 0 1 = cc in omega arith
+
+-- what a body folded is: it is malformed
+pub folds_unread : {body : Outcome (List (List ℕ))} {out : List (List ℕ) → List ℕ → Outcome Added} {room : ℕ} {g : Result ℕ Refusal} {r : Refusal} {t : Table}
+    → g ≡ Err r → t.room ≡ room → body ≡ refused 61 0
+    → Folds body out room g t
+folds_unread q k e = record {
+  table = λ cs p. refused_no (sym e ∙ p);
+  there = λ l p. absurd (no_literal_of q p);
+  room_is = k;
 }
 
 -- a refusal
-pub folds_refused : {body : Outcome (List (List ℕ))} {out : List (List ℕ) → List ℕ → Outcome Added} {room : ℕ} {g : Grown} {r : Refusal} {keys head next : List ℕ} → g ≡ Refused r
-    → ((cs : List (List ℕ)) → body ≡ answer cs → Over room (λ buf. out cs buf ≡ refused r.number r.place)) → Folds body out room (Table g) keys head next
-folds_refused {r = r} e f =
-    folds_table (λ cs q. grows_refused e (f cs q)) (λ s q. absurd (let p : At s ≡ Refused r = sym q ∙ e in let z : ◌≡◌ {A = ℕ} 0 1 = cc in omega arith))
+pub folds_refused : {body : Outcome (List (List ℕ))} {out : List (List ℕ) → List ℕ → Outcome Added} {room : ℕ} {g : Result ℕ Refusal} {r : Refusal} {t : Table}
+    → g ≡ Err r → t.room ≡ room
+    → ((cs : List (List ℕ)) → body ≡ answer cs → Over room (λ buf. out cs buf ≡ refused r.number r.place)) → Folds body out room g t
+folds_refused e k f = record {
+  table = λ cs q. grows_refused e k (f cs q);
+  there = λ l p. absurd (no_literal_of e p);
+  room_is = k;
+}
 
 -- the same outcomes, said otherwise
-folds_as : {body : Outcome (List (List ℕ))} {out out' : List (List ℕ) → List ℕ → Outcome Added} {room : ℕ} {f : Folded} {keys head next : List ℕ} → ((cs : List (List ℕ)) → Over room (λ buf. out' cs buf ≡ out cs buf))
-    → Folds body out room f keys head next → Folds body out' room f keys head next
-folds_as e f = record { table = λ g q cs p. grows_as (e cs) (f.table g q cs p); there = f.there; unread = f.unread }
+folds_as : {body : Outcome (List (List ℕ))} {out out' : List (List ℕ) → List ℕ → Outcome Added} {room : ℕ} {g : Result ℕ Refusal} {t : Table}
+    → ((cs : List (List ℕ)) → Over room (λ buf. out' cs buf ≡ out cs buf))
+    → Folds body out room g t → Folds body out' room g t
+folds_as e f = record { table = λ cs p. grows_as (e cs) (f.table cs p); there = f.there; room_is = f.room_is }
+
+-- .. and over as much room
+folds_in : {body : Outcome (List (List ℕ))} {out : List (List ℕ) → List ℕ → Outcome Added} {room room' : ℕ} {g : Result ℕ Refusal} {t : Table} → room' ≡ room
+    → Folds body out room' g t → Folds body out room g t
+folds_in {body} {out} {g = g} {t = t} e f = subst (λ (n : ℕ). Folds body out n g t) e f
 
 -- the points, then the clauses
 build-is : (buf : List ℕ) (h : Heading) (cs : List (List ℕ)) → build buf (file_with h cs) ≡ (points (empty buf) 0 h.variables >>= λ t. goal_of t cs)
 unfolding build
 build-is buf h cs = refl
 
-module _ (h : Heading) {room : ℕ} {g : Grown} {keys head next : List ℕ} (p : Grows (λ buf. points (empty buf) 0 h.variables) room g keys head next) where
-  pub points_refused : {body : Outcome (List (List ℕ))} {r : Refusal} {keys' head' next' : List ℕ} → g ≡ Refused r → Folds body (λ cs buf. build buf (file_with h cs)) room (Table g) keys' head' next'
-  points_refused e = folds_refused e (λ cs q buf w. build-is buf h cs ∙ ap (λ (o : Outcome Added). o >>= λ t. goal_of t cs) (grows_turned p e buf w))
+module _ (h : Heading) {room : ℕ} {g : Result ℕ Refusal} {t : Table} (p : Grows (λ buf. points (empty buf) 0 h.variables) room g t) where
+  pub points_refused : {body : Outcome (List (List ℕ))} {r : Refusal} {w : Result ℕ Refusal} → g ≡ Err r → IsErrAnd w (λ x. x ≡ r)
+      → Folds body (λ cs buf. build buf (file_with h cs)) room w t
+  points_refused e q =
+      folds_refused (handed q) p.room_is (λ cs q buf w. build-is buf h cs ∙ ap (λ (o : Outcome Added). o >>= λ t. goal_of t cs) (grows_turned p e buf w))
 
-  pub points-folded : {body : Outcome (List (List ℕ))} {s : Spot} {f : Folded} {keys' head' next' : List ℕ} → g ≡ At s
-      → Folds body (λ cs buf. goal_of (state s.literal keys s.nodes buf) cs) room f keys' head' next' → Folds body (λ cs buf. build buf (file_with h cs)) room f keys' head' next'
-  points-folded e f = folds_as (λ cs buf w. build-is buf h cs ∙ grows_next p (λ t. goal_of t cs) e buf w) f
-
--- no node yet
-room_low : (len : ℕ) → room_of len ≤ 2016
-unfolding room_of
-room_low len = by_test (ltb len 16384) (λ e. rw e (omega (arith, ltb-true len 16384 e))) (λ e. rw e (omega arith))
-
-pub none-under : (len : ℕ) {room : ℕ} → room ≡ room_of len → Under (replicate 2016 0) (replicate 4096 0) (replicate 2016 0) room 0
-none-under len e = record {
-  within = omega arith;
-  few = omega (arith, room_low len);
-  valid = λ some. absurd (omega (arith, nodes_count (replicate 2016 0) 0 (length-replicate {A = ℕ} 2016 0) (omega arith)));
-  chains = no_chains;
-}
+  pub points-folded : {body : Outcome (List (List ℕ))} {l : ℕ} {w : Result ℕ Refusal} {t' : Table} → g ≡ Ok l
+      → Folds body (λ cs buf. goal_of (state l t buf) cs) t.room w t' → Folds body (λ cs buf. build buf (file_with h cs)) room w t'
+  points-folded e f = folds_as (λ cs buf w. build-is buf h cs ∙ grows_next p (λ t. goal_of t cs) e buf w) (folds_in p.room_is f)
 
 -- at a place, k clauses have been joined
-pub record Folding (vars : ℕ) (text : List ℕ) (at : ℕ) (t : List ℕ → Added) (room place k goal nodes : ℕ) (keys head next : List ℕ) : Type 0 where
+pub record Folding (vars : ℕ) (text : List ℕ) (at : ℕ) (start : List ℕ → Added) (room place k goal : ℕ) (t : Table) : Type 0 where
   pub done : List (List ℕ)
   pub count : length done ≡ k
   pub slow : k ≤ place
   pub within : place ≤ length text
   pub same : body_at vars text at ≡ (body_at vars text place >>= λ cs. answer (done ++ cs))
-  pub under : Under keys head next room nodes
+  pub room_is : t.room ≡ room
   pub low : goal < 4032
-  pub so_far : (cs : List (List ℕ)) → Over room (λ buf. goal_of (t buf) (done ++ cs) ≡ remaining (eqb k 0) (state goal keys nodes buf) cs)
+  pub so_far : (cs : List (List ℕ)) → Over room (λ buf. goal_of (start buf) (done ++ cs) ≡ remaining (eqb k 0) (state goal t buf) cs)
 
-pub folding_none : {vars : ℕ} {text : List ℕ} {at room goal nodes : ℕ} {keys head next : List ℕ} → at ≤ length text → Under keys head next room nodes → goal < 4032
-    → Folding vars text at (λ buf. state goal keys nodes buf) room at 0 goal nodes keys head next
-folding_none {vars} {text} {at} h u l = record {
+pub folding_none : {vars : ℕ} {text : List ℕ} {at goal : ℕ} {t : Table} → at ≤ length text → goal < 4032
+    → Folding vars text at (λ buf. state goal t buf) t.room at 0 goal t
+folding_none {vars} {text} {at} h l = record {
   done = [];
   count = refl;
   slow = omega arith;
   within = h;
   same = bind_same (body_at vars text at);
-  under = u;
+  room_is = refl;
   low = l;
   so_far = λ cs buf q. refl;
 }
 
-module _ {vars : ℕ} {text : List ℕ} {at : ℕ} {t : List ℕ → Added} {room place k goal nodes : ℕ} {keys head next : List ℕ} (f : Folding vars text at t room place k goal nodes keys head next) where
+module _ {vars : ℕ} {text : List ℕ} {at : ℕ} {start : List ℕ → Added} {room place k goal : ℕ} {t : Table} (f : Folding vars text at start room place k goal t) where
   -- the whole body, from what is left of it
   whole : {o : Outcome (List (List ℕ))} → body_at vars text place ≡ o → body_at vars text at ≡ (o >>= λ cs. answer (f.done ++ cs))
   whole e = f.same ∙ ap (λ (o : Outcome (List (List ℕ))). o >>= λ cs. answer (f.done ++ cs)) e
@@ -175,53 +176,62 @@ module _ {vars : ℕ} {text : List ℕ} {at : ℕ} {t : List ℕ → Added} {roo
     pub folding-other : (k ≡ n → ⊥) → filed vars text at n ≡ refused 61 0
     folding-other d = ended ∙ rw (ne_eqb k n d)
 
-    pub folding-all : {g : Grown} {keys' head' next' : List ℕ} → k ≡ n → Grows (λ buf. remaining (eqb k 0) (state goal keys nodes buf) []) room g keys' head' next'
-        → Folds (filed vars text at n) (λ cs buf. goal_of (t buf) cs) room (Table g) keys' head' next'
-    folding-all d g =
+    pub folding-all : {g : Result ℕ Refusal} {t' : Table} → k ≡ n → Grows (λ buf. remaining (eqb k 0) (state goal t buf) []) t.room g t'
+        → Folds (filed vars text at n) (λ cs buf. goal_of (start buf) cs) room g t'
+    folding-all d g' =
+        let g = grows_in f.room_is g' in
         let fine : filed vars text at n ≡ answer (f.done ++ []) = ended ∙ rw (eq-eqb k n d) in
-        folds_table
-        (λ cs q.
-        let same : f.done ++ [] ≡ cs = (let p : answer (f.done ++ []) ≡ answer cs = sym fine ∙ q in cc) in
-        grows_as (λ buf w. ap (goal_of (t buf)) (sym same) ∙ f.so_far [] buf w) g)
-        (λ s q. (f.done ++ [], fine))
+        record {
+          table = λ cs q.
+              let same : f.done ++ [] ≡ cs = (let p : answer (f.done ++ []) ≡ answer cs = sym fine ∙ q in cc) in
+              grows_as (λ buf w. ap (goal_of (start buf)) (sym same) ∙ f.so_far [] buf w) g;
+          there = λ s q. (f.done ++ [], fine);
+          room_is = g.room_is;
+        }
 
   -- a clause was read, and joined
-  module _ {marks held : List ℕ} {c : Gathered} (r : ReadsClause vars text place marks held c) {g : Grown} {keys' head' next' : List ℕ}
-      (j : Grows (λ buf. joined_clause (eqb k 0) goal c.both (state 0 keys nodes buf) (take c.count held)) room g keys' head' next') where
-    goes : (cs : List (List ℕ)) → Over room (λ buf. goal_of (t buf) (f.done ++ (r.c ∷ cs)) ≡ (joined_clause (eqb k 0) goal c.both (state 0 keys nodes buf) (take c.count held) >>= λ w. remaining false w cs))
+  module _ {marks held : List ℕ} {c : Gathered} (r : ReadsClause vars text place marks held c) {g : Result ℕ Refusal} {t' : Table}
+      (i : Grows (λ buf. joined_clause (eqb k 0) goal c.both (state 0 t buf) (take c.count held)) t.room g t') where
+    j : Grows (λ buf. joined_clause (eqb k 0) goal c.both (state 0 t buf) (take c.count held)) room g t'
+    j = grows_in f.room_is i
+
+    goes : (cs : List (List ℕ)) → Over room
+        (λ buf. goal_of (start buf) (f.done ++ (r.c ∷ cs)) ≡ (joined_clause (eqb k 0) goal c.both (state 0 t buf) (take c.count held) >>= λ w. remaining false w cs))
     goes cs buf q =
-        let same : clause (state goal keys nodes buf) r.c ≡ folded c.both (state 0 keys nodes buf) (take c.count held) = clause_folds keys nodes buf goal r.c ∙ rw (r.both_is, r.list) in
+        let same : clause (state goal t buf) r.c ≡ folded c.both (state 0 t buf) (take c.count held) = clause_folds t buf goal r.c ∙ rw (r.both_is, r.list) in
         f.so_far (r.c ∷ cs) buf q
-        ∙ remaining-step (eqb k 0) (state goal keys nodes buf) r.c cs
+        ∙ remaining-step (eqb k 0) (state goal t buf) r.c cs
         ∙ ap (λ (o : Outcome Added). o >>= joined (eqb k 0) goal >>= λ w. remaining false w cs) same
 
     -- it was refused
-    pub folding-refused : (n : ℕ) {x : Refusal} {a b d : List ℕ} → g ≡ Refused x → Folds (filed vars text at n) (λ cs buf. goal_of (t buf) cs) room (Table g) a b d
-    folding-refused n {x} e =
-        folds_refused e
+    pub folding-refused : (n : ℕ) {x : Refusal} {w : Result ℕ Refusal} → g ≡ Err x → IsErrAnd w (λ y. y ≡ x)
+        → Folds (filed vars text at n) (λ cs buf. goal_of (start buf) cs) room w t'
+    folding-refused n {x} e h =
+        folds_refused (handed h) j.room_is
         (λ cs q buf w.
         let (ds, first, rest) = bound (body_at vars text at) (λ cs. require (eqb (length cs) n) 61 0 >> answer cs) q in
-        let same : ◌≡◌ {A = List (List ℕ)} ds cs = (let p : ◌≡◌ {A = Outcome (List (List ℕ))} (answer ds) (answer cs) = (row (eqb (length ds) n) 61 0 (answer ds) rest).1 in cc) in
+        let same : ◌≡◌ {A = List (List ℕ)} ds cs =
+        (let p : ◌≡◌ {A = Outcome (List (List ℕ))} (answer ds) (answer cs) = (row (eqb (length ds) n) 61 0 (answer ds) rest).1 in cc) in
         let (es, second, more) = bound (body_at vars text place) (λ cs. answer (f.done ++ cs)) (sym f.same ∙ first) in
         let (fs, third, last) = bound (body_at vars text c.next) (λ cs. answer (r.c ∷ cs)) (sym r.rest ∙ second) in
         let inner : r.c ∷ fs ≡ es = cc in
         let outer : f.done ++ es ≡ ds = cc in
-        ap (goal_of (t buf)) (sym (ap (f.done ++◌) inner ∙ outer ∙ same))
+        ap (goal_of (start buf)) (sym (ap (f.done ++◌) inner ∙ outer ∙ same))
         ∙ goes fs buf w
         ∙ ap (λ (o : Outcome Added). o >>= λ w. remaining false w fs) (grows_turned j e buf w))
 
     -- it was answered
-    pub folding-next : {s : Spot} → g ≡ At s → Folding vars text at t room c.next (k + 1) s.literal s.nodes keys' head' next'
-    folding-next {s} e = record {
+    pub folding-next : {l : ℕ} → g ≡ Ok l → Folding vars text at start room c.next (k + 1) l t'
+    folding-next {l} e = record {
       done = f.done ++ r.c ∷ [];
       count = length-append f.done (r.c ∷ []) ∙ omega (arith, f.count);
       slow = omega (arith, f.slow, r.later);
       within = r.within;
       same = whole r.rest ∙ bind_assoc (body_at vars text c.next) (λ cs. answer (r.c ∷ cs)) (λ cs. answer (f.done ++ cs)) ∙ behind (body_at vars text c.next);
-      under = j.under s e;
-      low = j.low s e;
+      room_is = j.room_is;
+      low = j.low l e;
       so_far = λ cs buf q.
-          ap (goal_of (t buf)) (append_assoc f.done (r.c ∷ []) cs)
+          ap (goal_of (start buf)) (append_assoc f.done (r.c ∷ []) cs)
           ∙ goes cs buf q
           ∙ grows_next j (λ w. remaining false w cs) e buf q
           ∙ rw (ne_eqb (k + 1) 0 (λ z. omega arith));

@@ -132,7 +132,8 @@ module _ {marks held : List ℕ} {n i : ℕ} (k : Clearing marks held n i) where
   unfolding holds
   clear_more h =
       let inside : i < length (take n held) = omega (arith, length-take-le n held k.small.within) in
-      let first : drop i (take n held) ≡ get_or held i 0 ∷ drop (i + 1) (take n held) = drop-cons (take n held) i 0 inside ∙ rw (get_or-take n held i 0 h, add-one) in
+      let first : drop i (take n held) ≡ get_or held i 0 ∷ drop (i + 1) (take n held) =
+      drop-cons (take n held) i 0 inside ∙ rw (get_or-take n held i 0 h, add-one) in
       record {
         size = length-set marks (get_or held i 0) 0 ∙ k.size;
         room = k.room;

@@ -5,34 +5,27 @@ use Prim.Native.Nat.{ℕ}
 use native.Mathlib.Omega.{arith}
 use lib.Dec.{eqb}
 use lib.ListN.{length}
+use Rattle.std.specs.Prelude.{Option, Some, None, Result, Ok, Err}
 use Rattle.scope.specs.declared.Refusal.{Refusal}
 use Rattle.scope.specs.Outcome.{Outcome, answer, refused, require, ◌>>◌, ◌>>=◌}
 use Rattle.scope.specs.Calls.{Added as Written}
 use Rattle.scope.proofs.Tests.{refused_no, bound}
 use Rattle.codec.specs.Valid.{Bytes}
 use Rattle.adding.specs.declared.Mark.{Mark}
-use Rattle.adding.specs.declared.Added.TheVariants.{At, Refused}
 use Rattle.adding.specs.Added.{marked}
-use Rattle.growing.specs.declared.Spot.{Spot}
-use Rattle.growing.specs.declared.Grown.{Grown}
-use Rattle.growing.specs.declared.Grown.TheVariants.{At as Grew, Refused as Full}
-use Rattle.growing.specs.Growing.{state, room_of, outcome_of, Writes}
+use Rattle.growing.specs.Growing.{Table, state, room_of, outcome_of, Writes}
 use Rattle.cnf.specs.Text.{File, file_of}
 use Rattle.cnf.specs.Fold.{build}
 use Rattle.cnf.specs.Reader.{dimacs, Turns}
 use Rattle.cnf.proofs.Reader.{dimacs-builds, dimacs_refuses}
 use Rattle.cnftext.specs.declared.Heading.{Heading}
-use Rattle.cnftext.specs.declared.Head.{Head}
-use Rattle.cnftext.specs.declared.Head.TheVariants.{At as Found, Malformed as NoHeading}
 use Rattle.cnftext.specs.Scanned.{Headed}
-use Rattle.cnfread.specs.declared.Folded.{Folded}
-use Rattle.cnfread.specs.declared.Folded.TheVariants.{Table}
 use Rattle.cnfread.specs.Clauses.{body_at, filed, Folds}
 use Rattle.cnfread.specs.Reads.{file_with, Starts, Told, FirstRefusal, Reads}
 
 -- the heading was found, or not
-module _ {text : List ℕ} {r : Head} (d : Headed text r) where
-  pub no-heading : r ≡ NoHeading → file_of text ≡ refused 60 0
+module _ {text : List ℕ} {r : Option Heading} (d : Headed text r) where
+  pub no-heading : r ≡ None → file_of text ≡ refused 60 0
   unfolding file_of
   no-heading e = rw (← d.answered, e)
 
@@ -45,7 +38,7 @@ module _ {text : List ℕ} {r : Head} (d : Headed text r) where
       passes (answer u) = refl
       passes (refused number place) = refl
 
-  pub heading_starts : (h : Heading) → r ≡ Found h → Starts text h
+  pub heading_starts : (h : Heading) → r ≡ Some h → Starts text h
   unfolding file_of
   heading_starts h e = record {
     within = d.within h e;
@@ -55,22 +48,17 @@ module _ {text : List ℕ} {r : Head} (d : Headed text r) where
 
 -- a text with a heading, whose body was folded
 module _ {text : List ℕ} {h : Heading} (b : Starts text h) where
-  pub body_unread : filed h.variables text h.body h.clauses ≡ refused 61 0 → file_of text ≡ refused 61 0
-  body_unread e = b.file ∙ ap (λ (o : Outcome (List (List ℕ))). o >>= λ cs. answer (file_with h cs)) e
-
-  pub body-told : (buf : List ℕ) {room : ℕ} {f : Folded} {g : Grown} {keys head next : List ℕ} → room ≡ room_of (length buf)
-      → Folds (filed h.variables text h.body h.clauses) (λ cs buf. build buf (file_with h cs)) room f keys head next → f ≡ Table g → Told text buf keys g
-  body-told buf {room} {f} {g} {keys} {head} {next} q folds e = record {
+  pub body-told : (buf : List ℕ) {room : ℕ} {g : Result ℕ Refusal} {t : Table} → room ≡ room_of (length buf)
+      → Folds (filed h.variables text h.body h.clauses) (λ cs buf. build buf (file_with h cs)) room g t → Told text buf t g
+  body-told buf q folds = record {
     table = λ x p.
         let (cs, ok, same) = bound (filed h.variables text h.body h.clauses) (λ cs. answer (file_with h cs)) (sym b.file ∙ p) in
         let file : ◌≡◌ {A = File} (file_with h cs) x = cc in
-        ap (build buf) (sym file) ∙ (folds.table g e cs ok).said buf (sym q);
-    there = λ s p.
-        let (cs, ok) = folds.there s (e ∙ ap Table p) in
+        ap (build buf) (sym file) ∙ (folds.table cs ok).said buf (sym q);
+    there = λ l p.
+        let (cs, ok) = folds.there l p in
         (file_with h cs, b.file ∙ ap (λ (o : Outcome (List (List ℕ))). o >>= λ cs. answer (file_with h cs)) ok);
-    fits = λ s p. let (cs, ok) = folds.there s (e ∙ ap Table p) in omega (arith, q, ((folds.table g e cs ok).under s p).within);
-    few = λ s p. let (cs, ok) = folds.there s (e ∙ ap Table p) in omega (arith, ((folds.table g e cs ok).under s p).chains.most);
-    size = λ s p. let (cs, ok) = folds.there s (e ∙ ap Table p) in ((folds.table g e cs ok).under s p).chains.size;
+    room_is = folds.room_is ∙ q;
   }
 
 -- what refuses a text
@@ -85,7 +73,7 @@ first-given r e = record { fine = λ y q. refl; turned = λ number place q. refu
 
 module _ (text buf : List ℕ) (all : Bytes buf) where
   -- 60 or 61
-  pub turned_away : (r : Refusal) → file_of text ≡ refused r.number r.place → Reads text buf (Refused r) buf
+  pub turned_away : (r : Refusal) → file_of text ≡ refused r.number r.place → Reads text buf (Err r) buf
   unfolding dimacs
   turned_away r e =
       let stops : dimacs text buf ≡ refused r.number r.place = rw e in
@@ -103,7 +91,7 @@ module _ (text buf : List ℕ) (all : Bytes buf) where
     built = rw e
 
     -- 51 or 52
-    table_refused : (r : Refusal) → build buf f ≡ refused r.number r.place → Reads text buf (Refused r) buf
+    table_refused : (r : Refusal) → build buf f ≡ refused r.number r.place → Reads text buf (Err r) buf
     table_refused r b =
         let stops : dimacs text buf ≡ refused r.number r.place = built ∙ b in
         record {
@@ -115,7 +103,7 @@ module _ (text buf : List ℕ) (all : Bytes buf) where
         }
 
     -- the table is built
-    table-built : (x : Written) → build buf f ≡ answer x → Reads text buf (At (record { literal = x.literal; used = x.used })) x.bytes
+    table-built : (x : Written) → build buf f ≡ answer x → Reads text buf (Ok (record { literal = x.literal; used = x.used })) x.bytes
     table-built x b =
         let goes : dimacs text buf ≡ answer x = built ∙ b in
         record {
@@ -131,20 +119,20 @@ module _ (text buf : List ℕ) (all : Bytes buf) where
         }
 
   -- the answer of a table under way
-  module _ {keys : List ℕ} {g : Grown} (t : Told text buf keys g) where
-    pub settled_at : {s : Spot} {after : List ℕ} {used : ℕ} → g ≡ Grew s → Writes keys s.nodes buf after used → Reads text buf (At (record { literal = s.literal; used = used })) after
-    settled_at {s} {after} {used} e w =
-        let (f, ok) = t.there s e in
-        let goes : build buf f ≡ answer (state s.literal keys s.nodes buf) = t.table f ok ∙ ap (outcome_of keys buf) e in
-        rw (w.used_is, w.bytes) (table-built f ok (state s.literal keys s.nodes buf) goes)
+  module _ {d : Table} {g : Result ℕ Refusal} (t : Told text buf d g) where
+    pub settled_at : {l : ℕ} {after : List ℕ} {used : ℕ} → g ≡ Ok l → Writes d buf after used → Reads text buf (Ok (record { literal = l; used = used })) after
+    settled_at {l} {after} {used} e w =
+        let (f, ok) = t.there l e in
+        let goes : build buf f ≡ answer (state l d buf) = t.table f ok ∙ ap (outcome_of d buf) e in
+        rw (w.used_is, w.bytes) (table-built f ok (state l d buf) goes)
 
-    pub settled-refused : {r x : Refusal} → g ≡ Full r → FirstRefusal text r x → Reads text buf (Refused x) buf
+    pub settled-refused : {r x : Refusal} → g ≡ Err r → FirstRefusal text r x → Reads text buf (Err x) buf
     settled-refused {r} {x} e first = by_file (file_of text) refl
       where
-        by_file : (o : Outcome File) → file_of text ≡ o → Reads text buf (Refused x) buf
+        by_file : (o : Outcome File) → file_of text ≡ o → Reads text buf (Err x) buf
         by_file (answer f) q =
             let same : x ≡ r = first.fine f q in
-            rw same (table_refused f q r (t.table f q ∙ ap (outcome_of keys buf) e))
+            rw same (table_refused f q r (t.table f q ∙ ap (outcome_of d buf) e))
         by_file (refused number place) q =
             turned_away x (q ∙ ap₂-refused (sym (first.turned number place q).0) (sym (first.turned number place q).1))
           where

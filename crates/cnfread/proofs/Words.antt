@@ -5,6 +5,8 @@ use mathlib.Core.Bool.{Bool, true, false, not, or-true, or-false}
 use Prim.Native.Nat.{ℕ, ◌<◌, ◌≤◌}
 use native.Mathlib.Omega.{arith}
 use lib.ListN.{length, get_or, take, drop}
+use Rattle.std.specs.Prelude.{Some, None, Ok, Err}
+use Rattle.scope.specs.declared.Refusal.{Refusal}
 use Rattle.scope.specs.Outcome.{refused}
 use Rattle.cnf.specs.declared.Word.TheVariants.{Malformed, End, Literal}
 use Rattle.cnf.specs.Text.{words, is_empty, clauses_from}
@@ -14,7 +16,6 @@ use Rattle.cnf.proofs.Texts.{word_literal}
 use Rattle.cnfwords.specs.Words.{Next}
 use Rattle.cnftext.proofs.Clauses.{clauses_done, clauses_open, clauses_bad, clauses_end, clauses_literal}
 use Rattle.cnfread.specs.declared.Gathered.{Gathered}
-use Rattle.cnfread.specs.declared.Gathering.TheVariants.{Clause, Done, Malformed as Bad}
 use Rattle.cnfread.specs.Clauses.{mark, Kept, Keeps, body_at, ReadsClause, Gathers}
 use Rattle.cnfread.proofs.Keeping.{mark_set, mark_clear}
 
@@ -29,7 +30,8 @@ pub record Partly (vars : ℕ) (text : List ℕ) (at i : ℕ) (marks held : List
   pub open_is : is_empty c ≡ not under
   pub same : clauses_from vars c (words (drop i text)) ≡ body_at vars text at
 
-pub partly_none : (vars : ℕ) (text : List ℕ) (at : ℕ) {marks held : List ℕ} → at ≤ length text → Kept marks held 0 → Partly vars text at at marks held 0 false false
+pub partly_none : (vars : ℕ) (text : List ℕ) (at : ℕ) {marks held : List ℕ} → at ≤ length text → Kept marks held 0
+    → Partly vars text at at marks held 0 false false
 unfolding distinct_from both_signs
 partly_none vars text at h k = record {
   c = [];
@@ -69,7 +71,8 @@ module _ {vars : ℕ} {text : List ℕ} {at i : ℕ} {marks held : List ℕ} {co
         q ∙ u.both_is ∙ sym (both_more l u.c ∙ rw (mark_clear (holds (opposite l) u.c) (sym opposite-mark ∙ e), or-false))
 
   -- a literal joins
-  pub partly_literal : {l next : ℕ} {marks' held' : List ℕ} {count' : ℕ} {both' : Bool} → Next vars text i (Literal l) next → Keeps held count l marks' held' count' → both' ≡ both_signs (u.c ++ l ∷ [])
+  pub partly_literal : {l next : ℕ} {marks' held' : List ℕ} {count' : ℕ} {both' : Bool} → Next vars text i (Literal l) next
+      → Keeps held count l marks' held' count' → both' ≡ both_signs (u.c ++ l ∷ [])
       → Partly vars text at next marks' held' count' both' true
   partly_literal {l} n k b = record {
     c = u.c ++ l ∷ [];
@@ -83,28 +86,28 @@ module _ {vars : ℕ} {text : List ℕ} {at i : ℕ} {marks held : List ℕ} {co
   }
 
   -- the body ends here, within a clause or not, or is malformed
-  pub partly_done : words (drop i text) ≡ [] → under ≡ false → Gathers vars text at marks held Done
+  pub partly_done : words (drop i text) ≡ [] → under ≡ false → Gathers vars text at marks held (Ok None)
   partly_done e q = record {
     clause = λ g p. absurd (let z : ◌≡◌ {A = ℕ} 0 1 = cc in omega arith);
     ended = λ p. sym u.same ∙ clauses_done vars text i u.c e (u.open_is ∙ ap not q);
-    bad = λ p. absurd (let z : ◌≡◌ {A = ℕ} 0 1 = cc in omega arith);
+    bad = λ r p. absurd (let z : ◌≡◌ {A = ℕ} 0 1 = cc in omega arith);
   }
 
-  refuses : body_at vars text at ≡ refused 61 0 → Gathers vars text at marks held Bad
+  refuses : {r : Refusal} → body_at vars text at ≡ refused 61 0 → Gathers vars text at marks held (Err r)
   refuses e = record {
     clause = λ g p. absurd (let z : ◌≡◌ {A = ℕ} 0 1 = cc in omega arith);
     ended = λ p. absurd (let z : ◌≡◌ {A = ℕ} 0 1 = cc in omega arith);
-    bad = λ p. e;
+    bad = λ r p. e;
   }
 
-  pub partly_open : words (drop i text) ≡ [] → under ≡ true → Gathers vars text at marks held Bad
+  pub partly_open : {r : Refusal} → words (drop i text) ≡ [] → under ≡ true → Gathers vars text at marks held (Err r)
   partly_open e q = refuses (sym u.same ∙ clauses_open vars text i u.c e (u.open_is ∙ ap not q))
 
-  pub partly_bad : {next : ℕ} → Next vars text i Malformed next → Gathers vars text at marks held Bad
+  pub partly_bad : {r : Refusal} {next : ℕ} → Next vars text i Malformed next → Gathers vars text at marks held (Err r)
   partly_bad n = refuses (sym u.same ∙ clauses_bad u.c n)
 
   -- the clause ends
-  pub partly_end : {next : ℕ} → Next vars text i End next → Gathers vars text at marks held (Clause (record { count = count; both = both; next = next }))
+  pub partly_end : {next : ℕ} → Next vars text i End next → Gathers vars text at marks held (Ok (Some (record { count = count; both = both; next = next })))
   partly_end {next} n =
       let reads : ReadsClause vars text at marks held (record { count = count; both = both; next = next }) = record {
         c = u.c;
@@ -120,5 +123,5 @@ module _ {vars : ℕ} {text : List ℕ} {at i : ℕ} {marks held : List ℕ} {co
             let same : ◌≡◌ {A = Gathered} (record { count = count; both = both; next = next }) g = cc in
             subst (λ (z : Gathered). ReadsClause vars text at marks held z) same reads;
         ended = λ p. absurd (let z : ◌≡◌ {A = ℕ} 0 1 = cc in omega arith);
-        bad = λ p. absurd (let z : ◌≡◌ {A = ℕ} 0 1 = cc in omega arith);
+        bad = λ r p. absurd (let z : ◌≡◌ {A = ℕ} 0 1 = cc in omega arith);
       }

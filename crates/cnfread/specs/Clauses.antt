@@ -1,19 +1,13 @@
 -- A clause under way, and what reading the body's clauses leaves. Assumes nothing.
-use Rattle.std.specs.Prelude.{◌≡◌, Bool, true, false, cond, List, [], ◌∷◌, ℕ, ◌+◌, ◌<◌, ◌≤◌, eqb, length, get_or, take, drop}
+use Rattle.std.specs.Prelude.{◌≡◌, Bool, true, false, cond, List, [], ◌∷◌, ℕ, ◌+◌, ◌<◌, ◌≤◌, eqb, length, get_or, take, drop, Option, Some, None, Result, Ok, Err}
+use Rattle.scope.specs.declared.Refusal.{Refusal}
 use Rattle.scope.specs.Outcome.{Outcome, answer, refused, require, ◌>>◌, ◌>>=◌}
 use Rattle.scope.specs.Calls.{Added}
-use Rattle.growing.specs.declared.Spot.{Spot}
-use Rattle.growing.specs.declared.Grown.{Grown}
-use Rattle.growing.specs.declared.Grown.TheVariants.{At}
-use Rattle.growing.specs.Growing.{Grows}
+use Rattle.growing.specs.Growing.{Table, Grows}
 use Rattle.cnf.specs.Text.{words, clauses_from}
 use Rattle.cnf.specs.Fold.{holds, kept, distinct_from, both_signs, yes_literal, or_clause, and_join, and_all, goal_of}
 use Rattle.cnffold.specs.Built.{Small}
 use Rattle.cnfread.specs.declared.Gathered.{Gathered}
-use Rattle.cnfread.specs.declared.Gathering.{Gathering}
-use Rattle.cnfread.specs.declared.Gathering.TheVariants.{Clause, Done, Malformed}
-use Rattle.cnfread.specs.declared.Folded.{Folded}
-use Rattle.cnfread.specs.declared.Folded.TheVariants.{Table, Malformed as Unread}
 
 -- the sum of numbers
 unfoldable pub total : List ℕ → ℕ
@@ -53,10 +47,10 @@ pub record ReadsClause (vars : ℕ) (text : List ℕ) (at : ℕ) (marks held : L
   pub rest : body_at vars text at ≡ (body_at vars text g.next >>= λ cs. answer (c ∷ cs))
 
 -- what stands at a place of a body
-pub record Gathers (vars : ℕ) (text : List ℕ) (at : ℕ) (marks held : List ℕ) (v : Gathering) : Type 0 where
-  pub clause : (g : Gathered) → v ≡ Clause g → ReadsClause vars text at marks held g
-  pub ended : v ≡ Done → body_at vars text at ≡ answer []
-  pub bad : v ≡ Malformed → body_at vars text at ≡ refused 61 0
+pub record Gathers (vars : ℕ) (text : List ℕ) (at : ℕ) (marks held : List ℕ) (v : Result (Option Gathered) Refusal) : Type 0 where
+  pub clause : (g : Gathered) → v ≡ Ok (Some g) → ReadsClause vars text at marks held g
+  pub ended : v ≡ Ok None → body_at vars text at ≡ answer []
+  pub bad : (r : Refusal) → v ≡ Err r → body_at vars text at ≡ refused 61 0
 
 -- a clause of literals without repeats, or one with both signs of a variable, added
 abbrev pub folded : Bool → Added → List ℕ → Outcome Added
@@ -80,7 +74,7 @@ abbrev pub filed : ℕ → List ℕ → ℕ → ℕ → Outcome (List (List ℕ)
 filed vars text at n = body_at vars text at >>= λ cs. require (eqb (length cs) n) 61 0 >> answer cs
 
 -- a body folded: where its clauses are cs, the table under way is the outcome for cs, and a goal is answered only where there are such
-pub record Folds (body : Outcome (List (List ℕ))) (out : List (List ℕ) → List ℕ → Outcome Added) (room : ℕ) (f : Folded) (keys head next : List ℕ) : Type 0 where
-  pub table : (g : Grown) → f ≡ Table g → (cs : List (List ℕ)) → body ≡ answer cs → Grows (out cs) room g keys head next
-  pub there : (s : Spot) → f ≡ Table (At s) → (cs : List (List ℕ)) × (body ≡ answer cs)
-  pub unread : f ≡ Unread → body ≡ refused 61 0
+pub record Folds (body : Outcome (List (List ℕ))) (out : List (List ℕ) → List ℕ → Outcome Added) (room : ℕ) (g : Result ℕ Refusal) (t : Table) : Type 0 where
+  pub table : (cs : List (List ℕ)) → body ≡ answer cs → Grows (out cs) room g t
+  pub there : (l : ℕ) → g ≡ Ok l → (cs : List (List ℕ)) × (body ≡ answer cs)
+  pub room_is : t.room ≡ room

@@ -28,12 +28,14 @@ module _ {vars : ℕ} {text : List ℕ} {at : ℕ} (c : List ℕ) where
   clauses_bad n = rw (n.first, n.says)
 
   -- a clause ends
-  pub clauses_end : {next : ℕ} → Next vars text at End next → clauses_from vars c (words (drop at text)) ≡ (clauses_from vars [] (words (drop next text)) >>= λ cs. answer (c ∷ cs))
+  pub clauses_end : {next : ℕ} → Next vars text at End next
+      → clauses_from vars c (words (drop at text)) ≡ (clauses_from vars [] (words (drop next text)) >>= λ cs. answer (c ∷ cs))
   unfolding clauses_from
   clauses_end n = rw (n.first, n.says)
 
   -- a literal joins the clause
-  pub clauses_literal : {l next : ℕ} → Next vars text at (Literal l) next → clauses_from vars c (words (drop at text)) ≡ clauses_from vars (c ++ l ∷ []) (words (drop next text))
+  pub clauses_literal : {l next : ℕ} → Next vars text at (Literal l) next
+      → clauses_from vars c (words (drop at text)) ≡ clauses_from vars (c ++ l ∷ []) (words (drop next text))
   unfolding clauses_from
   clauses_literal n = rw (n.first, n.says)
 
@@ -44,7 +46,8 @@ pub record Counted (vars : ℕ) (text : List ℕ) (from at : ℕ) (inside : Bool
   pub same : (clauses_from vars c (words (drop at text)) >>= λ cs. answer (n + length cs)) ≡ (clauses_from vars [] (words (drop from text)) >>= λ cs. answer (length cs))
 
 -- one clause more is counted
-count_more : (o : Outcome (List (List ℕ))) (c : List ℕ) (n : ℕ) → (o >>= (λ cs. answer (c ∷ cs)) >>= λ cs. answer (n + length cs)) ≡ (o >>= λ cs. answer (n + 1 + length cs))
+count_more : (o : Outcome (List (List ℕ))) (c : List ℕ) (n : ℕ)
+    → (o >>= (λ cs. answer (c ∷ cs)) >>= λ cs. answer (n + length cs)) ≡ (o >>= λ cs. answer (n + 1 + length cs))
 count_more (answer cs) c n = ap answer (omega arith)
 count_more (refused number place) c n = refl
 
@@ -78,7 +81,8 @@ module _ {vars : ℕ} {text : List ℕ} {from at : ℕ} {inside : Bool} {n : ℕ
   }
 
   -- the answers
-  whole : {o : Outcome (List (List ℕ))} → clauses_from vars k.c (words (drop at text)) ≡ o → (o >>= λ cs. answer (n + length cs)) ≡ (clauses_from vars [] (words (drop from text)) >>= λ cs. answer (length cs))
+  whole : {o : Outcome (List (List ℕ))} → clauses_from vars k.c (words (drop at text)) ≡ o
+      → (o >>= λ cs. answer (n + length cs)) ≡ (clauses_from vars [] (words (drop from text)) >>= λ cs. answer (length cs))
   whole e = ap (λ (o : Outcome (List (List ℕ))). o >>= λ cs. answer (n + length cs)) (sym e) ∙ k.same
 
   pub counted-done : words (drop at text) ≡ [] → inside ≡ false → answer n ≡ (clauses_from vars [] (words (drop from text)) >>= λ cs. answer (length cs))

@@ -1,14 +1,15 @@
 -- The parts of a text, byte by byte: comments, bytes that must come next, digits. Assumes nothing.
-use mathlib.Core.Path.{◌≡◌, ◌∙◌, ap, refl}
+use mathlib.Core.Path.{◌≡◌, ◌∙◌, ap, sym, refl}
 use mathlib.Core.List.{List, [], ◌∷◌, ◌++◌, append_assoc, append-nil}
 use mathlib.Core.Bool.{Bool, true, false, not, ◌&&◌}
-use Prim.Native.Nat.{ℕ, suc, ◌+◌, ◌-◌, ◌<◌, ◌≤◌}
+use Prim.Native.Nat.{ℕ, ◌+◌, ◌-◌, ◌<◌, ◌≤◌}
 use native.Mathlib.Numerals.{add-one}
 use native.Mathlib.Omega.{arith}
 use lib.Dec.{eqb}
-use lib.ListN.{length, get_or, drop, drop_of_length-le}
-use lib.Seq.{drop-cons}
-use borrow.Author.Tests.{eq-eqb, ne_eqb}
+use lib.ListN.{length, get_or, take, drop, length-drop, drop_of_length-le}
+use lib.Seq.{drop-cons, take_all}
+use borrow.Author.Tests.{eqb-true, eqb-false, eq-eqb, ne_eqb}
+use Rattle.std.specs.List.{starts_with as starts_by}
 use Rattle.scope.proofs.Tests.{and_both}
 use Rattle.codec.proofs.Rows.{by_test}
 use Rattle.cnf.specs.Text.{behind_comments, starts_with, digit, digits, all_digits}
@@ -17,12 +18,14 @@ use Rattle.cnfwords.proofs.Words.{part_more}
 
 module _ (text : List ℕ) (i : ℕ) (h : i < length text) where
   -- a byte of a comment
-  pub comment_byte : {inside inside' : Bool} → inside ≡ true → inside' ≡ not (eqb (get_or text i 0) 10) → behind_comments inside' (drop (i + 1) text) ≡ behind_comments inside (drop i text)
+  pub comment_byte : {inside inside' : Bool} → inside ≡ true → inside' ≡ not (eqb (get_or text i 0) 10)
+      → behind_comments inside' (drop (i + 1) text) ≡ behind_comments inside (drop i text)
   unfolding behind_comments
   comment_byte p q = rw (p, q, drop-cons text i 0 h, add-one)
 
   -- a comment starts
-  pub comment_starts : {inside inside' : Bool} → inside ≡ false → get_or text i 0 ≡ 99 → inside' ≡ true → behind_comments inside' (drop (i + 1) text) ≡ behind_comments inside (drop i text)
+  pub comment_starts : {inside inside' : Bool} → inside ≡ false → get_or text i 0 ≡ 99 → inside' ≡ true
+      → behind_comments inside' (drop (i + 1) text) ≡ behind_comments inside (drop i text)
   unfolding behind_comments
   comment_starts p e q = rw (p, q, drop-cons text i 0 h, eq-eqb (get_or text i 0) 99 e, add-one)
 
@@ -32,7 +35,8 @@ module _ (text : List ℕ) (i : ℕ) (h : i < length text) where
   no_comment p e = rw (p, drop-cons text i 0 h, ne_eqb (get_or text i 0) 99 e)
 
   -- digits
-  pub digit_next : (at : ℕ) → at ≤ i → digit (get_or text i 0) ≡ true → part text at i ++ digits (drop i text) ≡ part text at (i + 1) ++ digits (drop (i + 1) text)
+  pub digit_next : (at : ℕ) → at ≤ i → digit (get_or text i 0) ≡ true
+      → part text at i ++ digits (drop i text) ≡ part text at (i + 1) ++ digits (drop (i + 1) text)
   unfolding digits
   digit_next at l e = rw (part_more text i h at l, append_assoc) (ap (part text at i ++◌) (rw (drop-cons text i 0 h, e, add-one)))
 
@@ -66,26 +70,18 @@ digits_all (b ∷ t) =
     (λ e. rw e (and_both (digit b) (all_digits (digits t)) e (digits_all t)))
     (λ e. rw e)
 
--- bytes that must come next: k of them have come
-module _ (xs text : List ℕ) (at k : ℕ) where
-  pub starts_all : length xs ≤ k → starts_with (drop k xs) (drop (at + k) text) ≡ true
-  unfolding starts_with
-  starts_all h = rw (drop_of_length-le xs {i = k} h)
+-- the library's test of what a text starts with
+eqb_turned : (x b : ℕ) → eqb x b ≡ eqb b x
+eqb_turned x b =
+    by_test (eqb x b)
+    (λ e. e ∙ sym (eq-eqb b x (sym (eqb-true x b e))))
+    (λ e. e ∙ sym (ne_eqb b x (λ q. eqb-false x b e (sym q))))
 
-  module _ (h : k < length xs) where
-    pub starts-short : length text - at ≤ k → starts_with (drop k xs) (drop (at + k) text) ≡ false
-    unfolding starts_with
-    starts-short l = rw (drop-cons xs k 0 h, drop_of_length-le text {i = at + k} (omega arith))
+pub starts_is : (xs t : List ℕ) → starts_by eqb t xs ≡ starts_with xs t
+unfolding starts_with
+starts_is [] t = refl
+starts_is (x ∷ xs) [] = refl
+starts_is (x ∷ xs) (b ∷ t) = rw (eqb_turned x b) (ap (eqb b x &&◌) (starts_is xs t))
 
-    module _ (l : at + k < length text) where
-      starts-next : starts_with (drop k xs) (drop (at + k) text) ≡ (eqb (get_or text (at + k) 0) (get_or xs k 0) && starts_with (drop (k + 1) xs) (drop (at + (k + 1)) text))
-      unfolding starts_with
-      starts-next =
-          let place : at + (k + 1) ≡ suc (at + k) = omega arith in
-          rw (drop-cons xs k 0 h, drop-cons text (at + k) 0 l, place, add-one)
-
-      pub starts_other : (get_or text (at + k) 0 ≡ get_or xs k 0 → ⊥) → starts_with (drop k xs) (drop (at + k) text) ≡ false
-      starts_other e = starts-next ∙ rw (ne_eqb (get_or text (at + k) 0) (get_or xs k 0) e)
-
-      pub starts-same : get_or text (at + k) 0 ≡ get_or xs k 0 → starts_with (drop k xs) (drop (at + k) text) ≡ starts_with (drop (k + 1) xs) (drop (at + (k + 1)) text)
-      starts-same e = starts-next ∙ rw (eq-eqb (get_or text (at + k) 0) (get_or xs k 0) e)
+pub all_left : (text : List ℕ) (at : ℕ) → take (length text - at) (drop at text) ≡ drop at text
+all_left text at = take_all (length text - at) (drop at text) (omega (arith, length-drop at text))

@@ -1,18 +1,10 @@
 -- Where the parts of a text end, and what scanning it answers. Assumes nothing.
-use Rattle.std.specs.Prelude.{◌≡◌, false, List, [], ◌∷◌, ℕ, ◌≤◌, length, drop}
+use Rattle.std.specs.Prelude.{◌≡◌, false, List, [], ◌∷◌, ℕ, ◌≤◌, length, drop, Option, Some, None, Result, Ok, Err}
 use Rattle.scope.specs.declared.Refusal.{Refusal}
 use Rattle.scope.specs.Outcome.{Outcome, answer, refused, ◌>>=◌}
 use Rattle.cnf.specs.Text.{behind_comments, digits, Counted, counted, Heading as Head, heading, words, clauses_from, file_of}
 use Rattle.cnfwords.specs.Words.{part}
 use Rattle.cnftext.specs.declared.Heading.{Heading}
-use Rattle.cnftext.specs.declared.Scanned.{Scanned}
-use Rattle.cnftext.specs.declared.Scanned.TheVariants.{Fine, Refused}
-use Rattle.cnftext.specs.declared.Count.{Count}
-use Rattle.cnftext.specs.declared.Count.TheVariants.{Number, Malformed as NoNumber}
-use Rattle.cnftext.specs.declared.Head.{Head as Found}
-use Rattle.cnftext.specs.declared.Head.TheVariants.{At, Malformed as NoHeading}
-use Rattle.cnftext.specs.declared.Tally.{Tally}
-use Rattle.cnftext.specs.declared.Tally.TheVariants.{Clauses, Malformed as NoBody}
 
 -- the comments end at r
 pub record Passed (text : List ℕ) (r : ℕ) : Type 0 where
@@ -25,37 +17,37 @@ pub record Digits (text : List ℕ) (at r : ℕ) : Type 0 where
   pub within : r ≤ length text
   pub run : digits (drop at text) ≡ part text at r
 
--- the number and the values of every case of a `Count`; places stand for what is left of the text
-abbrev pub count_of : List ℕ → Count → Outcome Counted
-count_of text (Number v next) = answer (record { value = v; rest = drop next text })
-count_of text NoNumber = refused 60 0
+-- a number and the place behind it, or none; places stand for what is left of the text
+abbrev pub count_of : List ℕ → Option (ℕ × ℕ) → Outcome Counted
+count_of text (Some p) = answer (record { value = p.0; rest = drop p.1 text })
+count_of text None = refused 60 0
 
-pub record Counts (text : List ℕ) (at x : ℕ) (r : Count) : Type 0 where
+pub record Counts (text : List ℕ) (at x : ℕ) (r : Option (ℕ × ℕ)) : Type 0 where
   pub answered : count_of text r ≡ counted (x ∷ []) (drop at text)
-  pub within : (v next : ℕ) → r ≡ Number v next → next ≤ length text
+  pub within : (v next : ℕ) → r ≡ Some (v, next) → next ≤ length text
 
--- .. of a `Head`
-abbrev pub head_of : List ℕ → Found → Outcome Head
-head_of text (At h) = answer (record { variables = h.variables; clauses = h.clauses; body = drop h.body text })
-head_of text NoHeading = refused 60 0
+-- a heading, or none
+abbrev pub head_of : List ℕ → Option Heading → Outcome Head
+head_of text (Some h) = answer (record { variables = h.variables; clauses = h.clauses; body = drop h.body text })
+head_of text None = refused 60 0
 
-pub record Heads (text : List ℕ) (at : ℕ) (r : Found) : Type 0 where
+pub record Heads (text : List ℕ) (at : ℕ) (r : Option Heading) : Type 0 where
   pub answered : head_of text r ≡ heading (drop at text)
-  pub within : (h : Heading) → r ≡ At h → h.body ≤ length text
-  pub few : (h : Heading) → r ≡ At h → h.variables ≤ 1024
+  pub within : (h : Heading) → r ≡ Some h → h.body ≤ length text
+  pub few : (h : Heading) → r ≡ Some h → h.variables ≤ 1024
 
 -- .. behind the comments
-pub record Headed (text : List ℕ) (r : Found) : Type 0 where
+pub record Headed (text : List ℕ) (r : Option Heading) : Type 0 where
   pub answered : head_of text r ≡ heading (behind_comments false text)
-  pub within : (h : Heading) → r ≡ At h → h.body ≤ length text
-  pub few : (h : Heading) → r ≡ At h → h.variables ≤ 1024
+  pub within : (h : Heading) → r ≡ Some h → h.body ≤ length text
+  pub few : (h : Heading) → r ≡ Some h → h.variables ≤ 1024
 
--- .. of a `Tally`
-abbrev pub tally_of : Tally → Outcome ℕ
-tally_of (Clauses n) = answer n
-tally_of NoBody = refused 61 0
+-- how many clauses, or that the body is malformed
+abbrev pub tally_of : Option ℕ → Outcome ℕ
+tally_of (Some n) = answer n
+tally_of None = refused 61 0
 
-abbrev pub Tallies : List ℕ → ℕ → ℕ → Tally → Type 0
+abbrev pub Tallies : List ℕ → ℕ → ℕ → Option ℕ → Type 0
 Tallies text at vars r = tally_of r ≡ (clauses_from vars [] (words (drop at text)) >>= λ cs. answer (length cs))
 
 -- the answer of an outcome that has one, or no elements
@@ -76,10 +68,10 @@ pub record Body (text : List ℕ) (h : Heading) : Type 0 where
   pub file : file_of text ≡ answer (record { variables = h.variables; clauses = clauses_in h.variables (drop h.body text) })
 
 -- a text that is turned away: the place is 0
-abbrev pub turned_away : ℕ → Scanned
-turned_away number = Refused (record { number = number; place = 0 })
+abbrev pub turned_away : ℕ → Result Heading Refusal
+turned_away number = Err (record { number = number; place = 0 })
 
 -- what scanning a text answers
-pub record Scans (text : List ℕ) (r : Scanned) : Type 0 where
-  pub fine : (h : Heading) → r ≡ Fine h → Body text h
-  pub turned : (f : Refusal) → r ≡ Refused f → file_of text ≡ refused f.number f.place
+pub record Scans (text : List ℕ) (r : Result Heading Refusal) : Type 0 where
+  pub fine : (h : Heading) → r ≡ Ok h → Body text h
+  pub turned : (f : Refusal) → r ≡ Err f → file_of text ≡ refused f.number f.place

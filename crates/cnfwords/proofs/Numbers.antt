@@ -12,15 +12,15 @@ use lib.Seq.{take_all, drop-cons}
 use borrow.Author.Tests.{eqb-true, eqb-false, leb-true, le-ltb, lt-ltb, eq-eqb, ne_eqb}
 use Rattle.codec.proofs.Rows.{both, by_test}
 use Rattle.cnf.specs.Text.{digit, few, value_from, all_digits, positive, negative, word_of}
-use Rattle.cnfwords.specs.declared.Number.TheVariants.{Value, Malformed as Ill}
+use Rattle.std.specs.Prelude.{Some, None}
 use Rattle.cnfwords.specs.Words.{number_of, said}
 
 -- too short or too long
-pub none_said : (w : List ℕ) → length w ≡ 0 → Ill ≡ number_of w
+pub none_said : (w : List ℕ) → length w ≡ 0 → None ≡ number_of w
 unfolding number_of
 none_said w e = rw e
 
-pub long_said : (w : List ℕ) → 9 < length w → Ill ≡ number_of w
+pub long_said : (w : List ℕ) → 9 < length w → None ≡ number_of w
 unfolding number_of
 long_said w h = rw (le-ltb (length w) 10 h, and-false)
 
@@ -37,32 +37,33 @@ module _ (w : List ℕ) (i n : ℕ) (h : i < length w) where
   unfolding value_from
   value_more = rw (drop-cons w i 0 h, add-one)
 
-  pub other_said : digit (get_or w i 0) ≡ false → all_digits (drop i w) ≡ all_digits w → Ill ≡ number_of w
+  pub other_said : digit (get_or w i 0) ≡ false → all_digits (drop i w) ≡ all_digits w → None ≡ number_of w
   unfolding number_of
   other_said e q = rw (← q, digits_next, e, and-false)
 
 -- all bytes read
-pub all_said : (w : List ℕ) (i n : ℕ) → 0 < length w → length w ≤ 9 → length w ≤ i → all_digits (drop i w) ≡ all_digits w → value_from n (drop i w) ≡ value_from 0 w → Value n ≡ number_of w
+pub all_said : (w : List ℕ) (i n : ℕ) → 0 < length w → length w ≤ 9 → length w ≤ i → all_digits (drop i w) ≡ all_digits w
+    → value_from n (drop i w) ≡ value_from 0 w → Some n ≡ number_of w
 unfolding number_of all_digits value_from
 all_said w i n some short done d v =
     let none : drop i w ≡ [] = drop_of_length-le w {i = i} done in
     let all : true ≡ all_digits w = rw none at d in
     let value : n ≡ value_from 0 w = rw none at v in
-    rw (lt-ltb 0 (length w) some, lt-ltb (length w) 10 (omega arith), ← all) (ap Value value)
+    rw (lt-ltb 0 (length w) some, lt-ltb (length w) 10 (omega arith), ← all) (ap Some value)
 
 -- what an answer says of the bytes
-pub value_said : (w : List ℕ) (v : ℕ) → number_of w ≡ Value v → (few w ≡ true) × (value_from 0 w ≡ v)
+pub value_said : (w : List ℕ) (v : ℕ) → number_of w ≡ Some v → (few w ≡ true) × (value_from 0 w ≡ v)
 unfolding number_of
 value_said w v e =
     by_test (few w && all_digits w)
-    (λ t. let q : Value (value_from 0 w) ≡ Value v = rw t at e in ((both (few w) (all_digits w) t).0, cc))
-    (λ t. absurd (let q : Ill ≡ Value v = rw t at e in let z : ◌≡◌ {A = ℕ} 0 1 = cc in omega arith))
+    (λ t. let q : Some (value_from 0 w) ≡ Some v = rw t at e in ((both (few w) (all_digits w) t).0, cc))
+    (λ t. absurd (let q : None ≡ Some v = rw t at e in let z : ◌≡◌ {A = ℕ} 0 1 = cc in omega arith))
 
-pub no_value : (w : List ℕ) → all_digits w ≡ true → number_of w ≡ Ill → few w ≡ false
+pub no_value : (w : List ℕ) → all_digits w ≡ true → number_of w ≡ None → few w ≡ false
 unfolding number_of
 no_value w all e =
     by_test (few w)
-    (λ t. absurd (let q : Value (value_from 0 w) ≡ Ill = rw (t, all) at e in let z : ◌≡◌ {A = ℕ} 0 1 = cc in omega arith))
+    (λ t. absurd (let q : Some (value_from 0 w) ≡ None = rw (t, all) at e in let z : ◌≡◌ {A = ℕ} 0 1 = cc in omega arith))
     (λ t. t)
 
 -- a digit's value

@@ -13,7 +13,7 @@ use Rattle.codec.proofs.Bytes.{drop-take}
 use Rattle.cnf.specs.declared.Word.{Word}
 use Rattle.cnf.specs.declared.Word.TheVariants.{Malformed, End, Literal}
 use Rattle.cnf.specs.Text.{digit, value_from, separator, words_from, all_digits, word_of}
-use Rattle.cnfwords.specs.declared.Number.TheVariants.{Value}
+use Rattle.std.specs.Prelude.{Some}
 use Rattle.cnfwords.specs.declared.Run.{Run}
 use Rattle.cnfwords.specs.declared.Token.{Token}
 use Rattle.cnfwords.specs.Words.{number_of, said, part, Skipped, Parted, Signed, Runs, Next, token_of, TokenAt}
@@ -86,7 +86,7 @@ module _ {text : List ℕ} {at value i : ℕ} (r : Running text at value i) wher
   run_done = record { later = r.later; within = r.within; short = r.short; digits = r.digits; value_is = r.value_is; joins = r.joins }
 
 -- the number of a run
-run_number : {text : List ℕ} {at : ℕ} {r : Run} → Runs text at r → at < r.end → number_of (part text at r.end) ≡ Value r.value
+run_number : {text : List ℕ} {at : ℕ} {r : Run} → Runs text at r → at < r.end → number_of (part text at r.end) ≡ Some r.value
 unfolding number_of
 run_number {text} {at} {r} p h =
     let size : length (part text at r.end) ≡ r.end - at = simp (length-take, length-drop) (omega (arith, p.within)) in
@@ -119,9 +119,10 @@ module _ {text : List ℕ} {at from start : ℕ} {r : Run} (s : Skipped text at 
     behind : drop 1 (part text from r.end) ≡ part text start r.end
     behind =
         let q : r.end - from ≡ 1 + (r.end - start) = omega (arith, at_start) in
-        ap (λ (i : ℕ). drop 1 (take i (drop from text))) q ∙ drop-take 1 (r.end - start) (drop from text) ∙ ap (take (r.end - start)) (drop-drop 1 from text ∙ ap (λ (i : ℕ). drop i text) (sym at_start))
+        ap (λ (i : ℕ). drop 1 (take i (drop from text))) q ∙ drop-take 1 (r.end - start) (drop from text)
+        ∙ ap (take (r.end - start)) (drop-drop 1 from text ∙ ap (λ (i : ℕ). drop i text) (sym at_start))
 
-    minus-says : (vars : ℕ) → word_of vars (part text from r.end) ≡ said (Value r.value) true vars
+    minus-says : (vars : ℕ) → word_of vars (part text from r.end) ≡ said (Some r.value) true vars
     minus-says vars =
         sym (minus_word vars (part text from r.end) (first_byte (omega (arith, at_start)) ∙ e))
         ∙ ap (λ x. said x true vars) (ap number_of behind ∙ run_number p h)
@@ -138,13 +139,13 @@ module _ {text : List ℕ} {at from start : ℕ} {r : Run} (s : Skipped text at 
       next = next;
     }
 
-    plus-says : (vars : ℕ) → word_of vars (part text from r.end) ≡ said (Value r.value) false vars
+    plus-says : (vars : ℕ) → word_of vars (part text from r.end) ≡ said (Some r.value) false vars
     plus-says vars =
         sym (plus_word vars (part text from r.end) (λ q. e (sym (first_byte (omega (arith, here))) ∙ q)))
         ∙ ap (λ x. said x false vars) (ap (λ (i : ℕ). number_of (part text i r.end)) (sym here) ∙ run_number p h)
 
   -- what it says, with the sign as the places tell it
-  pub run_says : (vars : ℕ) → Next vars text at (said (Value r.value) (ltb from start) vars) r.end
+  pub run_says : (vars : ℕ) → Next vars text at (said (Some r.value) (ltb from start) vars) r.end
   run_says vars =
       by_test (eqb (get_or text from 0) 45)
       (λ q.
@@ -168,8 +169,10 @@ signed_within {text} {at} g h =
     (λ q. omega (arith, g.none (eqb-false (get_or text at 0) 45 q)))
 
 -- the token of a sign and a run
-pub run_token : {text : List ℕ} {at from start : ℕ} {r : Run} {w : Word} {t : Token} → Skipped text at from → from < length text → Signed text from start → Runs text start r → start < r.end
-    → (r.end < length text → separator (get_or text r.end 0) ≡ true) → (vars : ℕ) → w ≡ said (Value r.value) (ltb from start) vars → t ≡ token_of w r.end → TokenAt vars text at t
+pub run_token : {text : List ℕ} {at from start : ℕ} {r : Run} {w : Word} {t : Token} → Skipped text at from → from < length text → Signed text from start
+    → Runs text start r → start < r.end
+    → (r.end < length text → separator (get_or text r.end 0) ≡ true) → (vars : ℕ) → w ≡ said (Some r.value) (ltb from start) vars → t ≡ token_of w r.end
+    → TokenAt vars text at t
 run_token {text} {at} {from} {start} {r} {w} {t} s some g p h next vars e q =
     subst (λ (x : Token). TokenAt vars text at x) (sym q)
     (token_is w (subst (λ (x : Word). Next vars text at x r.end) (sym e) (run_says s some g p h next vars)))

@@ -34,7 +34,8 @@ module _ (text : List ℕ) (i : ℕ) (h : i < length text) where
       let place : at + (i - at) ≡ i = omega arith in
       rw more (take-suc (drop at text) (i - at) 0 inside ∙ rw (get_or-drop, place))
 
-  pub byte_joins : (at : ℕ) → at ≤ i → separator (get_or text i 0) ≡ false → words_from (part text at i) (drop i text) ≡ words_from (part text at (i + 1)) (drop (i + 1) text)
+  pub byte_joins : (at : ℕ) → at ≤ i → separator (get_or text i 0) ≡ false
+      → words_from (part text at i) (drop i text) ≡ words_from (part text at (i + 1)) (drop (i + 1) text)
   unfolding words_from
   byte_joins at l e = rw (part_more at l) (rw (drop-cons text i 0 h, e, add-one))
 

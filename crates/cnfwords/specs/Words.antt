@@ -1,22 +1,20 @@
 -- Numbers, where words start and end, and what stands next in a body. Assumes nothing.
-use Rattle.std.specs.Prelude.{◌≡◌, List, [], ◌∷◌, Bool, true, false, cond, ◌&&◌, ℕ, ◌+◌, ◌-◌, ◌*◌, ◌<◌, ◌≤◌, eqb, leb, length, get_or, take, drop}
+use Rattle.std.specs.Prelude.{◌≡◌, List, [], ◌∷◌, Bool, true, false, cond, ◌&&◌, ℕ, ◌+◌, ◌-◌, ◌*◌, ◌<◌, ◌≤◌, eqb, leb, length, get_or, take, drop, Option, Some, None}
 use Rattle.cnf.specs.declared.Word.{Word}
 use Rattle.cnf.specs.declared.Word.TheVariants.{Malformed, End, Literal}
 use Rattle.cnf.specs.Text.{few, value_from, separator, words_from, words, all_digits, word_of}
-use Rattle.cnfwords.specs.declared.Number.{Number}
-use Rattle.cnfwords.specs.declared.Number.TheVariants.{Value, Malformed as Ill}
 use Rattle.cnfwords.specs.declared.Run.{Run}
 use Rattle.cnfwords.specs.declared.Token.{Token}
 use Rattle.cnfwords.specs.declared.Token.TheVariants.{Done, Malformed as Bad, End as Ended, Literal as Joins}
 
 -- 'numbers have 1 to 9 digits'
-unfoldable pub number_of : List ℕ → Number
-number_of w = cond (few w && all_digits w) (Value (value_from 0 w)) Ill
+unfoldable pub number_of : List ℕ → Option ℕ
+number_of w = cond (few w && all_digits w) (Some (value_from 0 w)) None
 
 -- what a number says with a sign, where there are so many variables
-abbrev pub said : Number → Bool → ℕ → Word
-said Ill negated vars = Malformed
-said (Value v) negated vars =
+abbrev pub said : Option ℕ → Bool → ℕ → Word
+said None negated vars = Malformed
+said (Some v) negated vars =
     cond (leb v vars)
     (cond negated (cond (eqb v 0) Malformed (Literal (2 * (v - 1) + 1)))
     (cond (eqb v 0) End (Literal (2 * (v - 1)))))

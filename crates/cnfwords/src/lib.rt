@@ -2,17 +2,10 @@
 #![tactic(auto)]
 
 ghost use Rattle.std.specs.Prelude.{◌≡◌, ◌+◌, ◌≤◌, ◌<◌, length};
-ghost use Rattle.cnf.specs.Text.{digit, separator, word_of};
+ghost use Rattle.cnf.specs.Text.{separator, word_of};
 ghost use Rattle.cnfwords.specs.Words.{number_of, said, Skipped, Parted, Signed, Runs, Ends, token_of, TokenAt};
 
 use cnf::Word;
-
-// A number of 1 to 9 digits, or none.
-#[derive(Clone, Copy)]
-pub enum Number {
-    Value(usize),
-    Malformed,
-}
 
 // What stands next in a body: nothing more, a malformed word, a clause's end, or a literal; and where the text goes on behind it.
 #[derive(Clone, Copy)]
@@ -30,47 +23,38 @@ pub struct Run {
     pub end: usize,
 }
 
-pub fn is_digit(b: u8) -> bool
-    ensures { result ≡ digit b }
-{
-    48 <= b && b <= 57
-}
-
 fn is_separator(b: u8) -> bool
     ensures { result ≡ separator b }
 {
     b == 32 || b == 10
 }
 
-// The number that bytes say.
-pub fn numeral(w: &[u8]) -> Number
+// The number that bytes say: 1 to 9 digits, or none.
+pub fn numeral(w: &[u8]) -> Option<usize>
     ensures { result ≡ number_of w.now }
 {
-    if w.len() == 0 {
-        return Number::Malformed;
+    if w.is_empty() {
+        return None;
     }
     if 9 < w.len() {
-        return Number::Malformed;
+        return None;
     }
-    let mut n: usize = 0;
-    let mut i = 0;
-    while i < w.len() {
-        let b = w[i];
-        if !is_digit(b) {
-            return Number::Malformed;
+    let mut n = 0;
+    for &b in w {
+        if !b.is_ascii_digit() {
+            return None;
         }
         n = 10 * n + (b - 48) as usize;
-        i += 1;
     }
-    Number::Value(n)
+    Some(n)
 }
 
 // The literal of a number and a sign, or the end of a clause, where there are so many variables.
-fn literal(x: Number, negated: bool, vars: usize) -> Word
+fn literal(x: Option<usize>, negated: bool, vars: usize) -> Word
     requires { vars ≤ 1024 }
     ensures { result ≡ said x negated vars }
 {
-    let Number::Value(v) = x else {
+    let Some(v) = x else {
         return Word::Malformed;
     };
     if vars < v {
@@ -104,14 +88,12 @@ fn skip(text: &[u8], at: usize) -> usize
     requires { at ≤ length text.now }
     ensures { Skipped text.now at result }
 {
-    let mut i = at;
-    while i < text.len() {
+    for i in at..text.len() {
         if !is_separator(text[i]) {
             return i;
         }
-        i += 1;
     }
-    i
+    text.len()
 }
 
 // Where the word that starts at a place ends.
@@ -119,14 +101,12 @@ fn word_end(text: &[u8], at: usize) -> usize
     requires { at ≤ length text.now }
     ensures { Parted text.now at result }
 {
-    let mut i = at;
-    while i < text.len() {
+    for i in at..text.len() {
         if is_separator(text[i]) {
             return i;
         }
-        i += 1;
     }
-    i
+    text.len()
 }
 
 // What stands at a place of a body, where there are so many variables: any word.
@@ -140,11 +120,7 @@ pub fn any_token(text: &[u8], at: usize, vars: usize) -> Token
     }
     let end = word_end(text, from);
     let w = word(&text[from..end], vars);
-    match w {
-        Word::Malformed => Token::Malformed,
-        Word::End => Token::End(end),
-        Word::Literal(l) => Token::Literal(l, end),
-    }
+    token_of(w, end)
 }
 
 // The place behind a minus, if one stands there.
@@ -175,17 +151,15 @@ fn digit_run(text: &[u8], at: usize) -> Run
     ensures { Runs text.now at result }
 {
     let limit = nine_on(at, text.len());
-    let mut value: usize = 0;
-    let mut i = at;
-    while i < limit {
+    let mut value = 0;
+    for i in at..limit {
         let b = text[i];
-        if !is_digit(b) {
+        if !b.is_ascii_digit() {
             return Run { value, end: i };
         }
         value = 10 * value + (b - 48) as usize;
-        i += 1;
     }
-    Run { value, end: i }
+    Run { value, end: limit }
 }
 
 // Some bytes were passed, and the word ends.
@@ -227,6 +201,6 @@ pub fn next_token(text: &[u8], at: usize, vars: usize) -> Token
     if !ends(text, start, r.end) {
         return any_token(text, at, vars);
     }
-    let w = literal(Number::Value(r.value), from < start, vars);
+    let w = literal(Some(r.value), from < start, vars);
     token_of(w, r.end)
 }

@@ -2,6 +2,7 @@
 use mathlib.Core.Path.{◌≡◌, refl, sym, ap, ◌∙◌}
 use mathlib.Core.Bool.{cond}
 use mathlib.Core.List.{List, [], ◌∷◌}
+use Rattle.std.specs.Prelude.{Option, None, Some}
 use Prim.Native.Nat.{ℕ, suc, ◌+◌, ◌-◌, ◌<◌, ◌≤◌}
 use native.Mathlib.Omega.{arith}
 use lib.ListN.{length, get_or, length-append}
@@ -28,8 +29,6 @@ use Rattle.searching.specs.declared.Found.TheVariants.{Model}
 use Rattle.searching.proofs.Searches.{tree_conflict, tree_unit, tree_split, fuel, Run, run_starts, run_looked, run_conflict, run_done, run_split, run_room, run-unit, shut_open, shut_fork, open_fork, stopped_closed, stopped_model, left-model, right-searched}
 use Rattle.counting.specs.Count.{at_most, step_count, size_in, SizedIn, Advanced, found_by, Tallied}
 use Rattle.counting.specs.declared.Told.{Told}
-use Rattle.counting.specs.declared.Tally.{Tally}
-use Rattle.counting.specs.declared.Tally.TheVariants.{Open, Closed}
 
 -- ---- the R of a clause: one for each literal, at a conflict; for each but one, at a unit
 
@@ -182,7 +181,7 @@ module _ {v : Version} {t : ℕ → Node} {n : ℕ} {goals w m w' m' : List ℕ}
 -- ---- the search
 
 -- a model: there are no steps
-tallied_open : {v : Version} {t : ℕ → Node} {n : ℕ} {goals w w' m' : List ℕ} {cap s : ℕ} → Searched t n goals w w' m' Model → Tallied v t n goals w w' m' cap s Open
+tallied_open : {v : Version} {t : ℕ → Node} {n : ℕ} {goals w w' m' : List ℕ} {cap s : ℕ} → Searched t n goals w w' m' Model → Tallied v t n goals w w' m' cap s None
 tallied_open h = record {
   searched = h;
   counted = λ c q. absurd (let z : ◌≡◌ {A = ℕ} 0 1 = cc in omega arith);
@@ -190,23 +189,23 @@ tallied_open h = record {
 
 module _ {v : Version} {t : ℕ → Node} {n : ℕ} {goals w w₁ m₁ : List ℕ} {cap s : ℕ} {told : Told} (a : Advanced v t n goals w w₁ m₁ cap s told) where
   -- the units end on a conflict
-  pub ended_closed : told.stop ≡ Shut → Tallied v t n goals w w₁ m₁ cap s (Closed told.count)
+  pub ended_closed : told.stop ≡ Shut → Tallied v t n goals w w₁ m₁ cap s (Some told.count)
   ended_closed e = record {
     searched = stopped_closed a.settled e;
     counted = λ c q. let z : c ≡ told.count = cc in z ∙ a.closes e;
   }
 
   -- or on a model
-  pub ended_open : told.stop ≡ Ends → Tallied v t n goals w w₁ m₁ cap s Open
+  pub ended_open : told.stop ≡ Ends → Tallied v t n goals w w₁ m₁ cap s None
   ended_open e = tallied_open (stopped_model a.settled e)
 
   -- or on a split: the left branch
-  module _ (T : Table n t) (B : Below n goals) {l : ℕ} (e : told.stop ≡ Fork l) {w₂ w₃ m₃ : List ℕ} {left : Tally} (q : g_of w₂ ≡ l ∷ g_of w₁)
+  module _ (T : Table n t) (B : Below n goals) {l : ℕ} (e : told.stop ≡ Fork l) {w₂ w₃ m₃ : List ℕ} {left : Option ℕ} (q : g_of w₂ ≡ l ∷ g_of w₁)
       (b : Tallied v t n goals w₂ w₃ m₃ cap told.count left) where
-    pub left_open : left ≡ Open → Tallied v t n goals w w₃ m₃ cap s Open
+    pub left_open : left ≡ None → Tallied v t n goals w w₃ m₃ cap s None
     left_open p = tallied_open (left-model a.settled T B e q b.searched (ap found_by p))
 
-    module _ {c : ℕ} (p : left ≡ Closed c) where
+    module _ {c : ℕ} (p : left ≡ Some c) where
       left-count : c ≡ at_most cap (told.count + step_count v t n goals (l ∷ g_of w₁))
       left-count = b.counted c p ∙ ap (λ (G : List ℕ). at_most cap (told.count + step_count v t n goals G)) q
 
@@ -214,7 +213,7 @@ module _ {v : Version} {t : ℕ → Node} {n : ℕ} {goals w w₁ m₁ : List �
       left-low = omega (arith, left-count, most_low cap (told.count + step_count v t n goals (l ∷ g_of w₁)))
 
       -- the right branch: what it comes to is what the whole comes to
-      pub right-tallied : {w₄ w₅ m₅ : List ℕ} {right : Tally} → g_of w₄ ≡ neg l ∷ g_of w₁ → Tallied v t n goals w₄ w₅ m₅ cap c right
+      pub right-tallied : {w₄ w₅ m₅ : List ℕ} {right : Option ℕ} → g_of w₄ ≡ neg l ∷ g_of w₁ → Tallied v t n goals w₄ w₅ m₅ cap c right
           → Tallied v t n goals w w₅ m₅ cap s right
       right-tallied d f =
           let x = step_count v t n goals (l ∷ g_of w₁) in

@@ -1,6 +1,6 @@
 -- How many steps the derivation in the solver's order has, up to a limit, and what counting them leaves of the work area: what the
 -- search would. Assumes nothing.
-use Rattle.std.specs.Prelude.{◌≡◌, List, [], ◌∷◌, ℕ, ◌+◌, ◌-◌, ◌≤◌, length, get_or}
+use Rattle.std.specs.Prelude.{◌≡◌, Option, None, Some, List, [], ◌∷◌, ℕ, ◌+◌, ◌-◌, ◌≤◌, length, get_or}
 use Rattle.scope.specs.declared.Node.{Node}
 use Rattle.calculus.specs.Expansion.{neg, expand}
 use Rattle.calculus.specs.Order.{clauses, tree}
@@ -17,8 +17,6 @@ use Rattle.searching.specs.declared.Stop.TheVariants.{Closed as Shut, Fork}
 use Rattle.searching.specs.declared.Found.{Found}
 use Rattle.searching.specs.declared.Found.TheVariants.{Model, Closed as AllClosed}
 use Rattle.counting.specs.declared.Told.{Told}
-use Rattle.counting.specs.declared.Tally.{Tally}
-use Rattle.counting.specs.declared.Tally.TheVariants.{Open, Closed}
 
 -- 'a U, C or S for each UNIT, CONFLICT and SPLIT of its search, .. an R for each false literal of the clause': the steps of the
 -- search from G, with as much fuel as there are undecided nodes; and how many
@@ -55,14 +53,14 @@ pub record Advanced (v : Version) (t : ℕ → Node) (n : ℕ) (goals w w' m' : 
   pub forks : (l : ℕ) → r.stop ≡ Fork l
       → at_most cap (r.count + (step_count v t n goals (l ∷ g_of w') + step_count v t n goals (neg l ∷ g_of w'))) ≡ at_most cap (s + step_count v t n goals (g_of w))
 
--- what a tally says of the search
-abbrev pub found_by : Tally → Found
-found_by Open = Model
-found_by (Closed c) = AllClosed
+-- what a count says of the search: where there is none, a model was found
+abbrev pub found_by : Option ℕ → Found
+found_by None = Model
+found_by (Some c) = AllClosed
 
 -- the search is done, s steps being counted before it
-pub record Tallied (v : Version) (t : ℕ → Node) (n : ℕ) (goals w w' m' : List ℕ) (cap s : ℕ) (r : Tally) : Type 0 where
-  -- open: a model, which is held; closed: 'all branches closed'
+pub record Tallied (v : Version) (t : ℕ → Node) (n : ℕ) (goals w w' m' : List ℕ) (cap s : ℕ) (r : Option ℕ) : Type 0 where
+  -- none: a model, which is held; some: 'all branches closed'
   pub searched : Searched t n goals w w' m' (found_by r)
   -- 'It answers the step count'
-  pub counted : (c : ℕ) → r ≡ Closed c → c ≡ at_most cap (s + step_count v t n goals (g_of w))
+  pub counted : (c : ℕ) → r ≡ Some c → c ≡ at_most cap (s + step_count v t n goals (g_of w))

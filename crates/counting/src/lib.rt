@@ -35,13 +35,6 @@ struct Told {
     count: usize,
 }
 
-// What a search comes to: a model, or every branch closes, with the count.
-#[derive(Clone, Copy)]
-pub enum Tally {
-    Open,
-    Closed(usize),
-}
-
 // `more` are counted beyond s, up to a limit.
 fn capped(s: usize, more: usize, cap: usize) -> usize
     requires { s ≤ cap }
@@ -152,8 +145,8 @@ fn units(
     }
 }
 
-// The search from the literals held, which stay held, s steps being counted: a model, or the count with that of all its steps. `first` is
-// the unit that is the next move, or NO_UNIT.
+// The search from the literals held, which stay held, s steps being counted: the count with that of all its steps, or none where there is
+// a model. `first` is the unit that is the next move, or NO_UNIT.
 pub fn count(
     version: Version,
     x: &[u16],
@@ -164,7 +157,7 @@ pub fn count(
     cap: usize,
     s: usize,
     first: u32,
-) -> Tally
+) -> Option<usize>
     requires indexed { Indexed x.now n }
     requires goals { Goals n goals.now }
     requires holds { Holds (index_node x.now) n goals.now work.old masks.old }
@@ -175,20 +168,15 @@ pub fn count(
     let told = units(version, x, n, goals, work, masks, cap, s, first);
     let stop = told.stop;
     match stop {
-        Stop::Closed => Tally::Closed(told.count),
-        Stop::Model => Tally::Open,
+        Stop::Closed => Some(told.count),
+        Stop::Model => None,
         Stop::Fork(l) => {
             let held = state::count(work);
             let a = solver::fork(x, n, goals, work, masks, l);
-            let left = count(version, x, n, goals, work, masks, cap, told.count, a);
-            match left {
-                Tally::Open => Tally::Open,
-                Tally::Closed(c) => {
-                    solver::undo_to(x, n, goals, work, masks, held);
-                    let b = solver::fork(x, n, goals, work, masks, clause::negated(l));
-                    count(version, x, n, goals, work, masks, cap, c, b)
-                }
-            }
+            let left = count(version, x, n, goals, work, masks, cap, told.count, a)?;
+            solver::undo_to(x, n, goals, work, masks, held);
+            let b = solver::fork(x, n, goals, work, masks, clause::negated(l));
+            count(version, x, n, goals, work, masks, cap, left, b)
         }
     }
 }

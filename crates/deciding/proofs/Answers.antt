@@ -1,6 +1,7 @@
 -- Where decide ends: at the first row's refusal, or with what the search came to. Assumes nothing.
 use mathlib.Core.Path.{◌≡◌, refl, sym, ap, ◌∙◌}
 use mathlib.Core.List.{List, [], ◌++◌}
+use Rattle.std.specs.Prelude.{Result, Ok, Err}
 use Prim.Native.Nat.{ℕ}
 use native.Mathlib.Omega.{arith}
 use lib.ListN.{length, drop}
@@ -24,8 +25,8 @@ use Rattle.asking.proofs.Models.{all_filled}
 use Rattle.asking.proofs.Nodes.{setting_within}
 use Rattle.meaning.proofs.Decisions.{decide-plain, decide_exact, decide_evaluates}
 use Rattle.deciding.specs.Decides.{can, cannot, word_of, Said, said_of, decided_of, Room, given_by, Solved, Decides}
-use Rattle.deciding.specs.declared.Decided.{Decided}
-use Rattle.deciding.specs.declared.Decided.TheVariants.{Possible, Refused}
+use Rattle.deciding.specs.declared.Decision.{Decision}
+use Rattle.deciding.specs.declared.Decision.TheVariants.{Possible}
 
 -- ---- the contract, where its first three fields hold
 
@@ -39,13 +40,13 @@ word_possible (possible G) e f = f G refl
 word_possible impossible e f = absurd (let z : ◌≡◌ {A = ℕ} 0 1 = cc in omega arith)
 word_possible unfinished e f = absurd (let z : ◌≡◌ {A = ℕ} 0 1 = cc in omega arith)
 
-module _ (t goals s w : List ℕ) (all : Bytes t) (r : Decided) {s' : List ℕ}
+module _ (t goals s w : List ℕ) (all : Bytes t) (r : Result Decision Refusal) {s' : List ℕ}
     (answers : decided_of r ≡ (decide t goals s w >>= λ d. answer (said_of d))) (bytes : s' ≡ settings_after s (decide t goals s w)) where
   -- what was said is what the definition's answer says
   said-by : {said : Said} → decided_of r ≡ answer said → (d : Given) × (decide t goals s w ≡ answer d) × (answer (said_of d) ≡ answer said)
   said-by q = bound (decide t goals s w) (λ d. answer (said_of d)) (sym answers ∙ q)
 
-  satisfies : (n : ℕ) → r ≡ Possible n → All (λ g. evaluate t g s' ≡ answer Yes) goals
+  satisfies : (n : ℕ) → r ≡ Ok (Possible n) → All (λ g. evaluate t g s' ≡ answer Yes) goals
   satisfies n q =
       let b = said-by (ap decided_of q) in
       let z : answer (said_of b.0) ≡ answer (record { word = can; splits = n }) = b.2 in
@@ -54,7 +55,7 @@ module _ (t goals s w : List ℕ) (all : Bytes t) (r : Decided) {s' : List ℕ}
       word_possible b.0.verdict v
       (λ G g. rw (bytes ∙ ap (settings_after s) b.1) (decide_evaluates t goals s w all b.1 g))
 
-  pub decides : {w' : List ℕ} → ((f : Refusal) → r ≡ Refused f → w' ≡ w) → Decides t goals s w s' w' r
+  pub decides : {w' : List ℕ} → ((f : Refusal) → r ≡ Err f → w' ≡ w) → Decides t goals s w s' w' r
   decides kept = record {
     answered = answers;
     settings = bytes;
@@ -96,10 +97,10 @@ module _ (t goals s w : List ℕ) (all : Bytes t) where
   unfolding decide
   refused_by q = rw q
 
-  pub refuses : (f : Refusal) → asked t goals 1024 (length s) (length w) ≡ refused f.number f.place → Decides t goals s w s w (Refused f)
+  pub refuses : (f : Refusal) → asked t goals 1024 (length s) (length w) ≡ refused f.number f.place → Decides t goals s w s w (Err f)
   refuses f q =
       let d = refused_by q in
-      decides t goals s w all (Refused f) (rw d) (rw d) (λ g z. refl)
+      decides t goals s w all (Err f) (rw d) (rw d) (λ g z. refl)
 
   module _ {x : List ℕ} {n : ℕ} (p : Reached (list_row goals) t goals 1024 (length s) (length w) x n) where
     pub roomy : Room x n s w
@@ -109,10 +110,10 @@ module _ (t goals s w : List ℕ) (all : Bytes t) where
     unfolding decide
     ends_on = rw p.answered
 
-    pub ends : {s' w' : List ℕ} (r : Decided) → Solved (index_node x) n goals s s' r → Decides t goals s w s' w' r
+    pub ends : {s' w' : List ℕ} (r : Decision) → Solved (index_node x) n goals s s' r → Decides t goals s w s' w' (Ok r)
     ends r h =
         let g = given_in p s in
-        decides t goals s w all r
+        decides t goals s w all (Ok r)
         (h.verdict ∙ ap (λ (d : Given). answer (said_of d)) g ∙ ap (◌>>= λ d. answer (said_of d)) (sym ends_on))
         (h.settings ∙ ap (λ (d : Given). d.settings) g ∙ ap (settings_after s) (sym ends_on))
         (λ f q. refused_no (sym (ap decided_of q) ∙ h.verdict))

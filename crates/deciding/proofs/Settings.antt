@@ -8,8 +8,9 @@ use native.Mathlib.Numerals.{add-one}
 use native.Mathlib.Omega.{arith}
 use native.Mathlib.Decide.{ℕ_discrete}
 use lib.Dec.{eqb}
-use lib.ListN.{length, get_or, set, take, drop, length-set, take-append-drop}
+use lib.ListN.{length, get_or, set, take, drop, replicate, length-set, length-append, length-drop, length-replicate, get_or-append, get_or-replicate, take-append-drop}
 use lib.Seq.{get_or-set_same, get_or-set_other, drop-set-lt, get_or-take, ext_get_or, length-take-le}
+use Rattle.std.proofs.lemmas.Slice.{drop-append-drop}
 use borrow.Author.Tests.{eq-eqb, ne_eqb, eqb-true}
 use Rattle.scope.specs.declared.Node.{Node}
 use Rattle.scope.specs.Table.{list_from}
@@ -27,19 +28,18 @@ use Rattle.deciding.specs.Setting.{Cleared, Points, point_set}
 
 -- ---- all points either way
 
-pub cleared_none : (s : List ℕ) → Cleared s 0 s
-cleared_none s = record { size = refl; either = λ p h. absurd (omega arith); beyond = refl }
-
-pub cleared_more : {s : List ℕ} {k : ℕ} {s' : List ℕ} → 1024 ≤ length s → k < 1024 → Cleared s k s' → Cleared s (k + 1) (set s' k 2)
-cleared_more {s} {k} {s'} r h c = record {
-  size = length-set s' k 2 ∙ c.size;
-  either = λ p l. go p l (ℕ_discrete p k);
-  beyond = drop-set-lt 1024 s' k 2 h ∙ c.beyond;
+pub cleared_filled : {s front : List ℕ} → 1024 ≤ length s → front ≡ replicate (length (take 1024 s)) 2 → Cleared s 1024 (front ++ drop 1024 s)
+cleared_filled {s} {front} h e = record {
+  size = omega (arith, whole, length-append front (drop 1024 s), length-drop 1024 s);
+  either = λ p l.
+      get_or-append front (drop 1024 s) 0 p (omega (arith, whole))
+      ∙ ap (λ (f : List ℕ). get_or f p 0) e
+      ∙ get_or-replicate (length (take 1024 s)) p 2 0 (omega (arith, length-take-le 1024 s h));
+  beyond = drop-append-drop 1024 s front 1024 (omega arith) whole;
 }
   where
-    go : (p : ℕ) → p < k + 1 → Dec (p ≡ k) → get_or (set s' k 2) p 0 ≡ 2
-    go p l (yes e) = rw e (get_or-set_same s' k 2 0 (omega (arith, c.size)))
-    go p l (no e) = get_or-set_other s' k p 2 0 e ∙ c.either p (omega arith)
+    whole : length front ≡ 1024
+    whole = ap length e ∙ length-replicate (length (take 1024 s)) 2 ∙ length-take-le 1024 s h
 
 -- ---- literal by literal
 

@@ -16,7 +16,7 @@ use Rattle.searching.specs.Jumps.{made_by, found_by, Counted}
 use Rattle.searching.specs.declared.Ended.{Ended}
 use Rattle.searching.specs.declared.Ended.TheVariants.{Model, Closed}
 use Rattle.deciding.specs.Decides.{Said, word_of, Solved}
-use Rattle.deciding.specs.declared.Decided.TheVariants.{Possible, Impossible}
+use Rattle.deciding.specs.declared.Decision.TheVariants.{Possible, Impossible}
 
 module _ {t : ℕ → Node} {n : ℕ} {goals w : List ℕ} {r : Ended} (f : Counted t n goals w r) (s : List ℕ) where
   -- the answer and the splits, of either case

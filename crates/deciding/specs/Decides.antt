@@ -1,9 +1,9 @@
 -- What decide does: the answer of the definition `decide`, its settings, and what the answer means. Assumes nothing.
-use Rattle.std.specs.Prelude.{◌≡◌, true, List, [], ℕ, ◌<◌, ◌≤◌, length}
+use Rattle.std.specs.Prelude.{◌≡◌, true, List, [], ℕ, ◌<◌, ◌≤◌, length, Result, Ok, Err}
 use Rattle.scope.specs.declared.Node.{Node}
 use Rattle.scope.specs.declared.Refusal.{Refusal}
 use Rattle.scope.specs.declared.Truth.TheVariants.{Yes}
-use Rattle.scope.specs.Outcome.{Outcome, answer, refused, ◌>>=◌}
+use Rattle.scope.specs.Outcome.{Outcome, answer, outcome_by, ◌>>=◌}
 use Rattle.scope.specs.Table.{list_from, decode}
 use Rattle.scope.specs.Truth.{truth}
 use Rattle.scope.specs.Kleene.{Fills}
@@ -14,8 +14,8 @@ use Rattle.calculus.specs.Model.{All}
 use Rattle.calculus.specs.Jump.{jump, end_answer}
 use Rattle.calculus.specs.Decide.{Decided as Given, decided_by, plainly, AsPlain, decide, settings_after, Unsatisfiable, ◌⇔◌}
 use Rattle.index.specs.Index.{index_node}
-use Rattle.deciding.specs.declared.Decided.{Decided}
-use Rattle.deciding.specs.declared.Decided.TheVariants.{Possible, Impossible, Refused}
+use Rattle.deciding.specs.declared.Decision.{Decision}
+use Rattle.deciding.specs.declared.Decision.TheVariants.{Possible, Impossible}
 
 -- what is said of goals
 pub data Word : Type 0 where
@@ -38,11 +38,14 @@ pub record Said : Type 0 where
 abbrev pub said_of : Given → Said
 said_of d = record { word = word_of d.verdict; splits = d.splits }
 
--- the number and the values of every case of a `Decided`
-abbrev pub decided_of : Decided → Outcome Said
-decided_of (Possible n) = answer (record { word = can; splits = n })
-decided_of (Impossible n) = answer (record { word = cannot; splits = n })
-decided_of (Refused r) = refused r.number r.place
+-- what a `Decision` says
+abbrev pub decision_said : Decision → Said
+decision_said (Possible n) = record { word = can; splits = n }
+decision_said (Impossible n) = record { word = cannot; splits = n }
+
+-- the number and the values of every case of decide's answer
+abbrev pub decided_of : Result Decision Refusal → Outcome Said
+decided_of = outcome_by decision_said
 
 -- a point for each ATOM of the index, a byte for each point, and a whole work area
 pub record Room (x : List ℕ) (n : ℕ) (s w : List ℕ) : Type 0 where
@@ -57,23 +60,23 @@ given_by t n goals s =
     decided_by (list_from t 0 n) s (end_answer j.end) j.splits
 
 -- the answer and the settings are those of the search
-pub record Solved (t : ℕ → Node) (n : ℕ) (goals s s' : List ℕ) (r : Decided) : Type 0 where
-  pub verdict : decided_of r ≡ answer (said_of (given_by t n goals s))
+pub record Solved (t : ℕ → Node) (n : ℕ) (goals s s' : List ℕ) (r : Decision) : Type 0 where
+  pub verdict : decided_of (Ok r) ≡ answer (said_of (given_by t n goals s))
   pub settings : s' ≡ (given_by t n goals s).settings
 
 -- Decide, of the table t, a list of goals, and the settings s and the work area w, which it leaves as s' and w'
-pub record Decides (t goals s w s' w' : List ℕ) (r : Decided) : Type 0 where
+pub record Decides (t goals s w s' w' : List ℕ) (r : Result Decision Refusal) : Type 0 where
   -- the answer is that of the solver's order, jumping over splits, with the splits made; or the first row's that refuses
   pub answered : decided_of r ≡ (decide t goals s w >>= λ d. answer (said_of d))
   -- the settings bytes: 'Decide writes the settings only when possible'
   pub settings : s' ≡ settings_after s (decide t goals s w)
   -- a refusal leaves the work area as it was
-  pub work : (f : Refusal) → r ≡ Refused f → w' ≡ w
+  pub work : (f : Refusal) → r ≡ Err f → w' ≡ w
   -- 'Verdict and settings equal those of the plain order on every input'; the splits are 'never more than the plain order makes'
   pub plain : (d : Given) → decide t goals s w ≡ answer d → (rs : List Node) × (decode t ≡ answer rs) × AsPlain d (plainly rs goals s)
   -- impossible is said exactly when no setting makes all goals true (demand 3)
   pub exact : (said : Said) → decided_of r ≡ answer said → (said.word ≡ cannot) ⇔ Unsatisfiable t goals
   -- possible: evaluate of the settings that were written answers yes of each goal (demand 3)
-  pub satisfied : (n : ℕ) → r ≡ Possible n → All (λ g. evaluate t g s' ≡ answer Yes) goals
+  pub satisfied : (n : ℕ) → r ≡ Ok (Possible n) → All (λ g. evaluate t g s' ≡ answer Yes) goals
   -- .. 'for every way of filling the 2s'
-  pub filled : (n : ℕ) → r ≡ Possible n → (rs : List Node) → decode t ≡ answer rs → (f : List ℕ) → Fills s' f → All (λ g. truth f rs g ≡ true) goals
+  pub filled : (n : ℕ) → r ≡ Ok (Possible n) → (rs : List Node) → decode t ≡ answer rs → (f : List ℕ) → Fills s' f → All (λ g. truth f rs g ≡ true) goals

@@ -13,14 +13,12 @@ ghost use Rattle.deciding.specs.Decides.{Room, Solved, Decides};
 
 use scope::Refusal;
 use searching::Ended;
-use table::Counted;
 
-// What decide answers.
+// What decide says of goals, with the splits made.
 #[derive(Clone, Copy)]
-pub enum Decided {
+pub enum Decision {
     Possible(u32),
     Impossible(u32),
-    Refused(Refusal),
 }
 
 // One less than the kind of an ATOM, as an index has it.
@@ -31,11 +29,7 @@ fn clear(settings: &mut [u8])
     requires { 1024 ≤ length settings.old }
     ensures { Cleared settings.old 1024 settings.new }
 {
-    let mut p = 0;
-    while p < 1024 {
-        settings[p] = 2;
-        p += 1;
-    }
+    settings[..1024].fill(2);
 }
 
 // The point of a literal's node, if that is an ATOM, is yes where the literal is positive, else no.
@@ -59,11 +53,9 @@ pub fn set_points(x: &[u16], n: usize, work: &[u16], settings: &mut [u8])
 {
     clear(settings);
     let held = state::count(work) as usize;
-    let mut q = 0;
-    while q < held {
+    for q in 0..held {
         let l = state::literal(work, q);
         set_point(x, settings, l);
-        q += 1;
     }
 }
 
@@ -74,7 +66,7 @@ fn solve(
     goals: &[u16],
     settings: &mut [u8],
     work: &mut [u16],
-) -> Decided
+) -> Decision
     requires indexed { Indexed x.now n }
     requires goals { Goals n goals.now }
     requires room { Room x.now n settings.old work.old }
@@ -83,22 +75,24 @@ fn solve(
     state::blank(n, work, 0);
     let found = searching::solve_counted(x, n, goals, work);
     match found {
-        Ended::Closed(splits) => Decided::Impossible(splits),
+        Ended::Closed(splits) => Decision::Impossible(splits),
         Ended::Model(splits) => {
             set_points(x, n, work, settings);
-            Decided::Possible(splits)
+            Decision::Possible(splits)
         }
     }
 }
 
 // Whether one setting makes all goals true; if so, the settings have such a one.
-pub fn decide(t: &[u8], goals: &[u16], settings: &mut [u8], work: &mut [u16]) -> Decided
+pub fn decide(
+    t: &[u8],
+    goals: &[u16],
+    settings: &mut [u8],
+    work: &mut [u16],
+) -> Result<Decision, Refusal>
     ensures { Decides t.now goals.now settings.old work.old settings.new work.new result }
 {
     let mut x = [0u16; 22626];
-    let a = asking::ask_within(t, goals, 1024, settings.len(), work.len(), &mut x);
-    match a {
-        Counted::Refused(r) => Decided::Refused(r),
-        Counted::Nodes(n) => solve(&x, n, goals, settings, work),
-    }
+    let n = asking::ask_within(t, goals, 1024, settings.len(), work.len(), &mut x)?;
+    Ok(solve(&x, n, goals, settings, work))
 }

@@ -3,6 +3,7 @@ use mathlib.Core.Path.{◌≡◌, refl, sym, ap, ◌∙◌}
 use mathlib.Core.List.{List, []}
 use Prim.Native.Nat.{ℕ}
 use lib.ListN.{length}
+use Rattle.std.specs.Prelude.{Result, Ok, Err}
 use Rattle.scope.specs.declared.Refusal.{Refusal}
 use Rattle.scope.specs.Outcome.{Outcome, answer, refused, ◌>>=◌}
 use Rattle.scope.proofs.Tests.{refused_no, bound}
@@ -19,17 +20,15 @@ use Rattle.asking.specs.Within.{Reached}
 use Rattle.asking.proofs.Nodes.{searches_within}
 use Rattle.meaning.proofs.Derivations.{derive-open, derive-never, derived-accepted, derived-published}
 use Rattle.deriver.specs.Derives.{derived_of, produced_by, produced, Produced, Derives}
-use Rattle.deriver.specs.declared.Derived.{Derived}
-use Rattle.deriver.specs.declared.Derived.TheVariants.{Steps, Refused}
 use Rattle.deriver.proofs.Same.{derivation_same}
 
 module _ (v : Version) (t goals w d : List ℕ) (all : Bytes t) where
   -- ---- the contract, where its first three fields hold
 
-  module _ (r : Derived) {d' : List ℕ}
+  module _ (r : Result ℕ Refusal) {d' : List ℕ}
       (answers : derived_of r ≡ (derive v t goals w d >>= λ x. answer x.steps)) (file : d' ≡ derived_after d (derive v t goals w d)) where
     -- a step count is an answer's, and so are the bytes
-    counted : (k : ℕ) → r ≡ Steps k → (x : Given) × (derive v t goals w d ≡ answer x) × (blocks x.steps x.bytes ≡ blocks k d')
+    counted : (k : ℕ) → r ≡ Ok k → (x : Given) × (derive v t goals w d ≡ answer x) × (blocks x.steps x.bytes ≡ blocks k d')
     counted k q =
         let b = bound (derive v t goals w d) (λ x. answer x.steps) (sym answers ∙ ap derived_of q) in
         let s : answer b.0.steps ≡ answer k = b.2 in
@@ -66,10 +65,10 @@ module _ (v : Version) (t goals w d : List ℕ) (all : Bytes t) where
   unfolding derive
   refused_by q = rw q
 
-  pub refuses : (f : Refusal) → asked t goals 0 0 (length w) ≡ refused f.number f.place → Derives v t goals w d w d (Refused f)
+  pub refuses : (f : Refusal) → asked t goals 0 0 (length w) ≡ refused f.number f.place → Derives v t goals w d w d (Err f)
   refuses f q =
       let z = refused_by q in
-      derives (Refused f) (rw z) (rw z) (λ number place a. refl)
+      derives (Err f) (rw z) (rw z) (λ number place a. refl)
 
   module _ {x : List ℕ} {n : ℕ} (p : Reached (list_row goals) t goals 0 0 (length w) x n) where
     -- the steps over the index are those over the nodes
@@ -84,7 +83,7 @@ module _ (v : Version) (t goals w d : List ℕ) (all : Bytes t) where
         (ap (λ (s : Tree). produced_by v s (derivation_of v p.nodes goals) d) (sym (searches_within p goals p.below p.alike))
         ∙ ap (λ (ss : List Step). produced_by v (tree (expand (index_node x)) goals n []) ss d) (sym steps-in))
 
-    pub ends : {w' d' : List ℕ} (r : Derived) → Produced v (index_node x) n goals d d' r → Derives v t goals w d w' d' r
+    pub ends : {w' d' : List ℕ} (r : Result ℕ Refusal) → Produced v (index_node x) n goals d d' r → Derives v t goals w d w' d' r
     ends r h =
         derives r
         (h.answered ∙ ap (◌>>= λ x. answer x.steps) (sym ends_on))

@@ -6,6 +6,7 @@ use native.Mathlib.Omega.{arith}
 use native.Mathlib.Decide.{dec_lt}
 use lib.ListN.{length, length-append, length-map}
 use borrow.Author.Tests.{le-leb, lt-leb}
+use Rattle.std.specs.Prelude.{Option, None, Some, Ok, Err}
 use Rattle.scope.specs.declared.Node.{Node}
 use Rattle.scope.specs.Outcome.{answer, refused}
 use Rattle.calculus.specs.Expansion.{expand}
@@ -18,12 +19,9 @@ use Rattle.steps.proofs.Encode.{length-encode_steps}
 use Rattle.state.specs.Work.{g_of}
 use Rattle.searching.specs.Search.{found_of}
 use Rattle.counting.specs.Count.{at_most, steps_from, found_by, Tallied}
-use Rattle.counting.specs.declared.Tally.{Tally}
-use Rattle.counting.specs.declared.Tally.TheVariants.{Open, Closed as Shut}
 use Rattle.calculus.proofs.Limits.{most_under, most_over, most_low}
 use Rattle.emitting.specs.Trace.{Fits, written}
 use Rattle.deriver.specs.Derives.{given, row31, produced, Produced}
-use Rattle.deriver.specs.declared.Derived.TheVariants.{Steps, Refused}
 
 -- ---- how many steps fit
 
@@ -80,23 +78,24 @@ module _ (v : Version) (t : ℕ → Node) (n : ℕ) (goals d : List ℕ) where
       ap (λ (F : List ℕ). tree (expand t) goals (n - length F) F) z ∙ ap (λ (k : ℕ). tree (expand t) goals k []) n0
 
   steps_none : (G : List ℕ) → G ≡ [] → steps_from v t n goals G ≡ steps
-  steps_none G z = ap (λ (F : List ℕ). steps_of v (expand t) goals F (tree (expand t) goals (n - length G) G)) z ∙ ap (steps_of v (expand t) goals []) (from-none G z)
+  steps_none G z = ap (λ (F : List ℕ). steps_of v (expand t) goals F (tree (expand t) goals (n - length G) G)) z
+      ∙ ap (steps_of v (expand t) goals []) (from-none G z)
 
-  refusal : {number : ℕ} → produced v t n goals d ≡ refused number 0 → Produced v t n goals d d (Refused (record { number = number; place = 0 }))
+  refusal : {number : ℕ} → produced v t n goals d ≡ refused number 0 → Produced v t n goals d d (Err (record { number = number; place = 0 }))
   refusal e = record { answered = rw e; bytes = rw e }
 
-  module _ {w₁ w₂ m₂ : List ℕ} {most : ℕ} {r : Tally} (z : g_of w₁ ≡ []) (m : most ≡ 126 * min (length d / 512) 65536)
+  module _ {w₁ w₂ m₂ : List ℕ} {most : ℕ} {r : Option ℕ} (z : g_of w₁ ≡ []) (m : most ≡ 126 * min (length d / 512) 65536)
       (c : Tallied v t n goals w₁ w₂ m₂ (most + 1) 0 r) where
     -- what the count found is what the search ends on
     found : found_of (found_by r) (g_of w₂) ≡ answer_of whole
     found = c.searched.answered ∙ ap answer_of (from-none (g_of w₁) z)
 
-    pub produced-open : r ≡ Open → Produced v t n goals d d (Refused (record { number = 30; place = 0 }))
+    pub produced-open : r ≡ None → Produced v t n goals d d (Err (record { number = 30; place = 0 }))
     produced-open e =
         let v : possible (g_of w₂) ≡ answer_of whole = rw e at found in
         refusal (rw (← v))
 
-    module _ {k : ℕ} (e : r ≡ Shut k) where
+    module _ {k : ℕ} (e : r ≡ Some k) where
       none : impossible ≡ answer_of whole
       none = rw e at found
 
@@ -107,7 +106,7 @@ module _ (v : Version) (t : ℕ → Node) (n : ℕ) (goals d : List ℕ) where
       pub count_low : k ≤ most + 1
       count_low = omega (arith, number, most_low (most + 1) (0 + length steps))
 
-      pub produced-over : most < length goals + k → Produced v t n goals d d (Refused (record { number = 31; place = 0 }))
+      pub produced-over : most < length goals + k → Produced v t n goals d d (Err (record { number = 31; place = 0 }))
       produced-over h = refusal (rw (← none) (row_over v named d (omega (arith, named-length, count-over most (length goals) _ k number h))))
 
       -- the steps fit, and the search starts again
@@ -125,7 +124,8 @@ module _ (v : Version) (t : ℕ → Node) (n : ℕ) (goals d : List ℕ) where
         answers : produced v t n goals d ≡ answer (given v named d)
         answers = rw (← none) (row_fits v named d (omega (arith, named-length, exact, h, m)))
 
-        pub produced-steps : {d' : List ℕ} → d' ≡ written v (map name goals ++ steps_from v t n goals (g_of w₃)) d → Produced v t n goals d d' (Steps (length goals + k))
+        pub produced-steps : {d' : List ℕ} → d' ≡ written v (map name goals ++ steps_from v t n goals (g_of w₃)) d
+            → Produced v t n goals d d' (Ok (length goals + k))
         produced-steps q = record {
           answered = rw answers (ap answer (ap (length goals +◌) exact ∙ sym named-length));
           bytes = rw answers (q ∙ ap (λ (ss : List Step). written v (map name goals ++ ss) d) (steps_none (g_of w₃) y));

@@ -27,11 +27,10 @@ use Rattle.searching.specs.Search.{result, Extends}
 use Rattle.searching.proofs.Searches.{extends_self, extends_more, result-done, result-unit, Forked, fork_grows, fork_result}
 use Rattle.counting.specs.Count.{steps_from}
 use Rattle.emitting.specs.Trace.{left, Due, Stepped, Emitted, Fits}
-use Rattle.emitting.specs.declared.Turn.{Turn}
-use Rattle.emitting.specs.declared.Turn.TheVariants.{Closed, Fork}
+use Rattle.std.specs.Prelude.{Option, None, Some}
 use Rattle.emitting.proofs.Steps.{steps_conflict, steps-unit, steps-split}
 
-closed_fork : {P : Type 0} {l : ℕ} → ◌≡◌ {A = Turn} Closed (Fork l) → P
+closed_fork : {P : Type 0} {l : ℕ} → ◌≡◌ {A = Option ℕ} None (Some l) → P
 closed_fork e = absurd (let z : ◌≡◌ {A = ℕ} 0 1 = cc in omega arith)
 
 -- ---- steps that are due
@@ -103,7 +102,7 @@ module _ {v : Version} {t : ℕ → Node} {n : ℕ} {goals w m w' m' out out' : 
     conflict-space = space-less (omega (arith, ap length conflict-steps, length-append (removed v (expand t) goals (g_of w') k) (C k ∷ []))) r.due.space
 
     pub run_conflict : {out₂ : List ℕ} {g₂ : Writer} → Pushed (removed v (expand t) goals (g_of w') k ++ C k ∷ []) out' g' out₂ g₂
-        → Stepped v t n goals w w' m' out out₂ g g₂ Closed
+        → Stepped v t n goals w w' m' out out₂ g g₂ None
     run_conflict p = record {
       holds = r.holds;
       grows = r.grows;
@@ -160,34 +159,34 @@ module _ {v : Version} {t : ℕ → Node} {n : ℕ} {goals w m w' m' out out' : 
           let good = r.holds.ready.trail.good in
           room n (g_of w') l good (split-fresh n t goals T B (g_of w') good l e)
 
-      split_steps : steps_from v t n goals (g_of w') ≡ (S l ∷ []) ++ left v t n goals (g_of w') (Fork l)
+      split_steps : steps_from v t n goals (g_of w') ≡ (S l ∷ []) ++ left v t n goals (g_of w') (Some l)
       split_steps = steps-split v t goals (g_of w') n split-room e
 
       pub split-space : Space 1 out' g'
-      split-space = space-first (S l ∷ []) (left v t n goals (g_of w') (Fork l)) split_steps r.due.space
+      split-space = space-first (S l ∷ []) (left v t n goals (g_of w') (Some l)) split_steps r.due.space
 
-      pub run_split : {out₂ : List ℕ} {g₂ : Writer} → Pushed (S l ∷ []) out' g' out₂ g₂ → Stepped v t n goals w w' m' out out₂ g g₂ (Fork l)
+      pub run_split : {out₂ : List ℕ} {g₂ : Writer} → Pushed (S l ∷ []) out' g' out₂ g₂ → Stepped v t n goals w w' m' out out₂ g g₂ (Some l)
       run_split p = record {
         holds = r.holds;
         grows = r.grows;
         steps = r.steps ++ S l ∷ [];
         pushed = pushed_on r.pushed p;
-        whole = more_whole (S l ∷ []) (left v t n goals (g_of w') (Fork l)) split_steps;
+        whole = more_whole (S l ∷ []) (left v t n goals (g_of w') (Some l)) split_steps;
         closes = r.due.closes;
         forks = λ k q. let z : l ≡ k = cc in e ∙ ap Split z;
       }
 
 -- ---- the recursion
 
-module _ {v : Version} {t : ℕ → Node} {n : ℕ} {goals w w₁ m₁ out out₁ : List ℕ} {g g₁ : Writer} {turn : Turn} (s : Stepped v t n goals w w₁ m₁ out out₁ g g₁ turn) where
+module _ {v : Version} {t : ℕ → Node} {n : ℕ} {goals w w₁ m₁ out out₁ : List ℕ} {g g₁ : Writer} {split : Option ℕ} (s : Stepped v t n goals w w₁ m₁ out out₁ g g₁ split) where
   -- a phase that ends on a conflict has pushed all steps
-  pub emitted_closed : turn ≡ Closed → Emitted v t n goals w w₁ m₁ out out₁ g g₁
+  pub emitted_closed : split ≡ None → Emitted v t n goals w w₁ m₁ out out₁ g g₁
   emitted_closed e =
       let z : s.steps ≡ steps_from v t n goals (g_of w) = sym (append-nil s.steps) ∙ rw e at s.whole in
       record { holds = s.holds; grows = s.grows; pushed = rw (← z) s.pushed }
 
   -- or it ends on a split
-  module _ (T : Table n t) (B : Below n goals) {l : ℕ} (e : turn ≡ Fork l) where
+  module _ (T : Table n t) (B : Below n goals) {l : ℕ} (e : split ≡ Some l) where
     pub forked : Forked t n goals (g_of w) (g_of w₁) l
     forked = record { table = T; below = B; good = s.holds.ready.trail.good; grows = s.grows; splits = s.forks l e }
 

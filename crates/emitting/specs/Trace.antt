@@ -1,5 +1,5 @@
 -- What the functions of the writing pass leave: the literals held, and the steps that were pushed. Assumes nothing.
-use Rattle.std.specs.Prelude.{◌≡◌, cond, List, [], ◌∷◌, ◌++◌, ℕ, ◌+◌, ◌*◌, ◌/◌, ◌≤◌, length, drop}
+use Rattle.std.specs.Prelude.{◌≡◌, cond, Option, None, Some, List, [], ◌∷◌, ◌++◌, ℕ, ◌+◌, ◌*◌, ◌/◌, ◌≤◌, length, drop}
 use Rattle.scope.specs.declared.Node.{Node}
 use Rattle.calculus.specs.Expansion.{neg, expand}
 use Rattle.calculus.specs.Order.{value_of, move, impossible}
@@ -15,8 +15,6 @@ use Rattle.gather.specs.declared.Writer.{Writer}
 use Rattle.gather.specs.Kept.{positions, removals_at, Space, Pushed}
 use Rattle.searching.specs.Search.{result, Extends}
 use Rattle.counting.specs.Count.{steps_from}
-use Rattle.emitting.specs.declared.Turn.{Turn}
-use Rattle.emitting.specs.declared.Turn.TheVariants.{Closed, Fork}
 
 -- whether a literal is false, as a bit; and those of a clause's literals, the first lowest
 abbrev pub false_bit : List ℕ → ℕ → ℕ
@@ -35,20 +33,20 @@ pub record Due (v : Version) (t : ℕ → Node) (n : ℕ) (goals G out : List �
   pub closes : result t n goals G ≡ impossible
   pub space : Space (length (steps_from v t n goals G)) out g
 
--- the steps that are left where a phase ends
-abbrev pub left : Version → (ℕ → Node) → ℕ → List ℕ → List ℕ → Turn → List Step
-left v t n goals G Closed = []
-left v t n goals G (Fork l) = steps_from v t n goals (l ∷ G) ++ steps_from v t n goals (neg l ∷ G)
+-- the steps that are left where a phase ends: none after a conflict
+abbrev pub left : Version → (ℕ → Node) → ℕ → List ℕ → List ℕ → Option ℕ → List Step
+left v t n goals G None = []
+left v t n goals G (Some l) = steps_from v t n goals (l ∷ G) ++ steps_from v t n goals (neg l ∷ G)
 
 -- a phase is done: the units have joined, up to a conflict or a split, and the steps so far were pushed
-pub record Stepped (v : Version) (t : ℕ → Node) (n : ℕ) (goals w w' m' out out' : List ℕ) (g g' : Writer) (turn : Turn) : Type 0 where
+pub record Stepped (v : Version) (t : ℕ → Node) (n : ℕ) (goals w w' m' out out' : List ℕ) (g g' : Writer) (split : Option ℕ) : Type 0 where
   pub holds : Holds t n goals w' m'
   pub grows : Extends (g_of w) (g_of w')
   pub steps : List Step
   pub pushed : Pushed steps out g out' g'
-  pub whole : steps ++ left v t n goals (g_of w') turn ≡ steps_from v t n goals (g_of w)
+  pub whole : steps ++ left v t n goals (g_of w') split ≡ steps_from v t n goals (g_of w)
   pub closes : result t n goals (g_of w') ≡ impossible
-  pub forks : (l : ℕ) → turn ≡ Fork l → move (expand t) goals (g_of w') ≡ Split l
+  pub forks : (l : ℕ) → split ≡ Some l → move (expand t) goals (g_of w') ≡ Split l
 
 -- a search is done: its steps were pushed, and the literals of the start are still held
 pub record Emitted (v : Version) (t : ℕ → Node) (n : ℕ) (goals w w' m' out out' : List ℕ) (g g' : Writer) : Type 0 where

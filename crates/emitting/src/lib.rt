@@ -28,17 +28,10 @@ use rules::{Step, Version};
 // No unit is the next move.
 const NO_UNIT: u32 = 4294967295;
 
-// Where a phase ends: at a conflict, or at a split on a literal.
-#[derive(Clone, Copy)]
-pub enum Turn {
-    Closed,
-    Fork(u16),
-}
-
-// Where a phase ends, and the counts there.
+// Where a phase ends: at a split on a literal, or at a conflict, and the counts there.
 #[derive(Clone, Copy)]
 pub struct Told {
-    pub turn: Turn,
+    pub split: Option<u16>,
     pub at: At,
 }
 
@@ -150,7 +143,7 @@ fn phase(
     requires holds { Holds (index_node x.now) n goals.now work.old masks.old }
     requires due { Due version (index_node x.now) n goals.now (g_of work.old) out.old (lent block.old start) }
     requires picks { Picks work.old masks.old first }
-    ensures { Stepped version (index_node x.now) n goals.now work.old work.new masks.new out.old out.new (lent block.old start) (lent block.new result.at) result.turn }
+    ensures { Stepped version (index_node x.now) n goals.now work.old work.new masks.new out.old out.new (lent block.old start) (lent block.new result.at) result.split }
 {
     let mut at = start;
     let mut u = first;
@@ -165,10 +158,7 @@ fn phase(
             match m {
                 Move::Conflict(k) => {
                     at = on_clause(version, forms, x, n, goals, work, out, block, at, 67, k);
-                    return Told {
-                        turn: Turn::Closed,
-                        at,
-                    };
+                    return Told { split: None, at };
                 }
                 Move::Unit(k, l) => {
                     at = on_clause(version, forms, x, n, goals, work, out, block, at, 85, k);
@@ -176,17 +166,11 @@ fn phase(
                     u = moves::pick(work, masks);
                 }
                 Move::Done => {
-                    return Told {
-                        turn: Turn::Closed,
-                        at,
-                    };
+                    return Told { split: None, at };
                 }
                 Move::Split(l) => {
                     at = on_split(out, block, at, l);
-                    return Told {
-                        turn: Turn::Fork(l),
-                        at,
-                    };
+                    return Told { split: Some(l), at };
                 }
             }
         }
@@ -217,19 +201,17 @@ fn emit(
     ensures { Emitted version (index_node x.now) n goals.now work.old work.new masks.new out.old out.new (lent block.old at) (lent block.new result) }
 {
     let a = phase(version, forms, x, n, goals, work, masks, out, block, at, u);
-    let turn = a.turn;
-    let p = a.at;
-    match turn {
-        Turn::Closed => p,
-        Turn::Fork(l) => {
-            let held = state::count(work);
-            let v = solver::fork(x, n, goals, work, masks, l);
-            let b = emit(version, forms, x, n, goals, work, masks, out, block, p, v);
-            solver::undo_to(x, n, goals, work, masks, held);
-            let w = solver::fork(x, n, goals, work, masks, clause::negated(l));
-            emit(version, forms, x, n, goals, work, masks, out, block, b, w)
-        }
-    }
+    let Some(l) = a.split else {
+        return a.at;
+    };
+    let held = state::count(work);
+    let v = solver::fork(x, n, goals, work, masks, l);
+    let b = emit(
+        version, forms, x, n, goals, work, masks, out, block, a.at, v,
+    );
+    solver::undo_to(x, n, goals, work, masks, held);
+    let w = solver::fork(x, n, goals, work, masks, clause::negated(l));
+    emit(version, forms, x, n, goals, work, masks, out, block, b, w)
 }
 
 // The same by a writer, whose block is lent.

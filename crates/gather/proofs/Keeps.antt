@@ -1,11 +1,10 @@
 -- What one step more, and the last block, do to the bytes of steps. Assumes nothing.
 use mathlib.Core.Path.{◌≡◌, ◌∙◌, ap, sym}
 use mathlib.Core.List.{List, [], ◌∷◌, ◌++◌, append_assoc, append-nil, flat_map}
-use Prim.Native.Nat.{ℕ, suc, ◌+◌, ◌-◌, ◌*◌, ◌/◌, ◌%◌, ◌<◌, ◌≤◌}
+use Prim.Native.Nat.{ℕ, ◌+◌, ◌-◌, ◌*◌, ◌/◌, ◌%◌, ◌<◌, ◌≤◌}
 use native.Mathlib.Omega.{arith}
-use native.Mathlib.Numerals.{add-one}
-use lib.ListN.{length, set, take, drop, length-append, length-drop}
-use lib.Seq.{sets-eq, take_at, take-append-le, drop-append-le, drop-append-add, drop-drop, length-take-le}
+use lib.ListN.{length, take, drop, length-append, length-drop}
+use lib.Seq.{take_at, take-append-le, drop-append-le, drop-append-add, drop-drop, length-take-le}
 use borrow.Rule.Slice.PartMut.{mid_of, put_mid}
 use Rattle.scope.specs.Block.{block_of, file_of}
 use Rattle.codec.specs.Valid.{front, rest}
@@ -32,13 +31,11 @@ file letter ss = file_of (lettered letter) step_bytes ss
 
 -- ---- one step more
 
--- four bytes are stored, one after another
-pub four-stored : (block : List ℕ) (at a b c d : ℕ) → at + 4 ≤ length block
-    → set (set (set (set block at a) (at + 1) b) (at + 2) c) (at + 3) d ≡ take at block ++ (a ∷ b ∷ c ∷ d ∷ []) ++ drop (at + 4) block
-four-stored block at a b c d h =
-    let two : at + 2 ≡ suc (suc at) = omega arith in
-    let three : at + 3 ≡ suc (suc (suc at)) = omega arith in
-    rw (add-one, two, three) (sets-eq (a ∷ b ∷ c ∷ d ∷ []) block at h)
+-- four bytes are copied to their place
+pub four_copied : (block bytes : List ℕ) (at : ℕ) → put_mid at (at + 4 - at) block bytes ≡ take at block ++ bytes ++ drop (at + 4) block
+four_copied block bytes at =
+    let z : at + 4 - at ≡ 4 = omega arith in
+    simp (z, append_assoc, drop-drop)
 
 -- .. which four bytes behind k steps of a block hold
 pub body_more : (block bytes : List ℕ) (k : ℕ) → length block ≡ 512 → k < 126 → length bytes ≡ 4
@@ -102,12 +99,14 @@ block_back letter out block count index h e =
     let n : 4 + 4 * count - 4 ≡ 4 * count = omega arith in
     part_back out (block_of letter count index (mid_of 4 (4 + 4 * count - 4) block)) (512 * index) 512 (omega arith) e ∙ rw (n, z)
 
-module _ (letter : ℕ) (ss : List Step) (d : List ℕ) (block : List ℕ) {out : List ℕ} {b : ℕ} (e : out ≡ fulls letter ss ++ drop (512 * b) d) (k : b ≡ length ss / 126) where
+module _ (letter : ℕ) (ss : List Step) (d : List ℕ) (block : List ℕ) {out : List ℕ} {b : ℕ}
+    (e : out ≡ fulls letter ss ++ drop (512 * b) d) (k : b ≡ length ss / 126) where
   pub behind : take (512 * b) out ++ (block ++ drop (512 * (b + 1)) out) ≡ (fulls letter ss ++ block) ++ drop (512 * (b + 1)) d
   behind =
       let n : length (fulls letter ss) ≡ 512 * b = length_front (lettered letter) (fits letter) step_bytes length-step ss ∙ ap (512 *◌) (sym k) in
       let z : 512 * (b + 1) ≡ 512 * b + 512 = omega arith in
-      let q : drop (512 * b + 512) (fulls letter ss ++ drop (512 * b) d) ≡ drop 512 (drop (512 * b) d) = ap (λ (k : ℕ). drop (k + 512) (fulls letter ss ++ drop (512 * b) d)) (sym n) ∙ drop-append-add (fulls letter ss) (drop (512 * b) d) 512 in
+      let q : drop (512 * b + 512) (fulls letter ss ++ drop (512 * b) d) ≡ drop 512 (drop (512 * b) d) =
+      ap (λ (k : ℕ). drop (k + 512) (fulls letter ss ++ drop (512 * b) d)) (sym n) ∙ drop-append-add (fulls letter ss) (drop (512 * b) d) 512 in
       rw (e, z, take_at (fulls letter ss) (drop (512 * b) d) (512 * b) n, q, drop-drop, append_assoc)
 
 -- ---- all steps
@@ -117,7 +116,8 @@ module _ (letter : ℕ) (ss : List Step) where
   length_file = length-file_of (lettered letter) (fits letter) step_bytes length-step ss
 
   pub encode_partial : 0 < length ss % 126
-      → (file letter ss ≡ fulls letter ss ++ block_of letter (length ss % 126) (length ss / 126) (others letter ss)) × (length (file letter ss) ≡ 512 * (length ss / 126 + 1))
+      → (file letter ss ≡ fulls letter ss ++ block_of letter (length ss % 126) (length ss / 126) (others letter ss))
+      × (length (file letter ss) ≡ 512 * (length ss / 126 + 1))
   encode_partial h = (last_block (lettered letter) (fits letter) step_bytes length-step ss h, omega (arith, length_file))
 
   pub encode_full : length ss % 126 ≡ 0 → (file letter ss ≡ fulls letter ss) × (length (file letter ss) ≡ 512 * (length ss / 126))

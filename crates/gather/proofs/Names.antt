@@ -1,5 +1,5 @@
 -- The steps that name the goals, pushed one after another. Assumes nothing.
-use mathlib.Core.Path.{◌≡◌, refl, sym, ap, ◌∙◌, subst}
+use mathlib.Core.Path.{◌≡◌, sym, ap, ◌∙◌, subst}
 use mathlib.Core.List.{List, [], ◌∷◌, ◌++◌, map, append_assoc, append-nil}
 use Prim.Native.Nat.{ℕ, suc, ◌+◌, ◌<◌, ◌≤◌}
 use native.Mathlib.Omega.{arith}
@@ -8,9 +8,9 @@ use lib.ListN.{length, get_or, drop, drop_of_length-le, length-append, length-ma
 use lib.Seq.{drop-cons}
 use Rattle.rules.specs.declared.Step.{Step}
 use Rattle.rules.specs.Steps.{G as name}
-use Rattle.gather.specs.Kept.{Gathers, Space, Pushed}
+use Rattle.gather.specs.Kept.{Space, Pushed}
 use Rattle.gather.specs.declared.Writer.{Writer}
-use Rattle.gather.proofs.Pushes.{pushed_none, pushed_on, space-less, space-left}
+use Rattle.gather.proofs.Pushes.{pushed_on, space-less, space-left}
 
 -- the names of the goals before i were pushed
 pub record Naming (goals out₀ : List ℕ) (w₀ : Writer) (out : List ℕ) (w : Writer) (i : ℕ) : Type 0 where
@@ -18,9 +18,6 @@ pub record Naming (goals out₀ : List ℕ) (w₀ : Writer) (out : List ℕ) (w 
   pub pushed : Pushed done out₀ w₀ out w
   pub whole : done ++ map name (drop i goals) ≡ map name goals
   pub room : i ≤ length goals
-
-pub naming_starts : (goals out : List ℕ) (w : Writer) → Gathers w → Naming goals out w out w 0
-naming_starts goals out w g = record { done = []; pushed = pushed_none out w g; whole = refl; room = omega arith }
 
 module _ {goals out₀ : List ℕ} {w₀ : Writer} {out : List ℕ} {w : Writer} {i : ℕ} (n : Naming goals out₀ w₀ out w i) where
   module _ (s : Space (length goals) out₀ w₀) (h : i < length goals) where

@@ -8,9 +8,9 @@ use lib.ListN.{length, length-append}
 use borrow.Author.Tests.{eq-eqb, ne_eqb}
 use Rattle.rules.specs.declared.Step.{Step}
 use Rattle.rules.specs.Steps.{R, step}
-use Rattle.gather.specs.Kept.{positions, removal_if, removals_at, Gathers, Space, Pushed}
+use Rattle.gather.specs.Kept.{positions, removal_if, removals_at, Space, Pushed}
 use Rattle.gather.specs.declared.Writer.{Writer}
-use Rattle.gather.proofs.Pushes.{space-less, space-left, pushed_none, pushed_on}
+use Rattle.gather.proofs.Pushes.{space-less, space-left, pushed_on}
 
 -- ---- one position
 
@@ -43,9 +43,6 @@ pub record Removing (k removed : ℕ) (out₀ : List ℕ) (w₀ : Writer) (out :
   pub pushed : Pushed done out₀ w₀ out w
   pub whole : done ++ removals_at (positions - i) k i left ≡ removals_at positions k 0 removed
   pub room : i + left ≤ positions
-
-pub removing_starts : (k removed : ℕ) (out : List ℕ) (w : Writer) → Gathers w → removed ≤ positions → Removing k removed out w out w 0 removed
-removing_starts k removed out w g h = record { done = []; pushed = pushed_none out w g; whole = refl; room = omega arith }
 
 module _ {k removed : ℕ} {out₀ : List ℕ} {w₀ : Writer} {out : List ℕ} {w : Writer} {i left : ℕ} (r : Removing k removed out₀ w₀ out w i left)
     (s : Space (length (removals_at positions k 0 removed) + 1) out₀ w₀) where

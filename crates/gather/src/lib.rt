@@ -31,10 +31,8 @@ fn put(block: &mut [u8; 512], k: usize, s: Step)
     ensures { block.new ≡ take (4 + 4 * k) block.old ++ step_bytes s ++ drop (4 + 4 * k + 4) block.old }
 {
     let at = 4 + 4 * k;
-    block[at] = s.rule;
-    block[at + 1] = s.position;
-    block[at + 2] = (s.value % 256) as u8;
-    block[at + 3] = (s.value / 256) as u8;
+    let [low, high] = s.value.to_le_bytes();
+    block[at..at + 4].copy_from_slice(&[s.rule, s.position, low, high]);
 }
 
 // The steps that gather are written as the block of an index.
@@ -42,24 +40,22 @@ fn flush(out: &mut [u8], block: &[u8], count: usize, index: usize)
     requires { (length block.now ≡ 512) × (count ≤ 126) × (index < 65536) × (512 * (index + 1) ≤ length out.old) }
     ensures { out.new ≡ take (512 * index) out.old ++ (block_of (get_or block.now 0 0) count index (body_of block.now count) ++ drop (512 * (index + 1)) out.old) }
 {
-    let at = 512 * index;
-    let end = 4 + 4 * count;
     writer::write_block(
-        &mut out[at..],
+        &mut out[512 * index..],
         block[0],
         count as u8,
         index as u16,
-        &block[4..end],
+        &block[4..4 + 4 * count],
     );
 }
 
 // One step more, in the block lent: a block that it fills is written.
+#[tactic(auto, using(crate::proofs::Pushes::place_for))]
 pub fn add(out: &mut [u8], block: &mut [u8; 512], at: At, s: Step) -> At
     requires { Space 1 out.old (lent block.old at) }
     ensures { Pushed (s ∷ []) out.old (lent block.old at) out.new (lent block.new result) }
 {
-    let count = at.count;
-    let blocks = at.blocks;
+    let At { count, blocks } = at;
     put(block, count, s);
     if count < 125 {
         return At {
@@ -75,6 +71,7 @@ pub fn add(out: &mut [u8], block: &mut [u8; 512], at: At, s: Step) -> At
 }
 
 // An R for position i of clause k, if a bit says so.
+#[tactic(auto, using(crate::proofs::Removes::removal_some, crate::proofs::Removes::removal_none, crate::proofs::Pushes::pushed_none))]
 fn add_removal(out: &mut [u8], block: &mut [u8; 512], at: At, k: u16, i: u8, bit: u8) -> At
     requires { Space (length (removal_if bit k i)) out.old (lent block.old at) }
     ensures { Pushed (removal_if bit k i) out.old (lent block.old at) out.new (lent block.new result) }
@@ -111,7 +108,7 @@ pub fn add_move(
     let mut left = removed;
     while 0 < left {
         at = add_removal(out, block, at, k, i, left % 2);
-        left = left / 2;
+        left /= 2;
         i += 1;
     }
     add(
@@ -147,30 +144,27 @@ pub fn push_goals(out: &mut [u8], start: Writer, goals: &[u16]) -> Writer
     ensures { Pushed (map name goals.now) out.old start out.new result }
 {
     let mut w = start;
-    let mut i = 0;
-    while i < goals.len() {
+    for goal in goals {
         w = push(
             out,
             w,
             Step {
                 rule: 71,
                 position: 0,
-                value: goals[i],
+                value: *goal,
             },
         );
-        i += 1;
     }
     w
 }
 
 // The steps that still gather are written, if there are any.
+#[tactic(auto, using(crate::proofs::Pushes::place_for))]
 pub fn close(out: &mut [u8], w: Writer)
     requires { Space 0 out.old w }
     ensures { Closed out.old w out.new }
 {
-    let block = w.block;
-    let count = w.count;
-    if 0 < count {
-        flush(out, &block, count, w.blocks);
+    if 0 < w.count {
+        flush(out, &w.block, w.count, w.blocks);
     }
 }

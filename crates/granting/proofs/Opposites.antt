@@ -1,11 +1,12 @@
 -- A list that has a literal and its negation is impossible. Assumes nothing.
 use mathlib.Core.Path.{◌≡◌, refl, ◌∙◌}
-use mathlib.Core.Logic.{◌⊎◌, inl, inr}
 use mathlib.Core.List.{List, [], ◌∷◌, ◌++◌}
-use mathlib.Core.Bool.{Bool, true, false, false≢true, or-false}
+use mathlib.Core.Bool.{Bool, true, false, ◌||◌, false≢true, or-false}
 use Prim.Native.Nat.{ℕ, ◌+◌, ◌<◌, ◌≤◌}
 use native.Mathlib.Omega.{arith}
+use lib.Dec.{eqb}
 use lib.ListN.{length, get_or}
+use borrow.Author.Tests.{eqb-true}
 use Rattle.scope.specs.declared.Node.{Node}
 use Rattle.calculus.specs.Expansion.{neg, expand}
 use Rattle.calculus.specs.Order.{mem, clauses, state_of, met, Answer, possible, impossible, unfinished}
@@ -56,10 +57,10 @@ pub record Looking (q : List ℕ) (l : ℕ) (found : Bool) (j : ℕ) : Type 0 wh
 pub looking_none : (q : List ℕ) (l : ℕ) → Looking q l false 0
 looking_none q l = record { turns = omega arith; seen = λ e. absurd (false≢true e) }
 
-pub looking_more : {q : List ℕ} {l j : ℕ} {found : Bool} → Looking q l found j → {other : ℕ} {r : Bool} → j < length q → other ≡ neg l
-    → (r ≡ true → (found ≡ true) ⊎ (get_or q j 0 ≡ other)) → Looking q l r (j + 1)
-looking_more {q} {l} {j} {found} d {other} {r} h e f = record { turns = omega arith; seen = λ z. go (f z) }
+pub looking_more : {q : List ℕ} {l j : ℕ} {found : Bool} → Looking q l found j → {other : ℕ} → j < length q → other ≡ neg l
+    → Looking q l (found || eqb (get_or q j 0) other) (j + 1)
+looking_more {q} {l} {j} {found} d {other} h e = record { turns = omega arith; seen = go found d.seen }
   where
-    go : (found ≡ true) ⊎ (get_or q j 0 ≡ other) → Opposed q l
-    go (inl y) = d.seen y
-    go (inr y) = (j, h, y ∙ e)
+    go : (b : Bool) → (b ≡ true → Opposed q l) → (b || eqb (get_or q j 0) other) ≡ true → Opposed q l
+    go true f z = f refl
+    go false f z = (j, h, eqb-true (get_or q j 0) other z ∙ e)

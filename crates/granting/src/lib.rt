@@ -2,16 +2,18 @@
 // is stored but the one at hand.
 #![tactic(auto)]
 
-ghost use Rattle.std.specs.Prelude.{◌≡◌, ◌⊎◌, true, false, ◌*◌, ◌<◌, length};
+ghost use Rattle.std.specs.Prelude.{◌≡◌, true, ◌*◌, ◌<◌, length};
+ghost use Rattle.std.proofs.Common.{Continue};
 ghost use Rattle.calculus.specs.Model.{Goals};
 ghost use Rattle.index.specs.Index.{most_nodes};
 ghost use Rattle.index.specs.Indexed.{Indexed};
 ghost use Rattle.state.specs.Work.{Ready};
 ghost use Rattle.rests.specs.Words.{Sets};
 ghost use Rattle.granting.specs.Counts.{choose, Opposed};
-ghost use Rattle.granting.specs.Visits.{Room, Listed, Gathered, Stepped, Refused, Visited, Ended, Grants};
+ghost use Rattle.granting.specs.Visits.{Room, Listed, Gathered, Stepped, Refused, Visited, Grants};
 
 use searching::Found;
+use std::ops::ControlFlow;
 
 // How many subsets of up to 15 wishes there are: a row for each number of wishes, in it a column for each size.
 const COUNTS: [[u16; 16]; 16] = [
@@ -43,17 +45,14 @@ const COUNTS: [[u16; 16]; 16] = [
     ],
 ];
 
-// On the way, with the questions put and the allowance left; or stopped, with the wishes met and the bound.
+// On the way: the questions put, and the allowance left.
 #[derive(Clone, Copy)]
-pub struct Stage {
-    pub stopped: bool,
-    pub met: usize,
-    pub bound: usize,
+pub struct Way {
     pub put: usize,
     pub left: usize,
 }
 
-// What an allowance comes to.
+// What an allowance comes to, where the walk stops.
 #[derive(Clone, Copy)]
 pub struct Grant {
     pub met: usize,
@@ -69,47 +68,36 @@ fn step(
     q: &[u16],
     work: &mut [u16],
     rests: &mut [u64; 4036],
-    st: Stage,
-) -> Stage
+    on: Way,
+) -> ControlFlow<Grant, Way>
     requires indexed { Indexed x.now n }
     requires goals { Goals n q.now }
     requires g_in_bounds { g < length q.now }
     requires ready { Ready n work.old }
-    requires stopped_value { (st.stopped ≡ false) × Room st }
+    requires room { Room on }
     requires sets { Sets rests.old }
-    ensures stepped { Stepped x.now n g q.now work.old work.new st result }
+    ensures stepped { Stepped x.now n g q.now work.old work.new on result }
     ensures sets_2 { Sets rests.new }
 {
     let size = q.len() - g;
-    let put = st.put;
-    let left = st.left;
-    if left == 0 {
-        return Stage {
-            stopped: true,
+    let put = on.put;
+    if on.left == 0 {
+        return ControlFlow::Break(Grant {
             met: 0,
             bound: size,
-            put: put,
-            left: 0,
-        };
+            questions: put,
+        });
     }
     let asked = put + 1;
-    let rest = left - 1;
+    let left = on.left - 1;
     let found = searching::solve(x, n, q, work, rests);
     match found {
-        Found::Model => Stage {
-            stopped: true,
+        Found::Model => ControlFlow::Break(Grant {
             met: size,
             bound: size,
-            put: asked,
-            left: rest,
-        },
-        Found::Closed => Stage {
-            stopped: false,
-            met: 0,
-            bound: 0,
-            put: asked,
-            left: rest,
-        },
+            questions: asked,
+        }),
+        Found::Closed => ControlFlow::Continue(Way { put: asked, left }),
     }
 }
 
@@ -121,16 +109,6 @@ fn count_of(m: usize, s: usize) -> u16
     COUNTS[m][s]
 }
 
-// Whether two literals are the same, or it was found before.
-fn hit(found: bool, m: u16, other: u16) -> bool
-    ensures { result ≡ true → (found ≡ true) ⊎ (m ≡ other) }
-{
-    if m == other {
-        return true;
-    }
-    found
-}
-
 // Whether the negation of a literal is in a list; no early end, so that several are looked at in one step. That it is found wherever it is
 // saves searches and changes no answer, so it is not said.
 fn opposed(q: &[u16], l: u16) -> bool
@@ -139,39 +117,31 @@ fn opposed(q: &[u16], l: u16) -> bool
 {
     let other = clause::negated(l);
     let mut found = false;
-    let mut j = 0;
-    while j < q.len() {
-        found = hit(found, q[j], other);
-        j += 1;
+    for m in q {
+        found |= *m == other;
     }
     found
 }
 
 // All questions with s of m wishes more are refused, and none is put to a search: each counts, as far as the allowance lasts.
-fn refuse(m: usize, s: usize, size: usize, st: Stage) -> Stage
+fn refuse(m: usize, s: usize, size: usize, on: Way) -> ControlFlow<Grant, Way>
     requires m_bound { (m < 16) × (s < 16) }
-    requires room { Room st }
-    ensures { Refused m s size st result }
+    requires room { Room on }
+    ensures { Refused m s size on result }
 {
     let count = count_of(m, s) as usize;
-    let put = st.put;
-    let left = st.left;
-    if left < count {
-        return Stage {
-            stopped: true,
+    let put = on.put;
+    if on.left < count {
+        return ControlFlow::Break(Grant {
             met: 0,
             bound: size,
-            put: put + left,
-            left: 0,
-        };
+            questions: put + on.left,
+        });
     }
-    Stage {
-        stopped: false,
-        met: 0,
-        bound: 0,
+    ControlFlow::Continue(Way {
         put: put + count,
-        left: left - count,
-    }
+        left: on.left - count,
+    })
 }
 
 // s more of the wishes from lo on, behind the first `at` literals of the list: each wish in turn is the first of them, as long as enough
@@ -187,55 +157,34 @@ fn visit(
     lo: usize,
     s: usize,
     at: usize,
-    st: Stage,
-) -> Stage
+    on: Way,
+) -> ControlFlow<Grant, Way>
     requires indexed { Indexed x.now n }
     requires listed { Listed n g wishes.now list.old work.old lo s at }
-    requires room { Room st × Sets rests.old × (s ≡ 0 → st.stopped ≡ false) }
-    ensures visited { Visited x.now n g wishes.now list.old list.new work.old work.new lo s at st result }
+    requires room { Room on × Sets rests.old }
+    ensures visited { Visited x.now n g wishes.now list.old list.new work.old work.new lo s at (Continue on) result }
     ensures sets { Sets rests.new }
 {
     if s == 0 {
-        return step(x, n, g, &list[0..at], work, rests, st);
+        return step(x, n, g, &list[0..at], work, rests, on);
     }
-    let mut mid = st;
+    let mut mid = on;
     let mut i = lo;
     while s <= wishes.len() - i {
-        if mid.stopped {
-            return mid;
-        }
         let l = wishes[i];
         i += 1;
         if opposed(&list[0..at], l) {
-            mid = refuse(wishes.len() - i, s - 1, at + s - g, mid);
+            mid = refuse(wishes.len() - i, s - 1, at + s - g, mid)?;
         } else {
             list[at] = l;
-            mid = visit(x, n, g, wishes, list, work, rests, i, s - 1, at + 1, mid);
+            mid = visit(x, n, g, wishes, list, work, rests, i, s - 1, at + 1, mid)?;
         }
     }
-    mid
-}
-
-// What a walk has come to; where all questions were refused, no wish is met.
-fn finish(st: Stage) -> Grant
-    ensures { Ended st result }
-{
-    if !st.stopped {
-        return Grant {
-            met: 0,
-            bound: 0,
-            questions: st.put,
-        };
-    }
-    Grant {
-        met: st.met,
-        bound: st.bound,
-        questions: st.put,
-    }
+    ControlFlow::Continue(mid)
 }
 
 // What an allowance of questions comes to: the sizes of subsets fall. The first g literals of the list are the goals. Where a wish is met,
-// the work area holds what the question ended on.
+// the work area holds what the question ended on; where all questions were refused, none is.
 pub fn spend(
     x: &[u16; 22626],
     n: usize,
@@ -250,17 +199,19 @@ pub fn spend(
     requires gathered { Gathered n g wishes.now list.old work.old × Sets rests.old }
     ensures { Grants x.now n g wishes.now list.old allowance work.new result }
 {
-    let mut st = Stage {
-        stopped: false,
-        met: 0,
-        bound: 0,
+    let mut on = Way {
         put: 0,
         left: allowance,
     };
-    let mut s = wishes.len();
-    while 0 < s {
-        st = visit(x, n, g, wishes, list, work, rests, 0, s, g, st);
-        s -= 1;
+    for s in (1..wishes.len() + 1).rev() {
+        match visit(x, n, g, wishes, list, work, rests, 0, s, g, on) {
+            ControlFlow::Continue(next) => on = next,
+            ControlFlow::Break(grant) => return grant,
+        }
     }
-    finish(st)
+    Grant {
+        met: 0,
+        bound: 0,
+        questions: on.put,
+    }
 }

@@ -17,7 +17,7 @@ use Rattle.codec.proofs.Blocks.{length_block_of}
 use Rattle.codec.proofs.Bytes.{drop-take}
 use Rattle.codec.proofs.Files.{flat_append}
 use Rattle.codec.proofs.Records.{length-node_bytes}
-use Rattle.growing.specs.Growing.{node_in, nodes_in, records_in, Held, Writes}
+use Rattle.growing.specs.Growing.{node_in, nodes_in, records_in, Held, WritesTo}
 use Rattle.growing.proofs.Nodes.{nodes_count}
 
 drop-map : {A B : Type 0} (f : A → B) (i : ℕ) (l : List A) → drop i (map f l) ≡ map f (drop i l)
@@ -50,10 +50,13 @@ module _ (keys : List ℕ) (from : ℕ) where
 
   pub records-length : (i : ℕ) → from + i ≤ length keys → length (records_in keys from i) ≡ 8 * i
   unfolding records_in flat_map
-  records-length i h = flat-length (map node_in (take i (drop from keys))) ∙ ap (8 *◌) (length-map (take i (drop from keys)) node_in ∙ length-take-le i (drop from keys) (omega (arith, length-drop from keys)))
+  records-length i h =
+      flat-length (map node_in (take i (drop from keys)))
+      ∙ ap (8 *◌) (length-map (take i (drop from keys)) node_in ∙ length-take-le i (drop from keys) (omega (arith, length-drop from keys)))
 
 -- a record copied behind others
-pub filled_more : (body keys r : List ℕ) (from i : ℕ) → from + i < length keys → 8 * (i + 1) ≤ length body → take (8 * i) body ≡ records_in keys from i → r ≡ node_bytes (node_in (get_or keys (from + i) 0))
+pub filled_more : (body keys r : List ℕ) (from i : ℕ) → from + i < length keys → 8 * (i + 1) ≤ length body → take (8 * i) body ≡ records_in keys from i
+    → r ≡ node_bytes (node_in (get_or keys (from + i) 0))
     → take (8 * (i + 1)) (paste body (8 * i) r (length r)) ≡ records_in keys from (i + 1)
 filled_more body keys r from i h room e q =
     let eight : length r ≡ 8 = rw q (length-node_bytes (node_in (get_or keys (from + i) 0))) in
@@ -106,13 +109,16 @@ module _ (keys : List ℕ) (n : ℕ) (size : length keys ≡ 2016) (few : n ≤ 
         ∙ ap (map node_in) (ap (take 63) behind ∙ cut (n - 63 * j) (drop (63 * j) keys) h)
 
     taken-count : length (take 63 (drop (63 * j) (nodes_in keys n))) ≡ count
-    taken-count = ap length taken ∙ length-map (take count (drop (63 * j) keys)) node_in ∙ length-take-le count (drop (63 * j) keys) (omega (arith, length-drop (63 * j) keys, count_low))
+    taken-count =
+        ap length taken ∙ length-map (take count (drop (63 * j) keys)) node_in
+        ∙ length-take-le count (drop (63 * j) keys) (omega (arith, length-drop (63 * j) keys, count_low))
 
     abbrev block : List ℕ
     block = block_of 70 count j (records_in keys (63 * j) count)
 
     block-length : length block ≡ 512
-    block-length = length_block_of 70 count j (records_in keys (63 * j) count) (omega (arith, records-length keys (63 * j) count (omega (arith, count_low)), h.most))
+    block-length =
+        length_block_of 70 count j (records_in keys (63 * j) count) (omega (arith, records-length keys (63 * j) count (omega (arith, count_low)), h.most))
 
     abbrev after-this : List ℕ
     after-this = blocks_of tables node_bytes ((n + 62) / 63 - (j + 1)) (j + 1) (drop (63 * (j + 1)) (nodes_in keys n))
@@ -131,7 +137,8 @@ module _ (keys : List ℕ) (n : ℕ) (size : length keys ≡ 2016) (few : n ≤ 
         let p : 512 * (j + 1) ≡ 512 * j + 512 = omega arith in
         let head : take (512 * j) buf ≡ f.front = ap (take (512 * j)) f.now ∙ take_at f.front (drop (512 * j) buf₀) (512 * j) f.size in
         let tail : drop (512 * j) buf ≡ drop (512 * j) buf₀ = ap (drop (512 * j)) f.now ∙ drop_at f.front (drop (512 * j) buf₀) (512 * j) f.size in
-        let rest : drop (512 * j + 512) buf ≡ drop (512 * (j + 1)) buf₀ = sym (drop-drop 512 (512 * j) buf) ∙ ap (drop 512) tail ∙ drop-drop 512 (512 * j) buf₀ ∙ ap (λ (i : ℕ). drop i buf₀) (sym p) in
+        let rest : drop (512 * j + 512) buf ≡ drop (512 * (j + 1)) buf₀ =
+        sym (drop-drop 512 (512 * j) buf) ∙ ap (drop 512) tail ∙ drop-drop 512 (512 * j) buf₀ ∙ ap (λ (i : ℕ). drop i buf₀) (sym p) in
         record {
           front = f.front ++ block;
           size = length-append f.front block ∙ omega (arith, f.size, block-length);
@@ -139,11 +146,12 @@ module _ (keys : List ℕ) (n : ℕ) (size : length keys ≡ 2016) (few : n ≤ 
           now = e ∙ rw (head, rest) (sym (append_assoc f.front block (drop (512 * (j + 1)) buf₀)));
         }
 
-  pub front_all : (j : ℕ) {buf₀ buf : List ℕ} → Front keys n buf₀ j buf → n ≤ 63 * j → Writes keys n buf₀ buf (512 * j)
+  pub front_all : (j : ℕ) {buf₀ buf : List ℕ} → Front keys n buf₀ j buf → n ≤ 63 * j → WritesTo keys n buf₀ buf (512 * j)
   unfolding blocks_of
   front_all j {buf₀} {buf} f done =
       let q : (n + 62) / 63 - j ≡ 0 = omega arith in
-      let all : f.front ≡ encode (nodes_in keys n) = sym (append-nil f.front) ∙ ap (λ (i : ℕ). f.front ++ blocks_of tables node_bytes i j (drop (63 * j) (nodes_in keys n))) (sym q) ∙ f.whole in
+      let all : f.front ≡ encode (nodes_in keys n) =
+      sym (append-nil f.front) ∙ ap (λ (i : ℕ). f.front ++ blocks_of tables node_bytes i j (drop (63 * j) (nodes_in keys n))) (sym q) ∙ f.whole in
       let end : 512 * j ≡ length (encode (nodes_in keys n)) = sym f.size ∙ ap length all in
       record {
         used_is = end;

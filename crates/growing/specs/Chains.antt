@@ -1,5 +1,5 @@
 -- The chains by which a number is found among those of the nodes. Assumes nothing.
-use Rattle.std.specs.Prelude.{◌≡◌, List, ℕ, suc, ◌-◌, ◌*◌, ◌/◌, ◌%◌, ◌<◌, ◌≤◌, length, get_or}
+use Rattle.std.specs.Prelude.{◌≡◌, List, ℕ, suc, ◌-◌, ◌*◌, ◌/◌, ◌%◌, ◌<◌, ◌≤◌, length, get_or, Option, Some, None}
 
 -- the hash of a number, below 4,096
 unfoldable pub hash_of : ℕ → ℕ
@@ -19,6 +19,11 @@ pub record Chains (keys head next : List ℕ) (n : ℕ) : Type 0 where
   pub low : (h : ℕ) → get_or head h 0 ≤ n
   pub falls : (m : ℕ) → m < n → get_or next m 0 ≤ m
   pub leads : (m : ℕ) → m < n → To next (get_or head (hash_of (get_or keys m 0)) 0) m
+
+-- a place as a link: one more, or 0 for none
+abbrev pub slot_of : Option ℕ → ℕ
+slot_of None = 0
+slot_of (Some s) = suc s
 
 -- a search for k: 0 where none of the first n numbers is k, or one more than the place of one that is
 pub record Finds (keys : List ℕ) (n k s : ℕ) : Type 0 where

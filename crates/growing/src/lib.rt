@@ -5,23 +5,28 @@ ghost use Rattle.std.specs.Prelude.{◌≡◌, ◌++◌, ◌+◌, ◌*◌, ◌<�
 ghost use Rattle.scope.specs.Outcome.{answer};
 ghost use Rattle.scope.specs.Block.{block_of};
 ghost use Rattle.scope.specs.Table.{node_bytes, read_record};
-ghost use Rattle.growing.specs.Chains.{hash_of, Chains, Finds};
-ghost use Rattle.growing.specs.Growing.{node_in, records_in, room_of, Held, Under, Grows, joins, Writes};
+ghost use Rattle.growing.specs.Chains.{hash_of, Chains, slot_of, Finds};
+ghost use Rattle.growing.specs.Growing.{node_in, records_in, room_of, Held, Table, Under, Sound, Grows, joins, WritesTo, Writes};
 
 use scope::Refusal;
+use std::marker::Model;
 
-// A literal of a table under way, and how many nodes that has.
-#[derive(Clone, Copy)]
-pub struct Spot {
-    pub literal: usize,
-    pub nodes: usize,
+// A table under way: a number for each of its nodes, the chains by which a number is found, and room for so many nodes.
+#[derive(Drop)]
+pub struct Draft {
+    keys: [u32; 2016],
+    head: [u16; 4096],
+    next: [u16; 2016],
+    room: usize,
+    count: usize,
 }
 
-// What one node more comes to.
-#[derive(Clone, Copy)]
-pub enum Grown {
-    At(Spot),
-    Refused(Refusal),
+impl Model for Draft {
+    ghost Value = { Table };
+
+    ghost view = { λ n. record { keys = n.keys; count = n.count; room = n.room } };
+
+    ghost invariant = { λ n. Under n.keys n.head n.next n.room n.count };
 }
 
 // Twelve bits of a product.
@@ -31,19 +36,19 @@ fn hash(k: u32) -> usize
     (2654435769 * (k as u64) / 1048576 % 4096) as usize
 }
 
-// One more than the place of the number k among the first n, or 0: the chain of its hash h.
-fn find(keys: &[u32], head: &[u16], next: &[u16], n: usize, k: u32, h: usize) -> usize
+// The place of the number k among the first n, or none: the chain of its hash h. A link is one more than a place, and 0 ends the chain.
+fn find(keys: &[u32], head: &[u16], next: &[u16], n: usize, k: u32, h: usize) -> Option<usize>
     requires { Chains keys.now head.now next.now n × (h ≡ hash_of k) × (h < 4096) }
-    ensures { Finds keys.now n k result }
+    ensures { Finds keys.now n k (slot_of result) }
 {
     let mut s = head[h] as usize;
     while s != 0 {
         if keys[s - 1] == k {
-            return s;
+            return Some(s - 1);
         }
         s = next[s - 1] as usize;
     }
-    0
+    None
 }
 
 // The number k joins as the n-th, in front of the chain of its hash h.
@@ -54,45 +59,6 @@ fn insert(keys: &mut [u32], head: &mut [u16], next: &mut [u16], n: usize, k: u32
     keys[n] = k;
     next[n] = head[h];
     head[h] = (n + 1) as u16;
-}
-
-// The node of the number k: found, or new where there is room for it.
-pub fn grow(
-    keys: &mut [u32],
-    head: &mut [u16],
-    next: &mut [u16],
-    room: usize,
-    nodes: usize,
-    k: u32,
-) -> Grown
-    requires { Under keys.old head.old next.old room nodes × (read_record (node_bytes (node_in k)) nodes ≡ answer (node_in k)) }
-    ensures { Grows (joins keys.old nodes k) room result keys.new head.new next.new }
-{
-    let h = hash(k);
-    let s = find(keys, head, next, nodes, k, h);
-    if s != 0 {
-        return Grown::At(Spot {
-            literal: 2 * (s - 1),
-            nodes,
-        });
-    }
-    if nodes == 2016 {
-        return Grown::Refused(Refusal {
-            number: 51,
-            place: nodes,
-        });
-    }
-    if nodes == room {
-        return Grown::Refused(Refusal {
-            number: 52,
-            place: nodes,
-        });
-    }
-    insert(keys, head, next, nodes, k, h);
-    Grown::At(Spot {
-        literal: 2 * nodes,
-        nodes: nodes + 1,
-    })
 }
 
 // How many nodes there is room for in a buffer of so many bytes.
@@ -128,11 +94,9 @@ fn fill(body: &mut [u8], keys: &[u32], from: usize, count: usize)
     requires { (count ≤ 63) × (8 * count ≤ length body.old) × (from + count ≤ length keys.now) }
     ensures { take (8 * count) body.new ≡ records_in keys.now from count }
 {
-    let mut i = 0;
-    while i < count {
+    for i in 0..count {
         let r = bytes_of(keys[from + i]);
         writer::copy_at(body, 8 * i, &r);
-        i += 1;
     }
 }
 
@@ -158,16 +122,79 @@ fn held(left: usize) -> usize
 }
 
 // Writes the table of the first numbers to the start of a buffer that has room for it: its blocks, one after another.
-pub fn write(buf: &mut [u8], keys: &[u32], nodes: usize) -> usize
+fn write_blocks(buf: &mut [u8], keys: &[u32], nodes: usize) -> usize
     requires { (nodes ≤ room_of (length buf.old)) × (nodes ≤ 2016) × (length keys.now ≡ 2016) }
-    ensures { Writes keys.now nodes buf.old buf.new result }
+    ensures { WritesTo keys.now nodes buf.old buf.new result }
 {
-    let mut j = 0;
-    while 63 * j < nodes {
+    let blocks = nodes.div_ceil(63);
+    for j in 0..blocks {
         let count = held(nodes - 63 * j);
         let from = 512 * j;
         put_block(&mut buf[from..], keys, j, count);
-        j += 1;
     }
-    512 * j
+    512 * blocks
+}
+
+impl Draft {
+    // No node yet, with room for those that a buffer of so many bytes holds.
+    pub fn new(len: usize) -> Draft
+        ensures { (result.count ≡ 0) × (result.room ≡ room_of len) }
+    {
+        Draft {
+            keys: [0; 2016],
+            head: [0; 4096],
+            next: [0; 2016],
+            room: room_of(len),
+            count: 0,
+        }
+    }
+
+    // How many nodes there are.
+    pub fn count(&self) -> usize
+        ensures { (result ≡ self.now.count) × Sound self.now }
+    {
+        self.count
+    }
+
+    // The literal of the number k's node: found, or new where there is room for it.
+    pub fn grow(&mut self, k: u32) -> Result<usize, Refusal>
+        requires { read_record (node_bytes (node_in k)) self.old.count ≡ answer (node_in k) }
+        ensures { Sound self.old × Grows (joins self.old k) self.old.room result self.new }
+    {
+        let h = hash(k);
+        if let Some(s) = find(&self.keys, &self.head, &self.next, self.count, k, h) {
+            return Ok(2 * s);
+        }
+        if self.count == 2016 {
+            return Err(Refusal {
+                number: 51,
+                place: self.count,
+            });
+        }
+        if self.count == self.room {
+            return Err(Refusal {
+                number: 52,
+                place: self.count,
+            });
+        }
+        let literal = 2 * self.count;
+        insert(
+            &mut self.keys,
+            &mut self.head,
+            &mut self.next,
+            self.count,
+            k,
+            h,
+        );
+        self.count += 1;
+        Ok(literal)
+    }
+
+    // Writes the table to the start of a buffer that has room for as many nodes: its blocks, one after another.
+    pub fn write(&self, buf: &mut [u8]) -> usize
+        requires { self.now.room ≤ room_of (length buf.old) }
+        ensures { Writes self.now buf.old buf.new result }
+    {
+        write_blocks(buf, &self.keys, self.count)
+    }
 }

@@ -110,7 +110,8 @@ module _ {t : ℕ → Node} {n : ℕ} {S : ℕ → ℕ} (few : n ≤ most_nodes)
       let i : p ≡ q = omega (arith, e) in
       subst (λ (j : ℕ). FilledTo t n S j x) i F
   filled_over (suc d) p q e l b F =
-      filled_over d (p + 1) q (omega (arith, e)) l (λ m h. b m (omega (arith, h))) (after_none few early (omega (arith, e, l)) F (b p (omega arith) (omega (arith, e))))
+      filled_over d (p + 1) q (omega (arith, e)) l (λ m h. b m (omega (arith, h)))
+      (after_none few early (omega (arith, e, l)) F (b p (omega arith) (omega (arith, e))))
 
   -- up to the next node of the chain
   fills_to : {p q : ℕ} {x : List ℕ} → FilledTo t n S p x → ((m : ℕ) → m < p → first_of x m ≡ S m)

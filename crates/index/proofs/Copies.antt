@@ -1,37 +1,47 @@
--- Laws of the codes and classes, copied one after another, and of the whole index. Assumes nothing.
-use mathlib.Core.Path.{◌≡◌, refl, ◌∙◌}
+-- Laws of the codes and classes, each written as a part of the index. Assumes nothing.
+use mathlib.Core.Path.{◌≡◌, sym, ap, ◌∙◌}
 use mathlib.Core.List.{List}
-use Prim.Native.Nat.{ℕ, ◌+◌, ◌<◌}
+use Prim.Native.Nat.{ℕ, ◌+◌, ◌≤◌, ◌<◌}
 use native.Mathlib.Omega.{arith}
-use lib.ListN.{length, set, length-set}
-use borrow.Author.Count.{below_more}
-use lib.Seq.{get_or-set_same, get_or-set_other}
-use Rattle.index.specs.Codes.{codes_size, code_at, classes_size, class_at}
+use native.Mathlib.Nat.{zero-add}
+use lib.ListN.{length, get_or}
+use borrow.Author.Rules.{rules}
+use borrow.Rule.Slice.PartMut.{put_mid}
+use Rattle.std.proofs.lemmas.List.{places}
+use Rattle.scope.proofs.Lists.{length_list_from, get_d_list_from}
+use Rattle.index.specs.Codes.{codes_size, code_at, codes, classes_size, class_at, classes}
 use Rattle.index.specs.Index.{index_size, codes_at, classes_at}
-use Rattle.index.specs.Built.{Copied, Classified}
+use Rattle.index.specs.Built.{Same, Copied, Classified}
 
-pub copied_none : (x : List ℕ) → length x ≡ index_size → Copied 0 x x
-copied_none x z = record { size = z; before = λ i h. refl; codes = λ i h. absurd (omega (arith, h)) }
+-- numbers are written to a part of x
+module _ (a k : ℕ) (x ys : List ℕ) (e : length ys ≡ k) (h : a + k ≤ length x) where
+  put-size : length (put_mid a k x ys) ≡ length x
+  put-size = search (rules, places)
 
-pub copied_more : (k v : ℕ) (x x' : List ℕ) → k < codes_size → v ≡ code_at k → Copied k x x' → Copied (k + 1) x (set x' (codes_at + k) v)
-copied_more k v x x' h e c = record {
-  size = length-set x' (codes_at + k) v ∙ c.size;
-  before = λ i l. get_or-set_other x' (codes_at + k) i v 0 (λ q. omega (arith, q)) ∙ c.before i l;
-  codes =
-      below_more _ k
-      (λ i l. get_or-set_other x' (codes_at + k) (codes_at + i) v 0 (λ r. omega (arith, r)) ∙ c.codes i l)
-      (get_or-set_same x' (codes_at + k) v 0 (omega (arith, c.size)) ∙ e);
-}
+  put-before : Same a x (put_mid a k x ys)
+  put-before i b = grind (arith, places)
 
-pub classified_none : (x : List ℕ) → length x ≡ index_size → Classified 0 x x
-classified_none x z = record { size = z; before = λ i h. refl; classes = λ i h. absurd (omega (arith, h)) }
+  put-here : (i : ℕ) → i < k → get_or (put_mid a k x ys) (a + i) 0 ≡ get_or ys i 0
+  put-here i b = grind (arith, places)
 
-pub classified_more : (k v : ℕ) (x x' : List ℕ) → k < classes_size → v ≡ class_at k → Classified k x x' → Classified (k + 1) x (set x' (classes_at + k) v)
-classified_more k v x x' h e c = record {
-  size = length-set x' (classes_at + k) v ∙ c.size;
-  before = λ i l. get_or-set_other x' (classes_at + k) i v 0 (λ q. omega (arith, q)) ∙ c.before i l;
-  classes =
-      below_more _ k
-      (λ i l. get_or-set_other x' (classes_at + k) (classes_at + i) v 0 (λ r. omega (arith, r)) ∙ c.classes i l)
-      (get_or-set_same x' (classes_at + k) v 0 (omega (arith, c.size)) ∙ e);
-}
+pub copied : (x ys : List ℕ) → length x ≡ index_size → ys ≡ codes → Copied codes_size x (put_mid codes_at codes_size x ys)
+copied x ys z e =
+    let n : length ys ≡ codes_size = ap length e ∙ length_list_from code_at codes_size 0 in
+    let room : codes_at + codes_size ≤ length x = omega arith in
+    record {
+      size = put-size codes_at codes_size x ys n room ∙ z;
+      before = put-before codes_at codes_size x ys n room;
+      codes = λ i h. put-here codes_at codes_size x ys n room i h ∙ ap (λ (c : List ℕ). get_or c i 0) e ∙ get_d_list_from code_at codes_size 0 i 0 h
+          ∙ ap code_at (zero-add i);
+    }
+
+pub classified : (x ys : List ℕ) (k : ℕ) → length x ≡ index_size → ys ≡ classes → k ≡ classes_size → Classified classes_size x (put_mid classes_at k x ys)
+classified x ys k z e q =
+    let n : length ys ≡ k = ap length e ∙ length_list_from class_at classes_size 0 ∙ sym q in
+    let room : classes_at + k ≤ length x = omega arith in
+    record {
+      size = put-size classes_at k x ys n room ∙ z;
+      before = put-before classes_at k x ys n room;
+      classes = λ i h. put-here classes_at k x ys n room i (omega (arith, h, q)) ∙ ap (λ (c : List ℕ). get_or c i 0) e
+          ∙ get_d_list_from class_at classes_size 0 i 0 h ∙ ap class_at (zero-add i);
+    }

@@ -99,10 +99,12 @@ module _ {t : ℕ → Node} {n p : ℕ} {x : List ℕ} (few : n ≤ most_nodes) 
   pub counted_more : Counted t n (pairs_to t (p + 1)) (threes_to t (p + 1)) (count_node x (index_node x p))
   counted_more =
       rw (c.nodes p h)
-      (counted_as (λ m. sym (sum_next (λ q. pairs_in (t q) m) p)) (λ m. sym (sum_next (λ q. threes_in (t q) m) p)) (counted-by few c (t p) (early_known t n early p h)))
+      (counted_as (λ m. sym (sum_next (λ q. pairs_in (t q) m) p)) (λ m. sym (sum_next (λ q. threes_in (t q) m) p))
+      (counted-by few c (t p) (early_known t n early p h)))
 
 -- what is none of the counts is not changed
-pub count_other : (x : List ℕ) (y : Node) (i : ℕ) → All (λ l. (i ≡ mid_at + l / 2 → ⊥) × (i ≡ end_at + l / 2 → ⊥)) (operands y) → get_or (count_node x y) i 0 ≡ get_or x i 0
+pub count_other : (x : List ℕ) (y : Node) (i : ℕ) → All (λ l. (i ≡ mid_at + l / 2 → ⊥) × (i ≡ end_at + l / 2 → ⊥)) (operands y)
+    → get_or (count_node x y) i 0 ≡ get_or x i 0
 unfolding count_node
 count_other x y i o = go (dec_lt y.kind 3) (dec_lt y.kind 7)
   where
@@ -135,6 +137,7 @@ count_size x y = go (ltb y.kind 3) (ltb y.kind 7)
     go false true = simp length-set refl
     go false false = simp length-set refl
 
-pub counted_none : (n : ℕ) (x : List ℕ) → length x ≡ index_size → Blank n x → Counted (index_node x) n (pairs_to (index_node x) 0) (threes_to (index_node x) 0) x
+pub counted_none : (n : ℕ) (x : List ℕ) → length x ≡ index_size → Blank n x
+    → Counted (index_node x) n (pairs_to (index_node x) 0) (threes_to (index_node x) 0) x
 unfolding sum
 counted_none n x z b = record { size = z; nodes = λ m h. refl; mid = λ m h. (b m h).0; end = λ m h. (b m h).1 }

@@ -56,7 +56,8 @@ fits_moved : {p : ℕ} {d : Descent} {y : Node} {x : List ℕ} {d' : Descent} {x
 unfolding sum
 fits_moved {p} {d} {y} {x} {d'} {x'} few M f =
     let g : ℕ → ℕ = λ i. pairs_in y i + threes_in y i in
-    let e : sum (counted x') p ≡ sum (λ i. counted x i + g i) p = sum_same (counted x') (λ i. counted x i + g i) p (λ i h. omega (arith, M.mid_before i h, M.end_before i h)) in
+    let e : sum (counted x') p ≡ sum (λ i. counted x i + g i) p = sum_same (counted x') (λ i. counted x i + g i) p
+    (λ i h. omega (arith, M.mid_before i h, M.end_before i h)) in
     (omega (arith, f.0, e, sum_plus (λ i. counted x i + g i) (counted x) g (λ i. refl) p, node-four y p, M.next), go M.link)
   where
     go : Link p d y d' x' → d'.last ≤ most_nodes
@@ -128,7 +129,8 @@ module _ (t x : List ℕ) (d : Descent) (p : ℕ) (few : p < most_nodes) (z : le
   end_is m h = omega (arith, raises.end m h, marking-places t x d p few z a (end_at + m) (omega arith) (omega arith))
 
   -- another node's places
-  kept : (m : ℕ) → (m ≡ p → ⊥) → m < most_nodes → (first_of (placed_at x p d) m ≡ first_of x m) × (mid_of (placed_at x p d) m ≡ mid_of x m) × (end_of (placed_at x p d) m ≡ end_of x m)
+  kept : (m : ℕ) → (m ≡ p → ⊥) → m < most_nodes → (first_of (placed_at x p d) m ≡ first_of x m) × (mid_of (placed_at x p d) m ≡ mid_of x m)
+      × (end_of (placed_at x p d) m ≡ end_of x m)
   kept m e h = (
     placed_other x p d (first_at + m) (λ q. e (omega (arith, q))) (λ q. omega (arith, q)) (λ q. omega (arith, q)),
     placed_other x p d (mid_at + m) (λ q. omega (arith, q)) (λ q. e (omega (arith, q))) (λ q. omega (arith, q)),
@@ -145,7 +147,12 @@ module _ (t x : List ℕ) (d : Descent) (p : ℕ) (few : p < most_nodes) (z : le
 
   node_stays : (m : ℕ) → p < m → m < most_nodes → index_node x₃ m ≡ index_node x m
   unfolding index_node
-  node_stays m h l = rw (stays (4 * m) (omega arith) (omega arith), stays (4 * m + 1) (omega arith) (omega arith), stays (4 * m + 2) (omega arith) (omega arith), stays (4 * m + 3) (omega arith) (omega arith))
+  node_stays m h l = rw (
+    stays (4 * m) (omega arith) (omega arith),
+    stays (4 * m + 1) (omega arith) (omega arith),
+    stays (4 * m + 2) (omega arith) (omega arith),
+    stays (4 * m + 3) (omega arith) (omega arith),
+  )
 
   -- a node that is not marked was not, and is not one of its operands'
   unmarked : (m : ℕ) → m < p → get_or x₃ (4 * m) 0 ≡ 0 → (get_or x (4 * m) 0 ≡ 0) × (pairs_in y m ≡ 0) × (threes_in y m ≡ 0)
@@ -160,14 +167,16 @@ module _ (t x : List ℕ) (d : Descent) (p : ℕ) (few : p < most_nodes) (z : le
       marked-size = simp length-set z
 
       before : get_or (stored (placed_at x p d) p y) (4 * m) 0 ≡ get_or x (4 * m) 0
-      before = stored_other (placed_at x p d) p y (4 * m) (λ b c. omega arith) ∙ placed_other x p d (4 * m) (λ q. omega (arith, q)) (λ q. omega (arith, q)) (λ q. omega (arith, q))
+      before = stored_other (placed_at x p d) p y (4 * m) (λ b c. omega arith) ∙ placed_other x p d (4 * m) (λ q. omega (arith, q))
+          (λ q. omega (arith, q)) (λ q. omega (arith, q))
 
       go : Dec (get_or x (4 * m) 0 ≡ 0) → length (stored (placed_at x p d) p y) ≡ index_size → get_or x₂ (4 * m) 0 ≡ 0 → get_or x (4 * m) 0 ≡ 0
       go (yes e) q r = e
       go (no e) q r = absurd (omega (arith, r, marks_kept (stored (placed_at x p d) p y) (operands y) (4 * m) q low (omega (arith, before, e))))
 
       apart : (ls : List ℕ) → All (λ l. 0 < get_or x₂ (4 * (l / 2)) 0) ls → get_or x₂ (4 * m) 0 ≡ 0 → All (λ l. l / 2 ≡ m → ⊥) ls
-      apart ls b r = all_imply (λ l. 0 < get_or x₂ (4 * (l / 2)) 0) (λ l. l / 2 ≡ m → ⊥) (λ l c q. omega (arith, ap (λ (i : ℕ). get_or x₂ (4 * i) 0) q, r, c)) ls b
+      apart ls b r = all_imply (λ l. 0 < get_or x₂ (4 * (l / 2)) 0) (λ l. l / 2 ≡ m → ⊥)
+          (λ l c q. omega (arith, ap (λ (i : ℕ). get_or x₂ (4 * i) 0) q, r, c)) ls b
 
   moved_node : Moved p d y x (met_at x d p) x₃
   moved_node = record {
@@ -215,7 +224,8 @@ pub record Falling (n p : ℕ) (d : Descent) (x : List ℕ) : Type 0 where
   pub edges : (u : ℕ → Node) → From u n p x → Down u n p d.start x
   pub chained : Chain (index_node x) (mid_of x) (first_of x) n p d.last
 
-module _ {u : ℕ → Node} {n p : ℕ} {w : Descent} {y : Node} {x : List ℕ} {w' : Descent} {x' : List ℕ} (few : n ≤ most_nodes) (h : p < n) (M : Moved p w y x w' x')
+module _ {u : ℕ → Node} {n p : ℕ} {w : Descent} {y : Node} {x : List ℕ} {w' : Descent} {x' : List ℕ} (few : n ≤ most_nodes) (h : p < n)
+    (M : Moved p w y x w' x')
     (f : From u n p x') (D : Down u n (suc p) w.start x) where
   is : u p ≡ y
   is = f.0 p (omega arith) h ∙ M.node
@@ -250,8 +260,10 @@ module _ {u : ℕ → Node} {n p : ℕ} {w : Descent} {y : Node} {x : List ℕ} 
   down = record {
     mid_left = λ m l. omega (arith, M.mid_before m l, D.mid_left m (omega arith), pairs_next m);
     end-left = λ m l. omega (arith, M.end_before m l, D.end-left m (omega arith), threes_next m);
-    end = from (λ m. end_of x' m ≡ mid_of x' m + pairs_to u n m) (omega (arith, M.end, pairs_own)) (λ m a b. omega (arith, M.behind m a (omega arith), D.end m (omega (arith, a)) b));
-    low = from (λ m. mid_of x' m + (pairs_to u n m + threes_to u n m) ≤ w'.start) (omega (arith, M.low, M.next, pairs_own, threes_own)) (λ m a b. omega (arith, M.behind m a (omega arith), D.low m (omega (arith, a)) b, M.next));
+    end = from (λ m. end_of x' m ≡ mid_of x' m + pairs_to u n m) (omega (arith, M.end, pairs_own))
+        (λ m a b. omega (arith, M.behind m a (omega arith), D.end m (omega (arith, a)) b));
+    low = from (λ m. mid_of x' m + (pairs_to u n m + threes_to u n m) ≤ w'.start) (omega (arith, M.low, M.next, pairs_own, threes_own))
+        (λ m a b. omega (arith, M.behind m a (omega arith), D.low m (omega (arith, a)) b, M.next));
     apart = λ m d k e a b a' b' c l r q. go m d k e a b a' b' c l r q (ℕ_discrete m p) (ℕ_discrete k p);
   }
     where
@@ -259,9 +271,11 @@ module _ {u : ℕ → Node} {n p : ℕ} {w : Descent} {y : Node} {x : List ℕ} 
           → mid_of x' m + d ≡ mid_of x' k + e → Dec (m ≡ p) → Dec (k ≡ p) → ⊥
       go m d k e a b a' b' c l r q (yes i) (yes j) = c (i ∙ sym j)
       go m d k e a b a' b' c l r q (yes i) (no j) =
-          new_apart d k e (omega (arith, a', j)) b' (subst (λ (i : ℕ). d < pairs_to u n i + threes_to u n i) i l) r (subst (λ (i : ℕ). mid_of x' i + d ≡ mid_of x' k + e) i q)
+          new_apart d k e (omega (arith, a', j)) b' (subst (λ (i : ℕ). d < pairs_to u n i + threes_to u n i) i l) r
+          (subst (λ (i : ℕ). mid_of x' i + d ≡ mid_of x' k + e) i q)
       go m d k e a b a' b' c l r q (no i) (yes j) =
-          new_apart e m d (omega (arith, a, i)) b (subst (λ (i : ℕ). e < pairs_to u n i + threes_to u n i) j r) l (subst (λ (i : ℕ). mid_of x' i + e ≡ mid_of x' m + d) j (sym q))
+          new_apart e m d (omega (arith, a, i)) b (subst (λ (i : ℕ). e < pairs_to u n i + threes_to u n i) j r) l
+          (subst (λ (i : ℕ). mid_of x' i + e ≡ mid_of x' m + d) j (sym q))
       go m d k e a b a' b' c l r q (no i) (no j) =
           D.apart m d k e (omega (arith, a, i)) b (omega (arith, a', j)) b' c l r
           (omega (arith, q, (M.behind m (omega (arith, a, i)) (omega arith)).1, (M.behind k (omega (arith, a', j)) (omega arith)).1))
@@ -280,7 +294,8 @@ chain_moved {n} {p} {d} {y} {x} {d'} {x'} few h M c = go M.link
     go (inl (e, l)) = rw l (chain_more p h (rw e kept))
     go (inr (b, e, l)) = rw l (chain_over (rw M.node b) e kept)
 
-falls_moved : {n p : ℕ} {d : Descent} {y : Node} {x : List ℕ} {d' : Descent} {x' : List ℕ} → n ≤ most_nodes → p < n → Moved p d y x d' x' → Falling n (suc p) d x → Falling n p d' x'
+falls_moved : {n p : ℕ} {d : Descent} {y : Node} {x : List ℕ} {d' : Descent} {x' : List ℕ} → n ≤ most_nodes → p < n → Moved p d y x d' x'
+    → Falling n (suc p) d x → Falling n p d' x'
 falls_moved {n} {p} {d} {y} {x} {d'} {x'} few h M F = record {
   fits = fits_moved (omega (arith, h, few)) M F.fits;
   first = λ m l. M.first_before m l ∙ F.first m (omega arith);
@@ -314,7 +329,8 @@ pub flags_passed : (t x : List ℕ) (d : Descent) (p : ℕ) → p < most_nodes �
 unfolding passed
 flags_passed t x d p few z a w f =
     rw (ne_eqb (get_or x (4 * p) 0) 0 (λ q. omega (arith, q, w)))
-    (λ m h. rw (kept (4 * m) (inl (omega arith)), kept (codes_at + m / 63) (inr (omega arith))) (flags_marked p y (operands (node_at t p)) size low (omega arith) before m h))
+    (λ m h. rw (kept (4 * m) (inl (omega arith)), kept (codes_at + m / 63) (inr (omega arith)))
+    (flags_marked p y (operands (node_at t p)) size low (omega arith) before m h))
   where
     y : List ℕ
     y = stored (placed_at x p d) p (node_at t p)
@@ -333,18 +349,22 @@ flags_passed t x d p few z a w f =
         go (inr h) = placed_other x p d i (λ q. omega (arith, q)) (λ q. omega (arith, q)) (λ q. omega (arith, q))
 
     before : Flagged p y
-    before m h = rw (other (4 * m) (λ b c. omega arith) (inl (omega arith)), other (codes_at + m / 63) (λ b c. omega arith) (inr (omega arith))) (f m (omega arith))
+    before m h = rw (other (4 * m) (λ b c. omega arith) (inl (omega arith)), other (codes_at + m / 63) (λ b c. omega arith) (inr (omega arith)))
+        (f m (omega arith))
 
-    kept : (i : ℕ) → (i < mid_at) ⊎ (codes_at ≤ i) → get_or (count_node (mark_all y (operands (node_at t p))) (node_at t p)) i 0 ≡ get_or (mark_all y (operands (node_at t p))) i 0
+    kept : (i : ℕ) → (i < mid_at) ⊎ (codes_at ≤ i) → get_or (count_node (mark_all y (operands (node_at t p))) (node_at t p)) i 0
+        ≡ get_or (mark_all y (operands (node_at t p))) i 0
     kept i (inl h) = count_same (mark_all y (operands (node_at t p))) (node_at t p) i h
     kept i (inr h) =
         count_other (mark_all y (operands (node_at t p))) (node_at t p) i
-        (all_imply (λ l. l / 2 < p) (λ l. (i ≡ mid_at + l / 2 → ⊥) × (i ≡ end_at + l / 2 → ⊥)) (λ l b. (λ q. omega (arith, q, b), λ q. omega (arith, q, b))) (operands (node_at t p)) a)
+        (all_imply (λ l. l / 2 < p) (λ l. (i ≡ mid_at + l / 2 → ⊥) × (i ≡ end_at + l / 2 → ⊥))
+        (λ l b. (λ q. omega (arith, q, b), λ q. omega (arith, q, b))) (operands (node_at t p)) a)
 
 -- nothing is met
 pub fits_none : (n : ℕ) (x : List ℕ) → n ≤ most_nodes → ((i : ℕ) → first_at ≤ i → i < edges_at → get_or x i 0 ≡ 0) → Fits n (top n) x
 fits_none n x few none =
-    let e : sum (counted x) n ≡ sum (λ i. 0) n = sum_same (counted x) (λ i. 0) n (λ i h. omega (arith, none (mid_at + i) (omega arith) (omega (arith, h, few)), none (end_at + i) (omega arith) (omega (arith, h, few)))) in
+    let e : sum (counted x) n ≡ sum (λ i. 0) n = sum_same (counted x) (λ i. 0) n
+    (λ i h. omega (arith, none (mid_at + i) (omega arith) (omega (arith, h, few)), none (end_at + i) (omega arith) (omega (arith, h, few)))) in
     (omega (arith, e, sum-zero (λ i. 0) (λ i. refl) n), few)
 
 falls-none : (n : ℕ) (x : List ℕ) → n ≤ most_nodes → ((i : ℕ) → first_at ≤ i → i < edges_at → get_or x i 0 ≡ 0) → Falling n n (top n) x
@@ -369,11 +389,13 @@ record Sunk (t ls : List ℕ) (n : ℕ) (r : List ℕ × Descent) : Type 0 where
   sinking : Sinking t ls n 0 r.0
   falling : Falling n 0 r.1 r.0
 
-sinks : (t ls : List ℕ) (n p : ℕ) (d : Descent) (x : List ℕ) → n ≤ most_nodes → p ≤ n → Early (node_at t) n → Records t n → Sinking t ls n p x → Falling n p d x → Sunk t ls n (sunk t x d p)
+sinks : (t ls : List ℕ) (n p : ℕ) (d : Descent) (x : List ℕ) → n ≤ most_nodes → p ≤ n → Early (node_at t) n → Records t n → Sinking t ls n p x
+    → Falling n p d x → Sunk t ls n (sunk t x d p)
 unfolding sunk
 sinks t ls n zero d x few h a r S F = record { sinking = S; falling = F }
 sinks t ls n (suc p) d x few h a r S F =
-    sinks t ls n p (descended x d p) (passed t x d p) few (omega arith) a r (sinks_passed t ls n p d x S few (omega arith) (a p (omega arith)) (r p (omega arith)).1)
+    sinks t ls n p (descended x d p) (passed t x d p) few (omega arith) a r
+    (sinks_passed t ls n p d x S few (omega arith) (a p (omega arith)) (r p (omega arith)).1)
     (falls-passed t x d p (omega arith) S.size (a p (omega arith)) (r p (omega arith)).1 few (omega arith) F)
 
 -- the literals are marked: marks are before the places, and flags behind the edges
@@ -408,7 +430,8 @@ sunk_placing t ls n (x, d) a S =
       },
     )
 
-pub sinks_whole : (t ls : List ℕ) (n : ℕ) (x x₁ x₂ : List ℕ) (head : ℕ) → n ≤ most_nodes → Records t n → Early (node_at t) n → Below n ls → length x ≡ index_size → Unfilled x
+pub sinks_whole : (t ls : List ℕ) (n : ℕ) (x x₁ x₂ : List ℕ) (head : ℕ) → n ≤ most_nodes → Records t n → Early (node_at t) n → Below n ls
+    → length x ≡ index_size → Unfilled x
     → x₁ ≡ mark_all x ls → x₂ ≡ (sunk t x₁ (top n) n).0 → head ≡ (sunk t x₁ (top n) n).1.last → Sinking t ls n 0 x₂ × Placing n head x₂
 sinks_whole t ls n x x₁ x₂ head few r a b z none e f g =
     let y = mark_all x ls in

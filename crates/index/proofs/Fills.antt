@@ -115,7 +115,8 @@ module _ {t : ℕ → Node} {n : ℕ} {S u v : ℕ → ℕ} {D : ℕ → ℕ →
     k-low = omega (arith, k-is, room, F.starts.low (l / 2) h)
 
     elsewhere : (i : ℕ) → (i ≡ mid_at + l / 2 → ⊥) → (i ≡ edges_at + k → ⊥) → (i ≡ edges_at + (k + 1) → ⊥) → get_or x₃ i 0 ≡ get_or x i 0
-    elsewhere i a b c = get_or-set_other x₂ (edges_at + (k + 1)) i o 0 c ∙ get_or-set_other x₁ (edges_at + k) i e 0 b ∙ get_or-set_other x (mid_at + l / 2) i (k + 2) 0 a
+    elsewhere i a b c = get_or-set_other x₂ (edges_at + (k + 1)) i o 0 c ∙ get_or-set_other x₁ (edges_at + k) i e 0 b
+        ∙ get_or-set_other x (mid_at + l / 2) i (k + 2) 0 a
 
     new-mid : mid_of x₃ (l / 2) ≡ k + 2
     new-mid =
@@ -136,7 +137,8 @@ module _ {t : ℕ → Node} {n : ℕ} {S u v : ℕ → ℕ} {D : ℕ → ℕ →
 
     -- the numbers of other edges stay
     stays : (m d i : ℕ) → m < n → i ≡ S m + d → d < L m + W m → (m ≡ l / 2 → (d ≡ u (l / 2) → ⊥) × (d ≡ u (l / 2) + 1 → ⊥)) → edge_at x₃ i ≡ edge_at x i
-    stays m d i b q c f = elsewhere (edges_at + i) (λ z. omega (arith, z, h)) (λ z. go (ℕ_discrete m (l / 2)) (inl (omega (arith, z)))) (λ z. go (ℕ_discrete m (l / 2)) (inr (omega (arith, z))))
+    stays m d i b q c f = elsewhere (edges_at + i) (λ z. omega (arith, z, h)) (λ z. go (ℕ_discrete m (l / 2)) (inl (omega (arith, z))))
+        (λ z. go (ℕ_discrete m (l / 2)) (inr (omega (arith, z))))
       where
         go : Dec (m ≡ l / 2) → (i ≡ k) ⊎ (i ≡ k + 1) → ⊥
         go (yes r) (inl z) = (f r).0 (omega (arith, z, q, k-is, ap S r))
@@ -148,7 +150,8 @@ module _ {t : ℕ → Node} {n : ℕ} {S u v : ℕ → ℕ} {D : ℕ → ℕ →
     pair-stays m j i b c (inl z) =
         stays m (2 * j) i b z (omega (arith, F.pairs_few m b)) (λ r. (λ q. omega (arith, q, ap u r), λ q. omega (arith, q, ap u r)))
     pair-stays m j i b c (inr z) =
-        stays m (2 * j + 1) i b (omega (arith, z)) (omega (arith, F.pairs_few m b, F.even m)) (λ r. (λ q. omega (arith, q, ap u r, F.even m), λ q. omega (arith, q, ap u r)))
+        stays m (2 * j + 1) i b (omega (arith, z)) (omega (arith, F.pairs_few m b, F.even m))
+        (λ r. (λ q. omega (arith, q, ap u r, F.even m), λ q. omega (arith, q, ap u r)))
 
     three-stays : (m j : ℕ) → m < n → j < v m → edge_at x₃ (S m + (L m + j)) ≡ edge_at x (S m + (L m + j))
     three-stays m j b c =
@@ -179,7 +182,8 @@ module _ {t : ℕ → Node} {n : ℕ} {S u v : ℕ → ℕ} {D : ℕ → ℕ →
           each l (λ m w. m < n → mid_of x₃ m ≡ S m + (u m + 2 * w)) (λ b. new-mid ∙ omega (arith, k-is))
           (λ m d b. elsewhere (mid_at + m) (λ q. d (omega (arith, q))) (λ q. omega (arith, q)) (λ q. omega (arith, q)) ∙ omega (arith, F.mid m b));
       end = λ m b. elsewhere (end_at + m) (λ q. omega (arith, q)) (λ q. omega (arith, q)) (λ q. omega (arith, q)) ∙ F.end m b;
-      pairs = λ m j. each l (λ m w. m < n → 2 * j < u m + 2 * w → PairHere m j) (λ b c. go j b c (dec_lt (2 * j) (u (l / 2)))) (λ m d b c. pair-kept m j b (omega (arith, c))) m;
+      pairs = λ m j. each l (λ m w. m < n → 2 * j < u m + 2 * w → PairHere m j) (λ b c. go j b c (dec_lt (2 * j) (u (l / 2))))
+          (λ m d b c. pair-kept m j b (omega (arith, c))) m;
       threes = λ m j b c. rw (three-stays m j b c) (F.threes m j b c);
       has = λ m q b. ⊎_elim (λ d. old m q b (F.has m q b d)) (λ d. newly m q d.0 d.1);
     }
@@ -225,7 +229,8 @@ module _ {t : ℕ → Node} {n : ℕ} {S u v : ℕ → ℕ} {D : ℕ → ℕ →
     besides i a b = get_or-set_other z₁ (edges_at + c) i p 0 b ∙ get_or-set_other x (end_at + l / 2) i (c + 1) 0 a
 
     new-end : end_of z₂ (l / 2) ≡ c + 1
-    new-end = get_or-set_other z₁ (edges_at + c) (end_at + l / 2) p 0 (λ q. omega (arith, q)) ∙ get_or-set_same x (end_at + l / 2) (c + 1) 0 (omega (arith, F.size))
+    new-end = get_or-set_other z₁ (edges_at + c) (end_at + l / 2) p 0 (λ q. omega (arith, q))
+        ∙ get_or-set_same x (end_at + l / 2) (c + 1) 0 (omega (arith, F.size))
 
     new-three : edge_at z₂ c ≡ p
     new-three = get_or-set_same z₁ (edges_at + c) p 0 (omega (arith, length-set x (end_at + l / 2) (c + 1), F.size, c-low))
@@ -262,7 +267,8 @@ module _ {t : ℕ → Node} {n : ℕ} {S u v : ℕ → ℕ} {D : ℕ → ℕ →
           each l (λ m w. m < n → end_of z₂ m ≡ S m + (L m + (v m + w))) (λ b. new-end ∙ omega (arith, c-is))
           (λ m d b. besides (end_at + m) (λ q. d (omega (arith, q))) (λ q. omega (arith, q)) ∙ omega (arith, F.end m b));
       pairs = λ m j b f. rw (pair-remains m j (S m + 2 * j) b f (inl refl), pair-remains m j (S m + 2 * j + 1) b f (inr refl)) (F.pairs m j b f);
-      threes = λ m j. each l (λ m w. m < n → j < v m + w → Triple t n (edge_at z₂ (S m + (L m + j)))) (λ b f. go j b f (dec_lt j (v (l / 2)))) (λ m d b f. kept m j b (omega (arith, f))) m;
+      threes = λ m j. each l (λ m w. m < n → j < v m + w → Triple t n (edge_at z₂ (S m + (L m + j)))) (λ b f. go j b f (dec_lt j (v (l / 2))))
+          (λ m d b f. kept m j b (omega (arith, f))) m;
       has = λ m q b. ⊎_elim (λ d. old m q b (F.has m q b d)) (λ d. newly m q d.0 d.1);
     }
       where

@@ -2,7 +2,7 @@
 use mathlib.Core.Path.{◌≡◌, refl, ap, ◌∙◌}
 use mathlib.Core.Logic.{◌⊎◌, inl, inr}
 use mathlib.Core.List.{List, [], ◌∷◌}
-use Prim.Native.Nat.{ℕ, zero, suc, ◌+◌, ◌-◌, ◌*◌, ◌/◌, ◌%◌, ◌<◌, ◌≤◌}
+use Prim.Native.Nat.{ℕ, zero, suc, ◌+◌, ◌*◌, ◌/◌, ◌%◌, ◌<◌, ◌≤◌}
 use native.Mathlib.Omega.{arith}
 use native.Mathlib.Decide.{ℕ_discrete}
 use lib.ListN.{length, get_or, set, drop, length-set, drop_of_length-le}
@@ -88,7 +88,8 @@ flag_marked p x l z h few f m b = go (ℕ_discrete m (l / 2))
         let q : m / 63 ≡ l / 126 = omega (arith, e) in
         rw q (flag_new x l z h)
     go (no d) w =
-        let other : get_or (marked x l) (4 * m) 0 ≡ get_or x (4 * m) 0 = get_or-set_other (set x (4 * (l / 2)) 1) (codes_at + l / 126) (4 * m) 1 0 (λ q. omega (arith, q)) ∙ get_or-set_other x (4 * (l / 2)) (4 * m) 1 0 (λ q. d (omega (arith, q))) in
+        let other : get_or (marked x l) (4 * m) 0 ≡ get_or x (4 * m) 0 = get_or-set_other (set x (4 * (l / 2)) 1) (codes_at + l / 126) (4 * m) 1 0
+        (λ q. omega (arith, q)) ∙ get_or-set_other x (4 * (l / 2)) (4 * m) 1 0 (λ q. d (omega (arith, q))) in
         mark-kept x l z h (codes_at + m / 63) (f m b (omega (arith, other, w)))
 
 pub flags_marked : (p : ℕ) (x ls : List ℕ) → length x ≡ index_size → All (λ l. l / 2 < most_nodes) ls → p ≤ most_nodes → Flagged p x → Flagged p (mark_all x ls)
@@ -160,7 +161,8 @@ module _ (x : List ℕ) (p : ℕ) (d : Descent) where
   placed_size = simp length-set refl
 
   pub placed_other : (i : ℕ) → (i ≡ first_at + p → ⊥) → (i ≡ mid_at + p → ⊥) → (i ≡ end_at + p → ⊥) → get_or (placed_at x p d) i 0 ≡ get_or x i 0
-  placed_other i a b c = get_or-set_other z₂ (end_at + p) i _ 0 c ∙ get_or-set_other z₁ (mid_at + p) i d.start 0 b ∙ get_or-set_other x (first_at + p) i d.last 0 a
+  placed_other i a b c = get_or-set_other z₂ (end_at + p) i _ 0 c ∙ get_or-set_other z₁ (mid_at + p) i d.start 0 b
+      ∙ get_or-set_other x (first_at + p) i d.last 0 a
 
   pub placed_same : Same first_at x (placed_at x p d)
   placed_same i h = placed_other i (λ q. omega (arith, q)) (λ q. omega (arith, q)) (λ q. omega (arith, q))
@@ -168,11 +170,13 @@ module _ (x : List ℕ) (p : ℕ) (d : Descent) where
   module _ (h : p < most_nodes) (z : length x ≡ index_size) where
     pub placed_first : first_of (placed_at x p d) p ≡ d.last
     placed_first =
-        get_or-set_other z₂ (end_at + p) (first_at + p) _ 0 (λ q. omega (arith, q)) ∙ get_or-set_other z₁ (mid_at + p) (first_at + p) d.start 0 (λ q. omega (arith, q))
+        get_or-set_other z₂ (end_at + p) (first_at + p) _ 0 (λ q. omega (arith, q)) ∙ get_or-set_other z₁ (mid_at + p) (first_at + p) d.start 0
+        (λ q. omega (arith, q))
         ∙ get_or-set_same x (first_at + p) d.last 0 (omega arith)
 
     pub placed-mid : mid_of (placed_at x p d) p ≡ d.start
-    placed-mid = get_or-set_other z₂ (end_at + p) (mid_at + p) _ 0 (λ q. omega (arith, q)) ∙ get_or-set_same z₁ (mid_at + p) d.start 0 (simp length-set (omega arith))
+    placed-mid = get_or-set_other z₂ (end_at + p) (mid_at + p) _ 0 (λ q. omega (arith, q)) ∙ get_or-set_same z₁ (mid_at + p) d.start 0
+        (simp length-set (omega arith))
 
     pub placed_end : end_of (placed_at x p d) p ≡ d.start + mid_of x p
     placed_end = get_or-set_same z₂ (end_at + p) _ 0 (simp length-set (omega arith))
@@ -216,12 +220,14 @@ module _ (t x : List ℕ) (d : Descent) (p : ℕ) where
 
     -- from the node on nothing is marked, up to the flags
     marking-behind : (i : ℕ) → 4 * p ≤ i → i < codes_at → get_or marking i 0 ≡ get_or loaded i 0
-    marking-behind i h b = marks_other loaded (operands (node_at t p)) i b (all_imply (λ l. l / 2 < p) _ (λ l b q. omega (arith, q, b)) (operands (node_at t p)) a)
+    marking-behind i h b = marks_other loaded (operands (node_at t p)) i b
+        (all_imply (λ l. l / 2 < p) _ (λ l b q. omega (arith, q, b)) (operands (node_at t p)) a)
 
     pub marking-node : 0 < (node_at t p).kind → index_node marking p ≡ node_at t p
     unfolding index_node
     marking-node k =
-        let kept : (i : ℕ) → i < 4 → get_or marking (4 * p + i) 0 ≡ get_or loaded (4 * p + i) 0 = λ i h. marking-behind (4 * p + i) (omega arith) (omega arith) in
+        let kept : (i : ℕ) → i < 4 → get_or marking (4 * p + i) 0 ≡ get_or loaded (4 * p + i) 0 = λ i h. marking-behind (4 * p + i) (omega arith)
+        (omega arith) in
         let first : get_or marking (4 * p) 0 ≡ get_or loaded (4 * p) 0 = marking-behind (4 * p) (omega arith) (omega arith) in
         let e : index_node marking p ≡ index_node loaded p = rw (first, kept 1 (omega arith), kept 2 (omega arith), kept 3 (omega arith)) in
         e ∙ loaded-node k
@@ -236,8 +242,20 @@ module _ (t x : List ℕ) (d : Descent) (p : ℕ) where
       size = marking-size;
       few = omega arith;
       known = a;
-      pairs = λ m h. omega (arith, marking-places (mid_at + m) (omega arith) (omega arith), placed_other x p d (mid_at + m) (λ q. omega (arith, q)) (λ q. omega (arith, q)) (λ q. omega (arith, q)), one m h, brings_four (node_at t p) m);
-      threes = λ m h. omega (arith, marking-places (end_at + m) (omega arith) (omega arith), placed_other x p d (end_at + m) (λ q. omega (arith, q)) (λ q. omega (arith, q)) (λ q. omega (arith, q)), one m h, brings_four (node_at t p) m);
+      pairs = λ m h. omega (
+        arith,
+        marking-places (mid_at + m) (omega arith) (omega arith),
+        placed_other x p d (mid_at + m) (λ q. omega (arith, q)) (λ q. omega (arith, q)) (λ q. omega (arith, q)),
+        one m h,
+        brings_four (node_at t p) m,
+      );
+      threes = λ m h. omega (
+        arith,
+        marking-places (end_at + m) (omega arith) (omega arith),
+        placed_other x p d (end_at + m) (λ q. omega (arith, q)) (λ q. omega (arith, q)) (λ q. omega (arith, q)),
+        one m h,
+        brings_four (node_at t p) m,
+      );
     }
       where
         one : (m : ℕ) → m < p → mid_of x m + end_of x m + 4 ≤ most_edges
@@ -263,11 +281,11 @@ sunk-over t x d r (suc e) h n = go (λ l. sunk-over t x d r e l (λ m a b. n m a
     go f (no q) = f (omega (arith, h, q)) ∙ sunk-bare t x d e (n e (omega (arith, h, q)) (omega arith))
 
 -- of the nodes of a block that is not flagged none is marked
-pub unflagged : (x : List ℕ) (e : ℕ) → Flagged e x → get_or x (codes_at + (e - 1) / 63) 0 ≡ 0 → Unmarked (63 * ((e - 1) / 63)) e x
-unflagged x e f z m a b = go (ℕ_discrete (get_or x (4 * m) 0) 0)
+pub unflagged : (x : List ℕ) (j e : ℕ) → e ≤ 63 * j + 63 → Flagged e x → get_or x (codes_at + j) 0 ≡ 0 → Unmarked (63 * j) e x
+unflagged x j e h f z m a b = go (ℕ_discrete (get_or x (4 * m) 0) 0)
   where
-    same : m / 63 ≡ (e - 1) / 63
-    same = omega (arith, a, b)
+    same : m / 63 ≡ j
+    same = omega (arith, a, b, h)
 
     go : Dec (get_or x (4 * m) 0 ≡ 0) → get_or x (4 * m) 0 ≡ 0
     go (yes q) = q
@@ -289,7 +307,8 @@ pub record Sinking (t ls : List ℕ) (n p : ℕ) (x : List ℕ) : Type 0 where
   pub cells : (i : ℕ) → i < 4 * p → (i % 4 ≡ 0 → ⊥) → get_or x i 0 ≡ 0
 
 -- which are numbers before the places
-sinking_same : {t ls : List ℕ} {n p : ℕ} (x x' : List ℕ) → n ≤ most_nodes → p ≤ most_nodes → length x' ≡ index_size → Same first_at x x' → Sinking t ls n p x → Sinking t ls n p x'
+sinking_same : {t ls : List ℕ} {n p : ℕ} (x x' : List ℕ) → n ≤ most_nodes → p ≤ most_nodes → length x' ≡ index_size → Same first_at x x'
+    → Sinking t ls n p x → Sinking t ls n p x'
 sinking_same {t} {ls} {n} {p} x x' few low size same S = record {
   size = size;
   nodes = λ m a h. rw (node m (omega arith)) (S.nodes m a h);
@@ -334,7 +353,12 @@ module _ (t ls : List ℕ) (n p : ℕ) (x x' : List ℕ) (S : Sinking t ls n (su
     (node : (index_node x' p ≡ node_at t p) ⊎ (index_node x' p ≡ bare)) where
   node_stays : (m : ℕ) → p < m → m < most_nodes → index_node x' m ≡ index_node x m
   unfolding index_node
-  node_stays m h few = rw (same (4 * m) (omega arith) (omega arith), same (4 * m + 1) (omega arith) (omega arith), same (4 * m + 2) (omega arith) (omega arith), same (4 * m + 3) (omega arith) (omega arith))
+  node_stays m h few = rw (
+    same (4 * m) (omega arith) (omega arith),
+    same (4 * m + 1) (omega arith) (omega arith),
+    same (4 * m + 2) (omega arith) (omega arith),
+    same (4 * m + 3) (omega arith) (omega arith),
+  )
 
   met_kept : (l : ℕ) → Met t (suc p) x l → Met t p x' l
   met_kept l k = record {
@@ -380,12 +404,14 @@ module _ (t ls : List ℕ) (n p : ℕ) (x : List ℕ) (S : Sinking t ls n (suc p
       is = rw (e, cell (4 * p + 1) (omega arith) (omega arith), cell (4 * p + 2) (omega arith) (omega arith), cell (4 * p + 3) (omega arith) (omega arith))
 
   -- a marked node
-  sinks_node : All (λ l. l / 2 < p) (operands (node_at t p)) → 0 < (node_at t p).kind → Sinking t ls n p (mark_all (stored x p (node_at t p)) (operands (node_at t p)))
+  sinks_node : All (λ l. l / 2 < p) (operands (node_at t p)) → 0 < (node_at t p).kind → Sinking t ls n p
+      (mark_all (stored x p (node_at t p)) (operands (node_at t p)))
   unfolding index_node
   sinks_node a k =
       sinks_one t ls n p x x' S size most few
       (λ i h m. marks_kept y os i z low (rw (stored_other x p (node_at t p) i (λ b c. omega arith)) m))
-      (λ i h d. marks_other y os i (omega arith) (all_imply (λ l. l / 2 < p) _ (λ l b q. d (omega (arith, q))) os a) ∙ stored_other x p (node_at t p) i (λ b c. omega arith))
+      (λ i h d. marks_other y os i (omega arith) (all_imply (λ l. l / 2 < p) _ (λ l b q. d (omega (arith, q))) os a)
+      ∙ stored_other x p (node_at t p) i (λ b c. omega arith))
       (λ i h b. behind i (omega arith) b ∙ stored_other x p (node_at t p) i (λ b c. omega arith))
       (λ m. is) (inl is) (λ q. rw is (go os a (marks_stand y os z low)))
     where
@@ -412,7 +438,12 @@ module _ (t ls : List ℕ) (n p : ℕ) (x : List ℕ) (S : Sinking t ls n (suc p
 
       is : index_node x' p ≡ node_at t p
       is =
-          let s : index_node x' p ≡ index_node y p = rw (behind (4 * p) (omega arith) (omega arith), behind (4 * p + 1) (omega arith) (omega arith), behind (4 * p + 2) (omega arith) (omega arith), behind (4 * p + 3) (omega arith) (omega arith)) in
+          let s : index_node x' p ≡ index_node y p = rw (
+            behind (4 * p) (omega arith) (omega arith),
+            behind (4 * p + 1) (omega arith) (omega arith),
+            behind (4 * p + 2) (omega arith) (omega arith),
+            behind (4 * p + 3) (omega arith) (omega arith),
+          ) in
           s ∙ stored-node x p (node_at t p) (omega (arith, few, S.size)) k
 
       go : (ks : List ℕ) → All (λ l. l / 2 < p) ks → All (λ l. 0 < get_or x' (4 * (l / 2)) 0) ks → All (Met t p x') ks
@@ -432,7 +463,8 @@ module _ (t ls : List ℕ) (n p : ℕ) (d : Descent) (x : List ℕ) (S : Sinking
       go : Dec (get_or x (4 * p) 0 ≡ 0) → Sinking t ls n p (passed t x d p)
       go (yes e) = rw (eq-eqb (get_or x (4 * p) 0) 0 e) (sinks_bare t ls n p x S few low_p e)
       go (no e) = rw (ne_eqb (get_or x (4 * p) 0) 0 e)
-          (sinking_same (marking t x d p) (count_node (marking t x d p) (node_at t p)) few (omega arith) (count_size (marking t x d p) (node_at t p) ∙ marking-size t x d p low_p S.size a)
+          (sinking_same (marking t x d p) (count_node (marking t x d p) (node_at t p)) few (omega arith)
+          (count_size (marking t x d p) (node_at t p) ∙ marking-size t x d p low_p S.size a)
           (λ i b. count_same (marking t x d p) (node_at t p) i (omega arith))
           (sinks_node t ls n p (placed_at x p d)
           (sinking_same x (placed_at x p d) few (omega arith) (placed_size x p d ∙ S.size) (placed_same x p d) S) few low_p a k))
@@ -450,7 +482,8 @@ module _ (t ls : List ℕ) (n : ℕ) (x x₁ x₂ x₃ : List ℕ) (few : n ≤ 
   pub pruned : Pruned t ls n x₃
   pruned = record {
     nodes = λ m h. rw (kept m (omega arith)) (S.nodes m (omega arith) h);
-    closed = λ i h. rw (kept i (omega arith)) (λ q. all_imply (Met t 0 x) (Alike (index_node x₃) (node_at t)) alike (operands (index_node x i)) (S.closed i (omega arith) h q));
+    closed = λ i h. rw (kept i (omega arith))
+        (λ q. all_imply (Met t 0 x) (Alike (index_node x₃) (node_at t)) alike (operands (index_node x i)) (S.closed i (omega arith) h q));
     literals = all_imply (Met t 0 x) (Alike (index_node x₃) (node_at t)) alike ls S.literals;
     edges = edges_kept n x x₁ x₂ x₃ few e c d;
     codes = codes-kept n x x₁ x₂ x₃ few e c d;

@@ -97,8 +97,11 @@ module _ (x : List ℕ) (m : ℕ) (y : Node) (h : m < most_nodes) (z : length x 
       ∙ stored-node x m y (omega (arith, h, z)) k
 
   written-counts : (get_or (written x m y) (mid_at + m) 0 ≡ 0) × (get_or (written x m y) (end_at + m) 0 ≡ 0)
-  written-counts =
-      (get_or-set_other (with_mid x m y) (end_at + m) (mid_at + m) 0 0 (λ q. omega (arith, q)) ∙ get_or-set_same (stored x m y) (mid_at + m) 0 0 (simp length-set (omega arith)), get_or-set_same (with_mid x m y) (end_at + m) 0 0 (simp length-set (omega arith)))
+  written-counts = (
+    get_or-set_other (with_mid x m y) (end_at + m) (mid_at + m) 0 0 (λ q. omega (arith, q))
+        ∙ get_or-set_same (stored x m y) (mid_at + m) 0 0 (simp length-set (omega arith)),
+    get_or-set_same (with_mid x m y) (end_at + m) 0 0 (simp length-set (omega arith)),
+  )
 
 -- ---- the first nodes
 
@@ -115,7 +118,10 @@ loaded_more t x m y h k e L = record {
   nodes = below_more _ m (λ k l. node_same x (written x m y) m k before l ∙ L.nodes k l) (written-node x m y h L.size k ∙ e);
   counts =
       below_more _ m
-      (λ k l. (other k l mid_at (omega arith) (omega arith) (λ d. omega (arith, d, h)) ∙ (L.counts k l).0, other k l end_at (omega arith) (λ d. omega (arith, d, h)) (omega arith) ∙ (L.counts k l).1))
+      (λ k l. (
+        other k l mid_at (omega arith) (omega arith) (λ d. omega (arith, d, h)) ∙ (L.counts k l).0,
+        other k l end_at (omega arith) (λ d. omega (arith, d, h)) (omega arith) ∙ (L.counts k l).1,
+      ))
       (written-counts x m y h L.size);
 }
   where

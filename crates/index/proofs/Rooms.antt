@@ -80,9 +80,12 @@ module _ {n : ℕ} {y : Node} {x : List ℕ} (R : Room n y x) where
 
 -- ---- counting and putting, call by call: each call's result is what the definition says
 
--- what put_pair and put_three ask, but for the room
-abbrev Fit : List ℕ → ℕ → ℕ → Type 0
-Fit x p l = (length x ≡ index_size) × (p < most_nodes) × (l / 2 < most_nodes)
+-- what put_pair and put_three ask
+abbrev Pair : List ℕ → ℕ → ℕ → ℕ → Type 0
+Pair x p l y = (length x ≡ index_size) × (p < most_nodes) × (l / 2 < most_nodes) × (y ≤ 21) × (mid_of x (l / 2) + 2 ≤ most_edges)
+
+abbrev Three : List ℕ → ℕ → ℕ → Type 0
+Three x p l = (length x ≡ index_size) × (p < most_nodes) × (l / 2 < most_nodes) × (end_of x (l / 2) + 1 ≤ most_edges)
 
 module _ {n : ℕ} {y : Node} {x : List ℕ} (R : Room n y x) where
   module _ (k : y.kind < 3) where
@@ -95,28 +98,29 @@ module _ {n : ℕ} {y : Node} {x : List ℕ} (R : Room n y x) where
     put-none p = rw (lt-ltb y.kind 3 k)
 
   module _ (k : 3 ≤ y.kind) (k' : y.kind < 7) where
-    pub count-first : (length x ≡ index_size) × (y.a / 2 < most_nodes) × (mid_of x (y.a / 2) + 2 ≤ most_edges)
-    count-first = (R.size, (pair-first R k k').0, (pair-first R k k').1)
+    pub count-first : (length x ≡ index_size) × (mid_at + y.a / 2 < index_size) × (mid_of x (y.a / 2) + 2 ≤ most_edges)
+    count-first = (R.size, omega (arith, (pair-first R k k').0), (pair-first R k k').1)
 
-    pub put_first : (p : ℕ) → p < n → ((length x ≡ index_size) × (p < most_nodes) × (y.a / 2 < most_nodes) × (3 * (y.kind - 3) ≤ 21)) × (mid_of x (y.a / 2) + 2 ≤ most_edges)
-    put_first p h = ((R.size, omega (arith, h, R.few), (pair-first R k k').0, omega arith), (pair-first R k k').1)
+    pub put_first : (p : ℕ) → p < n → Pair x p y.a (3 * (y.kind - 3))
+    put_first p h = (R.size, omega (arith, h, R.few), (pair-first R k k').0, omega arith, (pair-first R k k').1)
 
     module _ {x₁ : List ℕ} (e : x₁ ≡ raised x (mid_at + y.a / 2) 2) where
-      pub count-second : (length x₁ ≡ index_size) × (y.b / 2 < most_nodes) × (mid_of x₁ (y.b / 2) + 2 ≤ most_edges)
+      pub count-second : (length x₁ ≡ index_size) × (mid_at + y.b / 2 < index_size) × (mid_of x₁ (y.b / 2) + 2 ≤ most_edges)
       count-second =
           let r = pair-second R k k' x₁ (ap (λ (w : List ℕ). mid_of w (y.b / 2)) e ∙ mid_raised x y.a R.size (pair-first R k k').0 (y.b / 2)) in
-          (ap length e ∙ length-set x (mid_at + y.a / 2) _ ∙ R.size, r.0, r.1)
+          (ap length e ∙ length-set x (mid_at + y.a / 2) _ ∙ R.size, omega (arith, r.0), r.1)
 
       pub counted-two : {x₂ : List ℕ} → x₂ ≡ raised x₁ (mid_at + y.b / 2) 2 → x₂ ≡ count_node x y
       unfolding count_node
       counted-two f = rw (le-ltb y.kind 3 k, lt-ltb y.kind 7 k') (f ∙ ap (λ (w : List ℕ). raised w (mid_at + y.b / 2) 2) e)
 
     module _ {x₁ : List ℕ} {p : ℕ} (h : p < n) (e : x₁ ≡ put_pair x p y.a y.b (3 * (y.kind - 3))) where
-      pub put_second : ((length x₁ ≡ index_size) × (p < most_nodes) × (y.b / 2 < most_nodes) × (3 * (y.kind + 1) ≤ 21)) × (mid_of x₁ (y.b / 2) + 2 ≤ most_edges)
+      pub put_second : Pair x₁ p y.b (3 * (y.kind + 1))
       put_second =
           let b : y.b / 2 < most_nodes = omega (arith, two-b R k k', R.few) in
-          let r = pair-second R k k' x₁ (ap (λ (w : List ℕ). mid_of w (y.b / 2)) e ∙ mid_put x y.a R.size (pair-first R k k').0 p y.b (3 * (y.kind - 3)) (y.b / 2) b) in
-          ((ap length e ∙ simp length-set R.size, omega (arith, h, R.few), r.0, omega arith), r.1)
+          let r = pair-second R k k' x₁ (ap (λ (w : List ℕ). mid_of w (y.b / 2)) e ∙ mid_put x y.a R.size (pair-first R k k').0 p y.b
+          (3 * (y.kind - 3)) (y.b / 2) b) in
+          (ap length e ∙ simp length-set R.size, omega (arith, h, R.few), r.0, omega arith, r.1)
 
       pub put_two : {x₂ : List ℕ} → x₂ ≡ put_pair x₁ p y.b y.a (3 * (y.kind + 1)) → x₂ ≡ put_node x p y
       unfolding put_node
@@ -124,11 +128,11 @@ module _ {n : ℕ} {y : Node} {x : List ℕ} (R : Room n y x) where
           rw (le-ltb y.kind 3 k, lt-ltb y.kind 7 k') (f ∙ ap (λ (w : List ℕ). put_pair w p y.b y.a (3 * (y.kind + 1))) e)
 
   module _ (k : 7 ≤ y.kind) where
-    pub count-three-first : (length x ≡ index_size) × (y.a / 2 < most_nodes) × (end_of x (y.a / 2) + 1 ≤ most_edges)
-    count-three-first = (R.size, (three-first R k).0, (three-first R k).1)
+    pub count-three-first : (length x ≡ index_size) × (end_at + y.a / 2 < index_size) × (end_of x (y.a / 2) + 1 ≤ most_edges)
+    count-three-first = (R.size, omega (arith, (three-first R k).0), (three-first R k).1)
 
-    pub put-three-first : (p : ℕ) → p < n → Fit x p y.a × (end_of x (y.a / 2) + 1 ≤ most_edges)
-    put-three-first p h = ((R.size, omega (arith, h, R.few), (three-first R k).0), (three-first R k).1)
+    pub put-three-first : (p : ℕ) → p < n → Three x p y.a
+    put-three-first p h = (R.size, omega (arith, h, R.few), (three-first R k).0, (three-first R k).1)
 
     b-low : y.b / 2 < most_nodes
     b-low = omega (arith, three-b R k, R.few)
@@ -143,17 +147,18 @@ module _ {n : ℕ} {y : Node} {x : List ℕ} (R : Room n y x) where
       end₁ : (m : ℕ) → end_of x₁ m ≡ end_of x m + is y.a m
       end₁ m = ap (λ (w : List ℕ). end_of w m) e ∙ end-raised x y.a R.size (three-first R k).0 m
 
-      pub count-three-second : (length x₁ ≡ index_size) × (y.b / 2 < most_nodes) × (end_of x₁ (y.b / 2) + 1 ≤ most_edges)
+      pub count-three-second : (length x₁ ≡ index_size) × (end_at + y.b / 2 < index_size) × (end_of x₁ (y.b / 2) + 1 ≤ most_edges)
       count-three-second =
           let r = three-second R k x₁ (end₁ (y.b / 2)) in
-          (size₁, r.0, r.1)
+          (size₁, omega (arith, r.0), r.1)
 
       module _ {x₂ : List ℕ} (f : x₂ ≡ raised x₁ (end_at + y.b / 2) 1) where
-        pub count-three-third : (length x₂ ≡ index_size) × (y.c / 2 < most_nodes) × (end_of x₂ (y.c / 2) + 1 ≤ most_edges)
+        pub count-three-third : (length x₂ ≡ index_size) × (end_at + y.c / 2 < index_size) × (end_of x₂ (y.c / 2) + 1 ≤ most_edges)
         count-three-third =
-            let q : end_of x₂ (y.c / 2) ≡ end_of x (y.c / 2) + is y.a (y.c / 2) + is y.b (y.c / 2) = ap (λ (w : List ℕ). end_of w (y.c / 2)) f ∙ end-raised x₁ y.b size₁ b-low (y.c / 2) ∙ ap (◌+ is y.b (y.c / 2)) (end₁ (y.c / 2)) in
+            let q : end_of x₂ (y.c / 2) ≡ end_of x (y.c / 2) + is y.a (y.c / 2) + is y.b (y.c / 2) = ap (λ (w : List ℕ). end_of w (y.c / 2)) f
+            ∙ end-raised x₁ y.b size₁ b-low (y.c / 2) ∙ ap (◌+ is y.b (y.c / 2)) (end₁ (y.c / 2)) in
             let r = three_third R k x₂ q in
-            (ap length f ∙ length-set x₁ (end_at + y.b / 2) _ ∙ size₁, r.0, r.1)
+            (ap length f ∙ length-set x₁ (end_at + y.b / 2) _ ∙ size₁, omega (arith, r.0), r.1)
 
         pub counted-all : {x₃ : List ℕ} → x₃ ≡ raised x₂ (end_at + y.c / 2) 1 → x₃ ≡ count_node x y
         unfolding count_node
@@ -168,17 +173,18 @@ module _ {n : ℕ} {y : Node} {x : List ℕ} (R : Room n y x) where
       put-end₁ : (m : ℕ) → m < most_nodes → end_of x₁ m ≡ end_of x m + is y.a m
       put-end₁ m b = ap (λ (w : List ℕ). end_of w m) e ∙ end-put x y.a R.size (three-first R k).0 p m b
 
-      pub put-three-second : Fit x₁ p y.b × (end_of x₁ (y.b / 2) + 1 ≤ most_edges)
+      pub put-three-second : Three x₁ p y.b
       put-three-second =
           let r = three-second R k x₁ (put-end₁ (y.b / 2) b-low) in
-          ((put-size₁, omega (arith, h, R.few), r.0), r.1)
+          (put-size₁, omega (arith, h, R.few), r.0, r.1)
 
       module _ {x₂ : List ℕ} (f : x₂ ≡ put_three x₁ p y.b) where
-        pub put-three-third : Fit x₂ p y.c × (end_of x₂ (y.c / 2) + 1 ≤ most_edges)
+        pub put-three-third : Three x₂ p y.c
         put-three-third =
-            let q : end_of x₂ (y.c / 2) ≡ end_of x (y.c / 2) + is y.a (y.c / 2) + is y.b (y.c / 2) = ap (λ (w : List ℕ). end_of w (y.c / 2)) f ∙ end-put x₁ y.b put-size₁ b-low p (y.c / 2) c-low ∙ ap (◌+ is y.b (y.c / 2)) (put-end₁ (y.c / 2) c-low) in
+            let q : end_of x₂ (y.c / 2) ≡ end_of x (y.c / 2) + is y.a (y.c / 2) + is y.b (y.c / 2) = ap (λ (w : List ℕ). end_of w (y.c / 2)) f
+            ∙ end-put x₁ y.b put-size₁ b-low p (y.c / 2) c-low ∙ ap (◌+ is y.b (y.c / 2)) (put-end₁ (y.c / 2) c-low) in
             let r = three_third R k x₂ q in
-            ((ap length f ∙ simp length-set put-size₁, omega (arith, h, R.few), r.0), r.1)
+            (ap length f ∙ simp length-set put-size₁, omega (arith, h, R.few), r.0, r.1)
 
         pub put_all : {x₃ : List ℕ} → x₃ ≡ put_three x₂ p y.c → x₃ ≡ put_node x p y
         unfolding put_node

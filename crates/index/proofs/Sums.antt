@@ -92,15 +92,34 @@ node-four y k = go (ltb y.kind 7) refl
   where
     go : (b : Bool) → ltb y.kind 7 ≡ b → sum (λ m. cond b (2 * times m (operands y)) 0 + cond b 0 (times m (operands y))) k ≤ 4
     go true e =
-        omega (arith, sum_plus (λ m. 2 * times m (operands y) + 0) (λ m. times m (operands y)) (λ m. times m (operands y)) (λ i. omega arith) k, sum-times (operands y) k, operands-length y, arity_pair y.kind (ltb-true y.kind 7 e))
-    go false e = omega (arith, sum_plus (λ m. 0 + times m (operands y)) (λ m. 0) (λ m. times m (operands y)) (λ i. refl) k, sum-zero (λ m. 0) (λ i. refl) k, sum-times (operands y) k, operands-length y, arity_most y.kind)
+        omega (
+          arith,
+          sum_plus (λ m. 2 * times m (operands y) + 0) (λ m. times m (operands y)) (λ m. times m (operands y)) (λ i. omega arith) k,
+          sum-times (operands y) k,
+          operands-length y,
+          arity_pair y.kind (ltb-true y.kind 7 e),
+        )
+    go false e = omega (
+      arith,
+      sum_plus (λ m. 0 + times m (operands y)) (λ m. 0) (λ m. times m (operands y)) (λ i. refl) k,
+      sum-zero (λ m. 0) (λ i. refl) k,
+      sum-times (operands y) k,
+      operands-length y,
+      arity_most y.kind,
+    )
 
 -- so the edges from b nodes fit
 pub sum-four : (t : ℕ → Node) (b k : ℕ) → sum (λ i. pairs_to t b i + threes_to t b i) k ≤ 4 * b
 unfolding sum
 sum-four t zero k = omega (arith, sum-zero (λ i. 0) (λ i. refl) k)
 sum-four t (suc b) k =
-    omega (arith, sum_plus (λ i. pairs_to t (suc b) i + threes_to t (suc b) i) (λ i. pairs_to t b i + threes_to t b i) (λ i. pairs_in (t b) i + threes_in (t b) i) (λ i. omega arith) k, sum-four t b k, node-four (t b) k)
+    omega (
+      arith,
+      sum_plus (λ i. pairs_to t (suc b) i + threes_to t (suc b) i) (λ i. pairs_to t b i + threes_to t b i)
+          (λ i. pairs_in (t b) i + threes_in (t b) i) (λ i. omega arith) k,
+      sum-four t b k,
+      node-four (t b) k,
+    )
 
 -- ---- the edges of node m, in the region of all
 
@@ -109,7 +128,8 @@ module _ (t : ℕ → Node) (n : ℕ) (few : n ≤ most_nodes) where
   total_low m h = omega (arith, sum-part (λ i. pairs_to t n i + threes_to t n i) m n h, sum-four t n n)
 
   -- those of another node stand elsewhere
-  pub apart : (m d k e : ℕ) → (m ≡ k → ⊥) → d < pairs_to t n m + threes_to t n m → e < pairs_to t n k + threes_to t n k → start_of t n m + d ≡ start_of t n k + e → ⊥
+  pub apart : (m d k e : ℕ) → (m ≡ k → ⊥) → d < pairs_to t n m + threes_to t n m → e < pairs_to t n k + threes_to t n k
+      → start_of t n m + d ≡ start_of t n k + e → ⊥
   apart m d k e c h b q = go (dec_lt m k)
     where
       go : Dec (m < k) → ⊥

@@ -87,7 +87,8 @@ module _ {t : ℕ → Node} {n b : ℕ} {x : List ℕ} (few : n ≤ most_nodes) 
     nodes = agree_same x y₃ few place_same P.nodes;
     first =
         below_more _ b (λ m l. first-kept m (omega arith) (λ q. omega (arith, q)) ∙ P.first m l)
-        (get_or-set_other y₂ (end_at + b) (first_at + b) e 0 (λ q. omega (arith, q)) ∙ get_or-set_other y₁ (mid_at + b) (first_at + b) s 0 (λ q. omega (arith, q))
+        (get_or-set_other y₂ (end_at + b) (first_at + b) e 0 (λ q. omega (arith, q)) ∙ get_or-set_other y₁ (mid_at + b) (first_at + b) s 0
+        (λ q. omega (arith, q))
         ∙ get_or-set_same x (first_at + b) (b + 1) 0 (omega (arith, P.size)));
     mid =
         below_more _ b (λ m l. mid_kept m (omega arith) (λ q. omega (arith, q)) ∙ P.mid m l)
@@ -213,8 +214,10 @@ module _ {t : ℕ → Node} {n p : ℕ} {S : ℕ → ℕ} {x : List ℕ} (few : 
         after_as (λ m. omega (arith, (brings_two (t p) m k k').0)) (λ m. omega (arith, (brings_two (t p) m k k').1))
         (λ m q l. named_more t n p few m q l _ (λ d. inl (inl d)) _ two (cases m q l))
         (filled-pair few
-        (filled-pair few F p (t p).a a-low (t p).b (3 * ((t p).kind - 3)) (omega (arith, pairs_part t n p ((t p).a / 2) h, (brings_two (t p) ((t p).a / 2) k k').0, is_own (t p).a)) h first-pair)
-        p (t p).b b-low (t p).a (3 * ((t p).kind + 1)) (omega (arith, pairs_part t n p ((t p).b / 2) h, (brings_two (t p) ((t p).b / 2) k k').0, is_own (t p).b)) h second-pair)
+        (filled-pair few F p (t p).a a-low (t p).b (3 * ((t p).kind - 3))
+        (omega (arith, pairs_part t n p ((t p).a / 2) h, (brings_two (t p) ((t p).a / 2) k k').0, is_own (t p).a)) h first-pair)
+        p (t p).b b-low (t p).a (3 * ((t p).kind + 1))
+        (omega (arith, pairs_part t n p ((t p).b / 2) h, (brings_two (t p) ((t p).b / 2) k k').0, is_own (t p).b)) h second-pair)
       where
         cases : (m q : ℕ) → m < n → (i : ℕ) → i < 4 → q ≡ p → get_or (none ∷ (t p).a / 2 ∷ (t p).b / 2 ∷ []) i none ≡ m
             → (Names t p m q ⊎ ((m ≡ (t p).a / 2) × (q ≡ p))) ⊎ ((m ≡ (t p).b / 2) × (q ≡ p))
@@ -330,13 +333,15 @@ put_same x p y = go (dec_lt y.kind 3) (dec_lt y.kind 7)
         let k : ℕ = mid_of w (l / 2) in
         let e : ℕ = p + 2048 * (z + l % 2) in
         let w₁ : List ℕ = set w (mid_at + l / 2) (k + 2) in
-        get_or-set_other (set w₁ (edges_at + k) e) (edges_at + (k + 1)) i o 0 (λ q. omega (arith, q)) ∙ get_or-set_other w₁ (edges_at + k) i e 0 (λ q. omega (arith, q))
+        get_or-set_other (set w₁ (edges_at + k) e) (edges_at + (k + 1)) i o 0 (λ q. omega (arith, q))
+        ∙ get_or-set_other w₁ (edges_at + k) i e 0 (λ q. omega (arith, q))
         ∙ get_or-set_other w (mid_at + l / 2) i (k + 2) 0 (λ q. omega (arith, q))
 
     three-same : (w : List ℕ) (l : ℕ) → Same mid_at w (put_three w p l)
     three-same w l i b =
         let k : ℕ = end_of w (l / 2) in
-        get_or-set_other (set w (end_at + l / 2) (k + 1)) (edges_at + k) i p 0 (λ q. omega (arith, q)) ∙ get_or-set_other w (end_at + l / 2) i (k + 1) 0 (λ q. omega (arith, q))
+        get_or-set_other (set w (end_at + l / 2) (k + 1)) (edges_at + k) i p 0 (λ q. omega (arith, q))
+        ∙ get_or-set_other w (end_at + l / 2) i (k + 1) 0 (λ q. omega (arith, q))
 
     go : Dec (y.kind < 3) → Dec (y.kind < 7) → Same mid_at x (put_node x p y)
     go (yes a) b = rw (lt-ltb y.kind 3 a) (λ i k. refl)
@@ -350,7 +355,8 @@ put_same x p y = go (dec_lt y.kind 3) (dec_lt y.kind 7)
 pub linked_on : {n : ℕ} (x x₁ x₂ x₃ : List ℕ) → Same first_at x x₁ → Same first_at x₁ x₂ → Linked n x₂ x₃ → Linked n x x₃
 linked_on x x₁ x₂ x₃ a b l = record { size = l.size; nodes = λ i h. l.nodes i h ∙ b i h ∙ a i h; edges = l.edges }
 
-edges_same : {t t' : ℕ → Node} {n : ℕ} (x x' : List ℕ) → n ≤ most_nodes → ((m : ℕ) → m < n → t' m ≡ t m) → ((i : ℕ) → first_at ≤ i → i < codes_at → get_or x' i 0 ≡ get_or x i 0)
+edges_same : {t t' : ℕ → Node} {n : ℕ} (x x' : List ℕ) → n ≤ most_nodes → ((m : ℕ) → m < n → t' m ≡ t m)
+    → ((i : ℕ) → first_at ≤ i → i < codes_at → get_or x' i 0 ≡ get_or x i 0)
     → Edges t n x → Edges t' n x'
 edges_same {t} {t'} {n} x x' few e s E = record {
   order = λ m h. rw (first m h, mid m h, end m h) (E.order m h);
@@ -389,7 +395,11 @@ edges_same {t} {t'} {n} x x' few e s E = record {
 
     found : (m q : ℕ) → m < n → Parent x m q → Parent x' m q
     found m q h (inl (k, c, z)) =
-        inl (k, (omega (arith, c.0, first m h), omega (arith, c.1, mid m h), omega (arith, c.2, first m h)), ap (◌% 2048) (edge k (omega (arith, c.1, E.order m h))) ∙ z)
+        inl (
+          k,
+          (omega (arith, c.0, first m h), omega (arith, c.1, mid m h), omega (arith, c.2, first m h)),
+          ap (◌% 2048) (edge k (omega (arith, c.1, E.order m h))) ∙ z,
+        )
     found m q h (inr (k, c, z)) = inr (k, (omega (arith, c.0, mid m h), omega (arith, c.1, end m h)), edge k (omega (arith, c.1, (E.order m h).2)) ∙ z)
 
 -- operands are of earlier nodes, where the table's are

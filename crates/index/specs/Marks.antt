@@ -1,7 +1,7 @@
 -- Where only the nodes below some literals are wanted: from the highest node down, a marked node is loaded, and marks those of its operands.
 -- All its parents are met before it, so its edges are counted, and get their places then. The nodes met are chained, each to the one met
 -- before it. A block of 63 nodes that has no marked one is not looked at. Assumes nothing.
-use Rattle.std.specs.Prelude.{◌≡◌, ◌⊎◌, List, [], ◌∷◌, cond, ℕ, zero, suc, ◌+◌, ◌*◌, ◌/◌, ◌<◌, ◌≤◌, eqb, get_or, set}
+use Rattle.std.specs.Prelude.{◌≡◌, ◌⊎◌, Option, None, Some, List, [], ◌∷◌, cond, ℕ, zero, suc, ◌+◌, ◌*◌, ◌/◌, ◌<◌, ◌≤◌, eqb, get_or, set}
 use Rattle.scope.specs.declared.Node.{Node}
 use Rattle.scope.specs.Table.{operands, node_at}
 use Rattle.calculus.specs.Model.{All}
@@ -63,11 +63,10 @@ Fits p d x = (d.start + sum (λ i. mid_of x i + end_of x i) p + 4 * p ≤ most_e
 abbrev pub Unmarked : ℕ → ℕ → List ℕ → Type 0
 Unmarked r e x = (m : ℕ) → r ≤ m → m < e → get_or x (4 * m) 0 ≡ 0
 
--- nodes that are not marked are passed over, from end down to r, which is not below base
-pub record Over (base end : ℕ) (x : List ℕ) (r : ℕ) : Type 0 where
-  pub low : base ≤ r
-  pub high : r ≤ end
-  pub none : Unmarked r end x
+-- nodes that are not marked are passed over, from end down to a marked one, or to base where none is
+abbrev pub Over : ℕ → ℕ → List ℕ → Option ℕ → Type 0
+Over base end x None = Unmarked base end x
+Over base end x (Some p) = (base ≤ p) × (p < end) × Wanted x p × Unmarked (suc p) end x
 
 -- the blocks of those of the first p nodes that are marked are flagged
 abbrev pub Flagged : ℕ → List ℕ → Type 0

@@ -2,12 +2,12 @@
 // without a look at the others, and the codes and classes, which say what the clauses of a literal come to.
 #![tactic(auto)]
 
-ghost use Rattle.std.specs.Prelude.{◌≡◌, ◌+◌, ◌-◌, ◌/◌, ◌%◌, ◌<◌, ◌≤◌, length};
+ghost use Rattle.std.specs.Prelude.{◌≡◌, List, ℕ, ◌+◌, ◌/◌, ◌%◌, ◌<◌, ◌≤◌, get_or, length};
 ghost use Rattle.record.specs.Place.{place_of};
 ghost use Rattle.scope.specs.Table.{operands, node_at};
 ghost use Rattle.calculus.specs.Model.{All, Below};
 ghost use Rattle.index.specs.Codes.{codes_size, classes_size};
-ghost use Rattle.index.specs.Index.{index_size, most_nodes, most_edges, first_at, mid_at, end_at, index_node, stored};
+ghost use Rattle.index.specs.Index.{index_size, most_nodes, most_edges, first_at, index_node, stored};
 ghost use Rattle.index.specs.Edges.{mid_of, end_of};
 ghost use Rattle.index.specs.Built.{Same, Early, Recorded, Records, raised, count_node, put_pair, put_three, put_node, Room, Blank, Counting, Placing, Linked, Loaded, Copied, Classified, Built};
 ghost use Rattle.index.specs.Marks.{marked, mark_all, placed_at, met_at, Wanted, passed, descended, sunk, top, Fits, Flagged, Over, Unfilled, Pruned};
@@ -27,10 +27,6 @@ const EDGES: usize = 14112;
 const CODES_AT: usize = 22176;
 
 const CLASSES_AT: usize = 22410;
-
-const CODES_SIZE: usize = 234;
-
-const CLASSES_SIZE: usize = 216;
 
 // Kinds below it have no operands; kinds from it on have three.
 const PAIRS: usize = 3;
@@ -97,22 +93,15 @@ const CLASSES: [u16; 216] = [
     0, 0, 0, 4098, 0, 1, 4099, 1, 0, 0, 0, 0, 3, 1, 0, 2, 0, 1, 0, 0, 0, 4098, 0, 1, 4099, 1, 0,
 ];
 
-// An edge of two numbers is counted at the node of l.
-fn count_pair(x: &mut [u16], l: u16)
-    requires { (length x.old ≡ index_size) × (l / 2 < most_nodes) × (mid_of x.old (l / 2) + 2 ≤ most_edges) }
-    ensures { x.new ≡ raised x.old (mid_at + l / 2) 2 }
+// The place of the node of l, one of those from MID or END on, is raised by the numbers of an edge. What it was.
+fn raise(x: &mut [u16], places: usize, l: u16, by: u16) -> u16
+    requires { (length x.old ≡ index_size) × (places + l / 2 < index_size) × (get_or x.old (places + l / 2) 0 + by ≤ most_edges) }
+    ensures { (x.new ≡ raised x.old (places + l / 2) by) × (result ≡ get_or x.old (places + l / 2) 0) }
 {
-    let m = MID + (l / 2) as usize;
-    x[m] = x[m] + 2;
-}
-
-// An edge of one number.
-fn count_three(x: &mut [u16], l: u16)
-    requires { (length x.old ≡ index_size) × (l / 2 < most_nodes) × (end_of x.old (l / 2) + 1 ≤ most_edges) }
-    ensures { x.new ≡ raised x.old (end_at + l / 2) 1 }
-{
-    let m = END + (l / 2) as usize;
-    x[m] = x[m] + 1;
+    let m = places + (l / 2) as usize;
+    let k = x[m];
+    x[m] = k + by;
+    k
 }
 
 // The edges from node p are counted at the nodes of its operands.
@@ -128,14 +117,14 @@ fn count_node(x: &mut [u16], n: usize, p: usize)
     let a = x[s + 1];
     let b = x[s + 2];
     if kind < THREES {
-        count_pair(x, a);
-        count_pair(x, b);
+        raise(x, MID, a, 2);
+        raise(x, MID, b, 2);
         return;
     }
     let c = x[s + 3];
-    count_three(x, a);
-    count_three(x, b);
-    count_three(x, c);
+    raise(x, END, a, 1);
+    raise(x, END, b, 1);
+    raise(x, END, c, 1);
 }
 
 // All edges are counted.
@@ -144,10 +133,8 @@ fn count(x: &mut [u16], n: usize)
     requires blank { Blank n x.old }
     ensures { Counting n x.new × Same first_at x.old x.new }
 {
-    let mut p = 0;
-    while p < n {
+    for p in 0..n {
         count_node(x, n, p);
-        p += 1;
     }
 }
 
@@ -156,42 +143,34 @@ fn place(x: &mut [u16], n: usize)
     requires { (n ≤ most_nodes) × Counting n x.old }
     ensures { Placing n 0 x.new × Same first_at x.old x.new }
 {
-    let mut m = 0;
     let mut start = 0u16;
-    while m < n {
+    for m in 0..n {
         let mid = start + x[MID + m];
         let end = mid + x[END + m];
         x[FIRST + m] = (m + 1) as u16;
         x[MID + m] = start;
         x[END + m] = mid;
         start = end;
-        m += 1;
     }
 }
 
 // An edge from p, which has two operands, is put to the others of the node of mine.
 fn put_pair(x: &mut [u16], p: usize, mine: u16, other: u16, y: u16)
-    requires x_len { (length x.old ≡ index_size) × (p < most_nodes) × (mine / 2 < most_nodes) × (y ≤ 21) }
-    requires mine_bound { mid_of x.old (mine / 2) + 2 ≤ most_edges }
+    requires { (length x.old ≡ index_size) × (p < most_nodes) × (mine / 2 < most_nodes) × (y ≤ 21) × (mid_of x.old (mine / 2) + 2 ≤ most_edges) }
     ensures { x.new ≡ put_pair x.old p mine other y }
 {
-    let m = MID + (mine / 2) as usize;
-    let k = x[m];
-    x[m] = k + 2;
-    x[EDGES + k as usize] = p as u16 + 2048 * (y + mine % 2);
-    x[EDGES + (k as usize + 1)] = other;
+    let k = raise(x, MID, mine, 2) as usize;
+    x[EDGES + k] = p as u16 + 2048 * (y + mine % 2);
+    x[EDGES + (k + 1)] = other;
 }
 
 // An edge from p, which has three.
 fn put_three(x: &mut [u16], p: usize, mine: u16)
-    requires x_len { (length x.old ≡ index_size) × (p < most_nodes) × (mine / 2 < most_nodes) }
-    requires mine_bound { end_of x.old (mine / 2) + 1 ≤ most_edges }
+    requires { (length x.old ≡ index_size) × (p < most_nodes) × (mine / 2 < most_nodes) × (end_of x.old (mine / 2) + 1 ≤ most_edges) }
     ensures { x.new ≡ put_three x.old p mine }
 {
-    let m = END + (mine / 2) as usize;
-    let k = x[m];
-    x[m] = k + 1;
-    x[EDGES + k as usize] = p as u16;
+    let k = raise(x, END, mine, 1) as usize;
+    x[EDGES + k] = p as u16;
 }
 
 // The edges from node p are put.
@@ -274,24 +253,10 @@ fn load_block(t: &[u8], x: &mut [u16], base: usize, end: usize)
     requires records { Records t.now end × Loaded t.now base x.old }
     ensures { Loaded t.now end x.new }
 {
-    let mut m = base;
-    let mut at = record::place(base);
-    while m < end {
-        load_node(t, x, m, at);
-        m += 1;
-        at += 8;
+    let at = record::place(base);
+    for m in base..end {
+        load_node(t, x, m, at + 8 * (m - base));
     }
-}
-
-// How far the nodes of a block go whose first node is m.
-fn block_end(m: usize, nodes: usize) -> usize
-    requires { (m < nodes) × (nodes ≤ most_nodes) }
-    ensures { (m < result) × (result ≤ nodes) × (result ≤ m + 63) × (result < nodes → result ≡ m + 63) }
-{
-    if nodes - m < 63 {
-        return nodes;
-    }
-    m + 63
 }
 
 // The nodes are read from the table, block by block.
@@ -300,38 +265,19 @@ fn load(t: &[u8], nodes: usize, x: &mut [u16])
     requires x_len { length x.old ≡ index_size }
     ensures { Loaded t.now nodes x.new }
 {
-    let mut m = 0;
-    while m < nodes {
-        let end = block_end(m, nodes);
-        load_block(t, x, m, end);
-        m = end;
+    for base in (0..nodes).step_by(63) {
+        load_block(t, x, base, nodes.min(base + 63));
     }
 }
 
-// The codes are copied behind the edges.
-fn copy_codes(x: &mut [u16])
+// The codes are copied behind the edges, and the classes behind them. Out of line, since both builds do so.
+#[inline(never)]
+fn copy_tables(x: &mut [u16])
     requires { length x.old ≡ index_size }
-    ensures { Copied codes_size x.old x.new }
+    ensures { (y : List ℕ) × Copied codes_size x.old y × Classified classes_size y x.new }
 {
-    let codes = &CODES;
-    let mut i = 0;
-    while i < CODES_SIZE {
-        x[CODES_AT + i] = codes[i];
-        i += 1;
-    }
-}
-
-// The classes are copied behind the codes.
-fn copy_classes(x: &mut [u16])
-    requires { length x.old ≡ index_size }
-    ensures { Classified classes_size x.old x.new }
-{
-    let classes = &CLASSES;
-    let mut i = 0;
-    while i < CLASSES_SIZE {
-        x[CLASSES_AT + i] = classes[i];
-        i += 1;
-    }
+    x[CODES_AT..CLASSES_AT].copy_from_slice(&CODES);
+    x[CLASSES_AT..].copy_from_slice(&CLASSES);
 }
 
 // The index of the nodes of a table. Nothing is assumed of what x held: each number that belongs to a node is stored.
@@ -342,8 +288,7 @@ pub fn build(t: &[u8], nodes: usize, x: &mut [u16])
 {
     load(t, nodes, x);
     link(x, nodes);
-    copy_codes(x);
-    copy_classes(x);
+    copy_tables(x);
 }
 
 // The node of a literal is marked, and its block flagged: until the codes are copied, their places have the flags.
@@ -360,10 +305,8 @@ fn mark_all(x: &mut [u16], ls: &[u16])
     requires { (length x.old ≡ index_size) × Below most_nodes ls.now }
     ensures { x.new ≡ mark_all x.old ls.now }
 {
-    let mut i = 0;
-    while i < ls.len() {
-        mark(x, ls[i]);
-        i += 1;
+    for &l in ls {
+        mark(x, l);
     }
 }
 
@@ -384,14 +327,14 @@ fn meet(x: &mut [u16], p: usize)
     mark(x, a);
     mark(x, b);
     if kind < THREES {
-        count_pair(x, a);
-        count_pair(x, b);
+        raise(x, MID, a, 2);
+        raise(x, MID, b, 2);
         return;
     }
     mark(x, c);
-    count_three(x, a);
-    count_three(x, b);
-    count_three(x, c);
+    raise(x, END, a, 1);
+    raise(x, END, b, 1);
+    raise(x, END, c, 1);
 }
 
 // How far the way down has come: where the next node's edges start, and the node met last, or how many there are where none was.
@@ -429,19 +372,17 @@ fn pass(t: &[u8], x: &mut [u16], p: usize, at: usize, d: Descent) -> Descent
     r
 }
 
-// The nodes below end, down to base, are passed over until one is marked. One past the marked one, or base.
-fn pass_over(x: &[u16], base: usize, end: usize) -> usize
+// The highest of the nodes from base on below end that is marked.
+fn pass_over(x: &[u16], base: usize, end: usize) -> Option<usize>
     requires { (base ≤ end) × (end ≤ most_nodes) × (length x.now ≡ index_size) }
-    ensures { Over base end x.now result × (base < result → Wanted x.now (result - 1)) }
+    ensures { Over base end x.now result }
 {
-    let mut e = end;
-    while base < e {
-        if x[4 * (e - 1)] != 0 {
-            return e;
+    for p in (base..end).rev() {
+        if x[4 * p] != 0 {
+            return Some(p);
         }
-        e -= 1;
     }
-    e
+    None
 }
 
 // The nodes below end, down to base, all of one block.
@@ -453,11 +394,10 @@ fn pass_block(t: &[u8], x: &mut [u16], base: usize, end: usize, from: Descent) -
 {
     let at = record::place(base);
     let mut d = from;
-    let mut p = pass_over(x, base, end);
-    while base < p {
-        p -= 1;
+    let mut high = end;
+    while let Some(p) = pass_over(x, base, high) {
         d = pass(t, x, p, at + 8 * (p - base), d);
-        p = pass_over(x, base, p);
+        high = p;
     }
     d
 }
@@ -468,15 +408,12 @@ fn sink(t: &[u8], n: usize, x: &mut [u16]) -> usize
     requires x_len { (length x.old ≡ index_size) × Fits n (top n) x.old × Flagged n x.old }
     ensures { (x.new ≡ (sunk t.now x.old (top n) n).0) × (result ≡ (sunk t.now x.old (top n) n).1.last) }
 {
-    let mut end = n;
     let mut d = Descent { start: 0, last: n };
-    while 0 < end {
-        let j = (end - 1) / 63;
-        let base = 63 * j;
+    for j in (0..n.div_ceil(63)).rev() {
         if x[CODES_AT + j] != 0 {
-            d = pass_block(t, x, base, end, d);
+            let base = 63 * j;
+            d = pass_block(t, x, base, n.min(base + 63), d);
         }
-        end = base;
     }
     d.last
 }
@@ -492,6 +429,5 @@ pub fn build_below(t: &[u8], ls: &[u16], n: usize, x: &mut [u16])
     mark_all(x, ls);
     let head = sink(t, n, x);
     fill(x, head, n);
-    copy_codes(x);
-    copy_classes(x);
+    copy_tables(x);
 }

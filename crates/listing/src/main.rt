@@ -10,10 +10,7 @@ ghost use Rattle.index.specs.Indexed.{Indexed};
 ghost use Rattle.state.specs.Work.{area};
 ghost use Rattle.listing.specs.Lines.{found_word, Judged, Worded, most_line, LineOf, Lined, AllLined};
 
-use arguments::Loaded;
-use scope::Verdict;
 use searching::Found;
-use table::Counted;
 
 // Writes the bytes of the buffer from one place up to another, where those before them are written; whether they all are.
 fn say(
@@ -103,12 +100,10 @@ fn lines(
 {
     let mut end = start;
     let mut written = headed;
-    let mut m = 0;
-    while m < nodes {
+    for m in 0..nodes {
         let next = line(x, nodes, m, out, end, work);
         written = say(rt, out, end, next, written);
         end = next;
-        m += 1;
     }
     end
 }
@@ -120,14 +115,13 @@ fn list(rt: &(impl Print + Eprint + Alloc), t: &[u8], out: &mut [u8]) -> usize
 {
     let goals = [0u16; 1];
     let mut x = [0u16; 22626];
-    let c = asking::ask_by(Verdict::Fine, t, &goals[..0], 0, 0, 32768, &mut x);
-    match c {
-        Counted::Refused(f) => {
+    match asking::ask_by(Ok(()), t, &goals[..0], 0, 0, 32768, &mut x) {
+        Err(f) => {
             let end = text::refused(out, 0, f);
             say(rt, out, 0, end, true);
             end
         }
-        Counted::Nodes(nodes) => {
+        Ok(nodes) => {
             let first = text::put(out, 0, b"node yes no\n");
             let headed = say(rt, out, 0, first, true);
             let mut work = [0u16; 32768];
@@ -144,9 +138,7 @@ fn print(rt: &(impl Print + Eprint + Alloc), t: &[u8]) {
 // A table of more than 16,384 bytes fills the buffer, and is refused by its length.
 fn main(rt: HostRuntime) {
     let mut table = [0u8; 16385];
-    let l = arguments::input(&rt, &mut table);
-    match l {
-        Loaded::Bytes(n) => print(&rt, &table[..n]),
-        Loaded::Failed => {}
+    if let Some(n) = arguments::input(&rt, &mut table) {
+        print(&rt, &table[..n]);
     }
 }

@@ -6,9 +6,11 @@ use mathlib.Core.List.{[], ◌∷◌}
 use Prim.Native.Nat.{ℕ, zero, suc, ◌+◌, ◌-◌, ◌*◌, ◌/◌, ◌%◌, ◌<◌, ◌≤◌}
 use native.Mathlib.Nat.{zero-add, add-zero, suc-add, sub-zero}
 use native.Mathlib.Omega.{arith}
-use borrow.Author.Tests.{eq-eqb, ne_eqb, eqb-true, ltb-true, ltb-false}
+use borrow.Author.Tests.{eq-eqb, ne_eqb, lt-ltb, le-ltb, eqb-true, ltb-true, ltb-false}
 use lib.Dec.{eqb, ltb}
+use Rattle.std.specs.Prelude.{Some, None}
 use Rattle.record.specs.Place.{place_of}
+use Rattle.lookup.specs.Found.{among}
 use Rattle.scope.specs.declared.Node.{Node}
 use Rattle.scope.specs.Table.{operands, every, range_ok, same_node, list_from}
 use Rattle.scope.specs.Calls.{no_node, index_of}
@@ -35,11 +37,30 @@ module _ (x y : Node) where
       (λ u. simp (u, and-false)))
       (λ t. simp (t, and-false))
 
-  pub other_kind : (x.kind ≡ y.kind → ⊥) → false ≡ same_node x y
+  pub other_kind : (x.kind ≡ y.kind → ⊥) → eqb x.kind y.kind ≡ same_node x y
   other_kind h = rw (ne_eqb x.kind y.kind h)
 
   pub only_c : x.kind ≡ y.kind → x.a ≡ y.a → x.b ≡ y.b → eqb x.c y.c ≡ same_node x y
   only_c e a b = rw (eq-eqb x.kind y.kind e, eq-eqb x.a y.a a, eq-eqb x.b y.b b)
+
+-- an index that is among the first n, or not
+pub is_among : (n i k : ℕ) → i < n → i ≡ k → Some i ≡ among n k
+is_among n i k h e = rw (← e, lt-ltb i n h)
+
+pub not_among : (n k : ℕ) → n ≤ k → None ≡ among n k
+not_among n k h = rw (le-ltb k n h)
+
+pub from_some : (n k : ℕ) {i : ℕ} → Some i ≡ among n k → (i ≡ k) × (k < n)
+from_some n k {i} e =
+    by_test (ltb k n)
+    (λ t. let q : Some i ≡ Some k = rw t at e in (cc, ltb-true k n t))
+    (λ t. let q : Some i ≡ None = rw t at e in cc)
+
+pub from_none : (n k : ℕ) → None ≡ among n k → n ≤ k
+from_none n k e =
+    by_test (ltb k n)
+    (λ t. let q : None ≡ Some k = rw t at e in cc)
+    (λ t. ltb-false k n t)
 
 module _ (f : ℕ → Node) (x : Node) (n e : ℕ) where
   pub found : n < e → same_node (f n) x ≡ true → n + index_of x (list_from f n (e - n)) ≡ n
@@ -53,13 +74,6 @@ module _ (f : ℕ → Node) (x : Node) (n e : ℕ) where
   pub none : n ≤ e → e ≤ n → n + index_of x (list_from f n (e - n)) ≡ e
   unfolding index_of
   none h k = rw (list_from_done f n e k) (omega arith)
-
--- it is at most how many there are
-module _ (f : ℕ → Node) (x : Node) where
-  pub most : (n i : ℕ) → index_of x (list_from f i n) ≤ n
-  unfolding index_of list_from
-  most zero i = omega arith
-  most (suc n) i = by_test (same_node (f i) x) (λ t. simp t (omega arith)) (λ t. simp t (omega (arith, most n (suc i))))
 
 -- k nodes, then n more
 module _ (f : ℕ → Node) (x : Node) (n : ℕ) where
@@ -100,7 +114,8 @@ range_b : (y : Node) (n : ℕ) → 2 < y.kind → range_ok y n ≡ true → y.b 
 unfolding range_ok
 range_b y n k e =
     let all : every (λ l. ltb (l / 2) n) (operands y) ≡ true = rw (ne_eqb y.kind 2 (λ q. omega arith)) at e in
-    let some : (ltb (y.a / 2) n && (ltb (y.b / 2) n && every (λ l. ltb (l / 2) n) (cond (ltb y.kind 7) [] (y.c ∷ [])))) ≡ true = rw (operands-some y k) at all in
+    let some : (ltb (y.a / 2) n && (ltb (y.b / 2) n && every (λ l. ltb (l / 2) n) (cond (ltb y.kind 7) [] (y.c ∷ [])))) ≡ true =
+    rw (operands-some y k) at all in
     ltb-true (y.b / 2) n (both (ltb (y.b / 2) n) _ (both (ltb (y.a / 2) n) _ some).1).0
 
 module _ (f : ℕ → Node) (x : Node) (nodes : ℕ) (low : (n : ℕ) → n < nodes → range_ok (f n) n ≡ true) (own : range_ok x nodes ≡ true) where
@@ -131,6 +146,8 @@ module _ (f : ℕ → Node) (x : Node) (nodes : ℕ) (low : (n : ℕ) → n < no
         let less : 63 * j ≤ nodes = omega (arith, start-low) in
         let size = length_list_from f (63 * j) 0 in
         let absent : index_of x (list_from f 0 (63 * j)) ≡ 63 * j =
-        index_none x (list_from f 0 (63 * j)) (λ m l. rw (get_d_list_from f (63 * j) 0 m no_node (omega (arith, size)), zero-add) (before m (omega (arith, size)) (omega (arith, size)) k)) ∙ size in
+        index_none x (list_from f 0 (63 * j))
+        (λ m l. rw (get_d_list_from f (63 * j) 0 m no_node (omega (arith, size)), zero-add) (before m (omega (arith, size)) (omega (arith, size)) k))
+        ∙ size in
         let whole : 63 * j + (nodes - 63 * j) ≡ nodes = omega arith in
         sym (rw (whole, zero-add) at (beyond f x (nodes - 63 * j) (63 * j) 0 (omega (arith, absent)))))

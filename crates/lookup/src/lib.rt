@@ -5,6 +5,7 @@ ghost use Rattle.std.specs.Prelude.{◌≡◌, true, [], ◌∷◌, ℕ, ◌+◌
 ghost use Rattle.scope.specs.Table.{neg, with_operands, range_ok, same_node, node_at, list_from};
 ghost use Rattle.scope.specs.Calls.{placed, ordered, turned, normalized, index_of};
 ghost use Rattle.record.specs.Place.{place_of};
+ghost use Rattle.lookup.specs.Found.{among};
 
 use scope::Node;
 
@@ -125,31 +126,22 @@ fn pair(a: u16, b: u16) -> u32
 fn same(x: Node, y: Node) -> bool
     ensures { result ≡ same_node x y }
 {
-    if pair(x.a, x.b) != pair(y.a, y.b) {
-        return false;
-    }
-    if x.kind != y.kind {
-        return false;
-    }
-    x.c == y.c
+    pair(x.a, x.b) == pair(y.a, y.b) && x.kind == y.kind && x.c == y.c
 }
 
-// Which of the first `count` records of block j is the first that is x, or `count` where none is.
-fn find_in(t: &[u8], j: usize, count: usize, x: Node) -> usize
+// Which of the first `count` records of block j is the first that is x.
+fn find_in(t: &[u8], j: usize, count: usize, x: Node) -> Option<usize>
     requires { (63 * j + count ≤ 2016) × (count ≤ 63) × ((n : ℕ) → n < 63 * j + count → place_of n + 8 ≤ length t.now) }
-    ensures { result ≡ index_of x (list_from (node_at t.now) (63 * j) count) }
+    ensures { result ≡ among count (index_of x (list_from (node_at t.now) (63 * j) count)) }
 {
     let from = 512 * j + 4;
-    let mut i = 0;
-    while i < count {
+    for i in 0..count {
         let at = from + 8 * i;
-        let end = at + 8;
-        if same(record::fields(&t[at..end]), x) {
-            return i;
+        if same(record::fields(&t[at..at + 8]), x) {
+            return Some(i);
         }
-        i += 1;
     }
-    count
+    None
 }
 
 // A block before which no node is x: a node's operands are of earlier nodes.
@@ -162,20 +154,18 @@ fn first_block(x: Node) -> usize
     0
 }
 
-// The first node that is x, or the count where none is: block by block, from the first that can have it.
-pub fn find(t: &[u8], nodes: usize, x: Node) -> usize
+// The first node that is x: block by block, from the first that can have it.
+pub fn find(t: &[u8], nodes: usize, x: Node) -> Option<usize>
     requires nodes_bound { (nodes ≤ 2016) × ((n : ℕ) → n < nodes → place_of n + 8 ≤ length t.now) }
     requires by_index { ((n : ℕ) → n < nodes → range_ok (node_at t.now n) n ≡ true) × (range_ok x nodes ≡ true) }
-    ensures { result ≡ index_of x (list_from (node_at t.now) 0 nodes) }
+    ensures { result ≡ among nodes (index_of x (list_from (node_at t.now) 0 nodes)) }
 {
     let full = nodes / 63;
-    let mut j = first_block(x);
-    while j < full {
-        let i = find_in(t, j, 63, x);
-        if i < 63 {
-            return 63 * j + i;
+    for j in first_block(x)..full {
+        if let Some(i) = find_in(t, j, 63, x) {
+            return Some(63 * j + i);
         }
-        j += 1;
     }
-    63 * full + find_in(t, full, nodes % 63, x)
+    let i = find_in(t, full, nodes % 63, x)?;
+    Some(63 * full + i)
 }

@@ -5,8 +5,7 @@ use mathlib.Core.List.{List}
 use Prim.Native.Nat.{ℕ, ◌+◌, ◌*◌, ◌/◌, ◌%◌, ◌<◌, ◌≤◌}
 use native.Mathlib.Omega.{arith}
 use native.Mathlib.Decide.{dec_lt}
-use lib.ListN.{length, get_or, set, length-map, length-set}
-use lib.Seq.{get_or-set_same, get_or-set_other}
+use lib.ListN.{length, get_or, length-map}
 use borrow.Author.Tests.{lt-ltb, le-ltb}
 use Rattle.scope.specs.declared.Node.{Node}
 use Rattle.calculus.specs.Expansion.{chosen, expand}
@@ -16,19 +15,18 @@ use Rattle.calculus.specs.declared.Move.{Move}
 use Rattle.calculus.specs.declared.Move.TheVariants.{Conflict, Unit as Single, Done, Split}
 use Rattle.calculus.proofs.Literals.{is_false}
 use Rattle.calculus.proofs.Sizes.{expand-few}
-use Rattle.trail.proofs.Trails.{trail-length}
 use Rattle.trail.proofs.Codes.{code_fails}
 use Rattle.scope.specs.Table.{operands}
 use Rattle.index.specs.Index.{most_nodes}
 use Rattle.units.specs.Units.{member, Empty, First, positions}
 use Rattle.clause.specs.Coded.{is_open, Coded}
-use Rattle.state.specs.Work.{tail, lit_at, base_of, g_of, held, trail, value_code, cursor_at, code_at, cursor_of, conflict_of, waiting_of, place_of, Numbered, trail_at, literals_at, bases_at, values_at, codes_at}
+use Rattle.state.specs.Work.{tail, lit_at, base_of, g_of, held, trail, value_code, cursor_at, code_at, cursor_of, conflict_of, waiting_of, place_of, Numbered, trail_at, literals_at, bases_at, values_at}
 use Rattle.state.specs.Holds.{states_at, Forces, Entered, Late, FirstLive, Closed, AllMet, Waiting, Holds, denied_at, NoneDenied}
 use Rattle.state.specs.Picked.{Picked}
 use Rattle.state.proofs.Areas.{count_most, base_most, ready_same}
 use Rattle.state.proofs.Clauses.{sofar, sofar_length, none-by, first-at, none-sofar, found-goal, found-position, goal_state_lem, goals-length}
-use Rattle.moves.specs.Place.{On, place_number, Placed, Without, FirstGoal, CellSet, FirstOpen, OpenFrom, Moved, goals_at}
-use Rattle.moves.proofs.Tests.{move_conflict, move_unit, move-split, move-done, all_met, met_closed, first_low, goal_false, goal_unfalse, goal_unit, goal_ununit, value_else}
+use Rattle.moves.specs.Place.{On, place_number, Placed, Without, FirstGoal, CellSet, FirstOpen, Moved, goals_at}
+use Rattle.moves.proofs.Tests.{move_conflict, move_unit, move-split, move-done, all_met, met_closed, first_low, goal_false, goal_unfalse, goal_unit, goal_ununit}
 
 single_same : {a b c d : ℕ} → a ≡ b → c ≡ d → Single a c ≡ Single b d
 single_same p q = cc
@@ -38,21 +36,11 @@ pub step : {P : ℕ → Type 0} {k : ℕ} (i : ℕ) → i < k + 1 → Dec (i ≡
 step {P} i b (yes e) h f = subst P (sym e) h
 step i b (no e) h f = f i (omega (arith, b, e))
 
-pub without_by : {goals G : List ℕ} {v k : ℕ} → FirstGoal goals G v k → length goals ≤ k → Without v goals G
-without_by f h j i = f.before j (omega (arith, i, h))
-
 -- no goal is false
-pub undenied : {goals G : List ℕ} → NoneDenied goals G → FirstGoal goals G 2 (length goals)
-undenied {goals} {G} f = record {
-  low = omega arith;
-  before = λ k i e. f k i (code_fails (value_of G (get_or goals k 0)) e);
-  here = λ i. absurd (omega arith);
-}
+pub undenied : (goals G : List ℕ) → NoneDenied goals G → Without 2 goals G
+undenied goals G f k i e = f k i (code_fails (value_of G (get_or goals k 0)) e)
 
 -- ---- a cell is set
-
-pub cell_set : {i v : ℕ} {w : List ℕ} → i < length w → CellSet i v w (set w i v)
-cell_set {i} {v} {w} b = record { size = length-set w i v; cell = get_or-set_same w i v 0 b; other = λ j e. get_or-set_other w i j v 0 e }
 
 module _ {t : ℕ → Node} {n : ℕ} {goals w m : List ℕ} (w' : List ℕ) (few : n ≤ most_nodes) (H : Holds t n goals w m) (size : length w' ≡ length w)
     (rest : (i : ℕ) → trail_at ≤ i → get_or w' i 0 ≡ get_or w i 0) (conflict : conflict_of w' ≡ conflict_of w) (waits : waiting_of w' ≡ waiting_of w)
@@ -130,29 +118,12 @@ module _ {t : ℕ → Node} {n place : ℕ} {goals w w' m : List ℕ} (few : n �
 pub on_few : {t : ℕ → Node} {goals w : List ℕ} {q j : ℕ} {v : Move} → On t goals w q j v → j < 4
 on_few {t} {w = w} {q} o = omega (arith, o.column, expand-few t (lit_at (tail w) q))
 
--- a position and its code as one number
-pub open_at : {t : ℕ → Node} {w : List ℕ} {q k : ℕ} → FirstOpen t w q → (q < tail w 0 → Coded (t (lit_at (tail w) q / 2)) (states_at t (g_of w) (tail w) q) k) → k < 65536
-    → OpenFrom t w (65536 * q + k)
-open_at {t} {w} {q} {k} f c b =
-    let d : (65536 * q + k) / 65536 ≡ q = omega (arith, b) in
-    let e : (65536 * q + k) % 65536 ≡ k = omega (arith, b) in
-    record { first = rw d f; code = rw (d, e) c }
-
 -- ---- the unit that was picked
 
 pub picks : {w m : List ℕ} {q k : ℕ} → waiting_of w ≡ 0 → most_nodes ≤ conflict_of w → First m q → k ≡ get_or w (12104 + q) 0 → k < 65536 → Picked w m (65536 * q + k)
 picks {w} {m} {q} {k} z c f e b =
     let d : (65536 * q + k) / 65536 ≡ q = omega (arith, b) in
     record { waiting = z; free = c; first = rw d f; kept = ap (code_at (tail w)) d ∙ ap (λ (i : ℕ). get_or w i 0) (omega arith) ∙ sym e ∙ omega (arith, b) }
-
--- a place that is kept does not change it
-pub picked_on : {place u : ℕ} {w w' m : List ℕ} → CellSet 3 place w w' → Picked w m u → Picked w' m u
-picked_on {place} {u} z p = record {
-  waiting = z.other 2 (λ e. omega (arith, e)) ∙ p.waiting;
-  free = omega (arith, z.other 1 (λ e. omega (arith, e)), p.free);
-  first = p.first;
-  kept = z.other (trail_at + (codes_at + u / 65536)) (λ e. omega (arith, e)) ∙ p.kept;
-}
 
 -- ---- the moves
 
@@ -278,15 +249,6 @@ module _ {t : ℕ → Node} {n : ℕ} {goals w m : List ℕ} (few : n ≤ most_n
     position-free q i = is_false (some is_empty (S q)) (λ u. omega (arith, free, i, most, (H.entered q i).conflict u))
 
     -- a goal that is undecided
-    pub unit-goal-low : {k : ℕ} → Without 2 goals G → (waiting_of w ≡ 0 → ⊥) → FirstGoal goals G 0 k → k < length goals
-    unit-goal-low {k} f z u = go (dec_lt k (length goals))
-      where
-        go : Dec (k < length goals) → k < length goals
-        go (yes i) = i
-        go (no i) =
-            let (j, b, d) = H.waiting.on z in
-            absurd (u.before j (omega (arith, i, b)) (value_else (value_of G (get_or goals j 0)) (f j b) d))
-
     pub unit-goal : {k : ℕ} {w' : List ℕ} → Without 2 goals G → FirstGoal goals G 0 k → k < length goals → CellSet 3 (goals_at + k) w w'
         → Moved t n goals w w' m (Single k (get_or goals k 0))
     unit-goal {k} f u i z = record {
@@ -378,38 +340,33 @@ module _ {t : ℕ → Node} {n : ℕ} {goals w m : List ℕ} (few : n ≤ most_n
         pub on_list : g_of w' ≡ G
         on_list = cell_list w' few H z.size (λ i b. rest₀ i (omega arith)) (rest₀ 1 (omega arith)) (rest₀ 2 (omega arith)) (omega (arith, z.cell, f.low)) before₀
 
-        count-is : {c : ℕ} → c ≡ length (g_of w') → c ≡ r 0
-        count-is e = e ∙ ap length on_list ∙ trail-length (r 0) r
-
-        pub done : {c : ℕ} → c ≡ length (g_of w') → c ≤ q → Moved t n goals w w' m Done
-        done e i = record {
+        pub done : r 0 ≤ q → Moved t n goals w w' m Done
+        done i = record {
           is =
               sym (move-done (C (r 0)) (all-free t goals w position-free (without z₀)) no_unit
-              (none-sofar t goals G r is_open (r 0) no-open-goal (λ p a. closed-before p (omega (arith, a, count-is e, i))))) ∙ move-is t goals w;
+              (none-sofar t goals G r is_open (r 0) no-open-goal (λ p a. closed-before p (omega (arith, a, i))))) ∙ move-is t goals w;
           holds_on = on;
           list = on_list;
           kept = tt;
         }
 
-        module _ {c : ℕ} (e : c ≡ length (g_of w')) (i : q < c) where
+        module _ (i : q < r 0) where
           pub split-low : q < tail w' 0
-          split-low = omega (arith, i, count-is e, rest₀ 4 (omega arith))
+          split-low = omega (arith, i, rest₀ 4 (omega arith))
 
-          -- the code was read before the cursor moved on, as a part of p, the literal after
-          pub split : (p : ℕ) {l y : ℕ} → y ≡ lit_at (tail w') q → (q < r 0 → Coded (t (lit_at r q / 2)) (S q) (p % 65536))
-              → (p / 1024 % 8 / 2 < length (operands (t (y / 2)))) × (l ≡ chosen (t (y / 2)) (p / 1024 % 8) → Moved t n goals w w' m (Split l))
-          split p {l} {y} u v =
-              let g : p / 1024 % 8 ≡ p % 65536 / 1024 % 8 = omega arith in
-              let b : q < r 0 = omega (arith, i, count-is e) in
-              let s = f.here b in
+          -- the code was read before the cursor moved on, the literal after
+          pub split : {code l y : ℕ} → y ≡ lit_at (tail w') q → Coded (t (lit_at r q / 2)) (S q) code
+              → (code / 1024 % 8 / 2 < length (operands (t (y / 2)))) × (l ≡ chosen (t (y / 2)) (code / 1024 % 8) → Moved t n goals w w' m (Split l))
+          split {code} {l} {y} u v =
+              let s = f.here i in
               let y' : y ≡ lit_at r q = u ∙ rest₀ (trail_at + (literals_at + q)) (omega arith) in
-              let d = (v b).unmet_literal s in
+              let d = v.unmet_literal s in
               let n = none-sofar t goals G r is_open q no-open-goal closed-before in
-              let o = found-position t goals G r is_open q (r 0) b n s in (
-                rw (y', g) d.0,
+              let o = found-position t goals G r is_open q (r 0) i n s in (
+                rw y' d.0,
                 λ k. record {
                   is =
-                      ap Split (k ∙ ap (λ (a : ℕ). chosen (t (a / 2)) (p / 1024 % 8)) y' ∙ ap (chosen (t (lit_at r q / 2))) g ∙ d.1 ∙ sym o.2)
+                      ap Split (k ∙ ap (λ (a : ℕ). chosen (t (a / 2)) (code / 1024 % 8)) y' ∙ d.1 ∙ sym o.2)
                       ∙ sym (move-split (C (r 0)) (all-free t goals w position-free (without z₀)) no_unit o.0) ∙ move-is t goals w;
                   holds_on = on;
                   list = on_list;

@@ -95,8 +95,3 @@ pub goal_ununit : (v : Value) (l : ℕ) → (value_code v ≡ 0 → ⊥) → is_
 goal_ununit holds l e = refl
 goal_ununit fails l e = refl
 goal_ununit undecided l e = absurd (e refl)
-
-pub value_else : (v : Value) → (value_code v ≡ 2 → ⊥) → (v ≡ holds → ⊥) → value_code v ≡ 0
-value_else holds a b = absurd (b refl)
-value_else fails a b = absurd (a refl)
-value_else undecided a b = refl

@@ -1,5 +1,5 @@
 -- The place of the clause that a move is on: 4 × position + which of its literal's clauses, or `goals_at` + which goal. Assumes nothing.
-use Rattle.std.specs.Prelude.{◌≡◌, true, cond, List, [], ℕ, ◌+◌, ◌-◌, ◌/◌, ◌%◌, ◌<◌, ◌≤◌, ltb, length, get_or}
+use Rattle.std.specs.Prelude.{◌≡◌, true, cond, List, [], Option, None, Some, ℕ, ◌+◌, ◌-◌, ◌/◌, ◌%◌, ◌<◌, ◌≤◌, ltb, length, get_or}
 use Rattle.scope.specs.declared.Node.{Node}
 use Rattle.calculus.specs.Expansion.{expand}
 use Rattle.calculus.specs.Order.{holds, value_of, clauses, move, some}
@@ -8,8 +8,6 @@ use Rattle.calculus.specs.declared.Move.{Move}
 use Rattle.calculus.specs.declared.Move.TheVariants.{Conflict, Unit as Single, Done, Split}
 use Rattle.clause.specs.declared.Clause.{Clause}
 use Rattle.moves.specs.declared.Forced.{Forced}
-use Rattle.moves.specs.declared.Choice.{Choice}
-use Rattle.moves.specs.declared.Choice.TheVariants.{Done as NoMove, Split as Forks}
 use Rattle.clause.specs.Literals.{literals}
 use Rattle.clause.specs.Coded.{is_open, Coded}
 use Rattle.state.specs.Work.{tail, lit_at, base_of, g_of, value_code, cursor_of, place_of}
@@ -53,6 +51,11 @@ pub record FirstGoal (goals G : List ℕ) (v r : ℕ) : Type 0 where
 abbrev pub Without : ℕ → List ℕ → List ℕ → Type 0
 Without v goals G = (k : ℕ) → k < length goals → value_code (value_of G (get_or goals k 0)) ≡ v → ⊥
 
+-- the first goal of a value was found, or no goal has it
+abbrev pub FoundGoal : List ℕ → List ℕ → ℕ → Option ℕ → Type 0
+FoundGoal goals G v (Some k) = FirstGoal goals G v k × (k < length goals)
+FoundGoal goals G v None = Without v goals G
+
 -- every goal is true
 abbrev pub AllTrue : List ℕ → List ℕ → Type 0
 AllTrue goals G = (k : ℕ) → k < length goals → value_of G (get_or goals k 0) ≡ holds
@@ -70,19 +73,19 @@ pub record FirstOpen (t : ℕ → Node) (w : List ℕ) (q : ℕ) : Type 0 where
   pub before : (p : ℕ) → cursor_of w ≤ p → p < q → some is_open (states_at t (g_of w) (tail w) p) ≡ true → ⊥
   pub here : q < tail w 0 → some is_open (states_at t (g_of w) (tail w) q) ≡ true
 
--- r is 65,536 × that position, and, where a literal is held there, its code
-pub record OpenFrom (t : ℕ → Node) (w : List ℕ) (r : ℕ) : Type 0 where
-  pub first : FirstOpen t w (r / 65536)
-  pub code : r / 65536 < tail w 0 → Coded (t (lit_at (tail w) (r / 65536) / 2)) (states_at t (g_of w) (tail w) (r / 65536)) (r % 65536)
+-- that position was found, with its code, or there is none
+abbrev pub OpenFrom : (ℕ → Node) → List ℕ → Option (ℕ × ℕ) → Type 0
+OpenFrom t w (Some (q, code)) = FirstOpen t w q × (q < tail w 0) × Coded (t (lit_at (tail w) q / 2)) (states_at t (g_of w) (tail w) q) code
+OpenFrom t w None = FirstOpen t w (tail w 0)
 
 -- the move of a unit
 abbrev pub forced_move : Forced → Move
 forced_move f = Single f.number f.literal
 
--- the move of a choice
-abbrev pub choice_move : Choice → Move
-choice_move NoMove = Done
-choice_move (Forks l) = Split l
+-- the move where there is no conflict and no unit: a split on a literal, or none
+abbrev pub choice_move : Option ℕ → Move
+choice_move None = Done
+choice_move (Some l) = Split l
 
 -- the next move is m, on clause j of the literal at position q
 pub record On (t : ℕ → Node) (goals w : List ℕ) (q j : ℕ) (m : Move) : Type 0 where

@@ -14,7 +14,7 @@ ghost use Rattle.clause.specs.Templates.{rows};
 ghost use Rattle.state.specs.Work.{area, tail, lit_at, base_of, g_of, Ready, Numbered, cursor_of, conflict_of, waiting_of};
 ghost use Rattle.state.specs.Holds.{Holds, Waiting, states_at, denied_of, NoneDenied};
 ghost use Rattle.state.specs.Picked.{no_unit, Picked, Picks};
-ghost use Rattle.moves.specs.Place.{forced_move, choice_move, On, place_number, Placed, Kept, Reasoned, Without, FirstGoal, CellSet, OpenFrom, Moved};
+ghost use Rattle.moves.specs.Place.{forced_move, choice_move, On, place_number, Placed, Kept, Reasoned, Without, FoundGoal, CellSet, OpenFrom, Moved};
 
 use calculus::Move;
 use clause::Clause;
@@ -24,13 +24,6 @@ use clause::Clause;
 pub struct Forced {
     pub number: u16,
     pub literal: u16,
-}
-
-// What is left where there is no conflict and no unit: nothing, or a split on a literal.
-#[derive(Clone, Copy)]
-pub enum Choice {
-    Done,
-    Split(u16),
 }
 
 // The cells of the work area.
@@ -57,33 +50,32 @@ const NO_UNIT: u32 = 4294967295;
 // The places of the goals' clauses; before them stand four for each position.
 const GOALS: usize = 8064;
 
-// The first goal of a value, not that of a true one, or how many there are.
-fn goal_of(n: usize, goals: &[u16], work: &[u16], v: u16) -> usize
+// The first goal of a value, not that of a true one.
+fn goal_of(n: usize, goals: &[u16], work: &[u16], v: u16) -> Option<usize>
     requires ready { Ready n work.now }
     requires n_le_most_nodes { (n ≤ most_nodes) × Goals n goals.now }
     requires waiting { Waiting goals.now (g_of work.now) (waiting_of work.now) × (v ≡ 1 → ⊥) }
-    ensures { FirstGoal goals.now (g_of work.now) v result }
+    ensures { FoundGoal goals.now (g_of work.now) v result }
 {
-    let mut k = goals.len() - work[WAITING] as usize;
-    while k < goals.len() {
+    let start = goals.len() - work[WAITING] as usize;
+    for k in start..goals.len() {
         if state::value(n, work, goals[k]) == v {
-            return k;
+            return Some(k);
         }
-        k += 1;
     }
-    k
+    None
 }
 
-// The first goal that is false, or how many there are.
-fn denied_goal(n: usize, goals: &[u16], work: &[u16]) -> usize
+// The first goal that is false.
+fn denied_goal(n: usize, goals: &[u16], work: &[u16]) -> Option<usize>
     requires ready { Ready n work.now }
     requires n_le_most_nodes { (n ≤ most_nodes) × Goals n goals.now }
     requires waiting { Waiting goals.now (g_of work.now) (waiting_of work.now) }
     requires none_denied { denied_of work.now ≡ 0 → NoneDenied goals.now (g_of work.now) }
-    ensures { FirstGoal goals.now (g_of work.now) 2 result }
+    ensures { FoundGoal goals.now (g_of work.now) 2 result }
 {
     if work[DENIED] == 0 {
-        return goals.len();
+        return None;
     }
     goal_of(n, goals, work, 2)
 }
@@ -99,23 +91,21 @@ fn code_at(x: &[u16], n: usize, work: &[u16], q: usize) -> u16
     clause::code(x, n, work, (l / 2) as usize, (l % 2) as usize)
 }
 
-// 65,536 times the first position from the cursor on with an open clause, and its code; or 65,536 times how many literals are held.
-fn open_from(x: &[u16], n: usize, work: &[u16]) -> u32
+// The first position from the cursor on with an open clause, and its code.
+fn open_from(x: &[u16], n: usize, work: &[u16]) -> Option<(usize, u16)>
     requires indexed { Indexed x.now n }
     requires ready { Ready n work.now }
     requires work_bound { cursor_of work.now ≤ tail work.now 0 }
     ensures { OpenFrom (index_node x.now) work.now result }
 {
     let held = state::count(work) as usize;
-    let mut q = work[CURSOR] as usize;
-    while q < held {
+    for q in work[CURSOR] as usize..held {
         let code = code_at(x, n, work, q);
         if (code / 4) % 2 == 1 {
-            return 65536 * q as u32 + code as u32;
+            return Some((q, code));
         }
-        q += 1;
     }
-    65536 * q as u32
+    None
 }
 
 // The place of the move's clause is kept.
@@ -182,8 +172,7 @@ fn goal_move(x: &[u16], n: usize, goals: &[u16], work: &mut [u16], masks: &[u64]
     requires fact { waiting_of work.old ≡ 0 → ⊥ }
     ensures { Moved (index_node x.now) n goals.now work.old work.new masks.now result }
 {
-    let k = denied_goal(n, goals, work);
-    if k < goals.len() {
+    if let Some(k) = denied_goal(n, goals, work) {
         keep(work, GOALS + k);
         return Move::Conflict(k as u16);
     }
@@ -191,7 +180,7 @@ fn goal_move(x: &[u16], n: usize, goals: &[u16], work: &mut [u16], masks: &[u64]
     if c < NONE {
         return conflict_at(x, n, goals, work, masks, c);
     }
-    let u = goal_of(n, goals, work, 0);
+    let u = goal_of(n, goals, work, 0).unwrap();
     keep(work, GOALS + u);
     Move::Unit(u as u16, goals[u])
 }
@@ -244,22 +233,28 @@ pub fn unit_move(
     }
 }
 
-// A split, or none: every goal is true, there is no conflict and no unit. The cursor moves on.
-pub fn split_choice(x: &[u16], n: usize, goals: &[u16], work: &mut [u16], masks: &[u64]) -> Choice
+// The literal of a split, where there is one: every goal is true, there is no conflict and no unit. The cursor moves on.
+pub fn split_choice(
+    x: &[u16],
+    n: usize,
+    goals: &[u16],
+    work: &mut [u16],
+    masks: &[u64],
+) -> Option<u16>
     requires indexed { Indexed x.now n }
     requires goals { Goals n goals.now }
     requires holds { Holds (index_node x.now) n goals.now work.old masks.now }
     requires work_value { (waiting_of work.old ≡ 0) × (most_nodes ≤ conflict_of work.old) × Empty masks.now }
     ensures { Moved (index_node x.now) n goals.now work.old work.new masks.now (choice_move result) }
 {
-    let o = open_from(x, n, work);
-    let q = (o / 65536) as usize;
+    let Some((q, code)) = open_from(x, n, work) else {
+        let held = state::count(work) as usize;
+        advance(work, held);
+        return None;
+    };
     advance(work, q);
-    if state::count(work) as usize <= q {
-        return Choice::Done;
-    }
     let l = state::literal(work, q);
-    Choice::Split(clause::choose(x, n, (l / 2) as usize, ((o / 1024) % 8) as usize))
+    Some(clause::choose(x, n, (l / 2) as usize, ((code / 1024) % 8) as usize))
 }
 
 // The same as a move.
@@ -272,8 +267,8 @@ fn split_move(x: &[u16], n: usize, goals: &[u16], work: &mut [u16], masks: &[u64
 {
     let c = split_choice(x, n, goals, work, masks);
     match c {
-        Choice::Done => Move::Done,
-        Choice::Split(l) => Move::Split(l),
+        None => Move::Done,
+        Some(l) => Move::Split(l),
     }
 }
 

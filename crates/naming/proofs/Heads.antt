@@ -16,7 +16,6 @@ use Rattle.scope.proofs.Tests.{by_test, and_left, and_right}
 use Rattle.scope.proofs.Lists.{list_from_turn, list_from_done}
 use Rattle.rules.specs.declared.Step.{Step}
 use Rattle.rules.specs.declared.Version.{Version}
-use Rattle.rules.specs.declared.Version.TheVariants.{One, Two}
 use Rattle.rules.specs.Rules.{is_g, names, body, is_empty, equal, agreed, may_be_unnamed, names_test}
 use Rattle.naming.specs.Named.{head_of, missing_of}
 
@@ -103,18 +102,6 @@ module _ (v : Version) (goals ls : List ℕ) where
       go true = refl
       go false = refl
 
--- ---- what `missing` says
-
-pub missing_some : (v : Version) (i : ℕ) → (i ≡ 0 → ⊥) → refused 64 i ≡ missing_of v i
-missing_some v i n = rw (ne_eqb i 0 n, and-false (may_be_unnamed v))
-
-module _ (i : ℕ) (z : i ≡ 0) {v : Version} where
-  pub missing_one : v ≡ One → answer 0 ≡ missing_of v i
-  missing_one e = rw (e, eq-eqb i 0 z)
-
-  pub missing_two : v ≡ Two → refused 64 0 ≡ missing_of v i
-  missing_two e = rw (e, z)
-
 -- ---- the steps at the head
 
 ltb-suc : (a b : ℕ) → ltb (suc a) (suc b) ≡ ltb a b
@@ -166,14 +153,6 @@ module _ (f : ℕ → Step) where
       let z : suc n ≡ suc n - k = omega arith in
       rw e (ap₂ (list_from f) y z))
 
--- whether there is a step i and it names a goal
-module _ (f : ℕ → Step) (count i : ℕ) where
-  pub no_step : count ≤ i → false ≡ (ltb i count && is_g (f i))
-  no_step h = rw (le-ltb i count h)
-
-  pub its_rule : {s : Step} → i < count → s ≡ f i → eqb s.rule 71 ≡ (ltb i count && is_g (f i))
-  its_rule h e = rw (lt-ltb i count h, e)
-
 -- ---- how far the names agree with the goals, as a loop goes through them: what is left at i
 
 module _ (f : ℕ → Step) (goals : List ℕ) (count i : ℕ) where
@@ -195,7 +174,12 @@ module _ (f : ℕ → Step) (goals : List ℕ) (count i : ℕ) where
     turn : left ≡ cond (eqb (f i).value (get_or goals i 0)) (suc (agreed (names (list_from f (i + 1) (count - (i + 1)))) (drop (i + 1) goals))) 0
     unfolding names agreed
     turn =
-        rw (list_from_turn f i count (ltb-true i count (and_left (ltb i count) (is_g (f i)) e)), and_right (ltb i count) (is_g (f i)) e, drop-cons goals i 0 h, ← add-one i)
+        rw (
+          list_from_turn f i count (ltb-true i count (and_left (ltb i count) (is_g (f i)) e)),
+          and_right (ltb i count) (is_g (f i)) e,
+          drop-cons goals i 0 h,
+          ← add-one i,
+        )
 
     -- another literal is named
     pub agreed-stops : ((f i).value ≡ get_or goals i 0 → ⊥) → left ≡ 0
@@ -209,7 +193,8 @@ module _ (f : ℕ → Step) (goals : List ℕ) (count i : ℕ) where
   pub agreed_ends : length goals ≤ i → left ≡ 0
   agreed_ends h = rw (drop_of_length-le goals {i = i} h) (agreed-none (names (list_from f i (count - i))))
 
-pub agreed_start : (f : ℕ → Step) (goals : List ℕ) (count : ℕ) → 0 + agreed (names (list_from f 0 (count - 0))) goals ≡ agreed (names (list_from f 0 count)) goals
+pub agreed_start : (f : ℕ → Step) (goals : List ℕ) (count : ℕ)
+    → 0 + agreed (names (list_from f 0 (count - 0))) goals ≡ agreed (names (list_from f 0 count)) goals
 agreed_start f goals count =
     let z : count - 0 ≡ count = omega arith in
     omega (arith, ap (λ (n : ℕ). agreed (names (list_from f 0 n)) goals) z)

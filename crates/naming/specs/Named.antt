@@ -1,12 +1,11 @@
 -- The goals that a derivation names, and row 64 of its head. Assumes nothing.
-use Rattle.std.specs.Prelude.{List, cond, ◌&&◌, ℕ, eqb, length}
-use Rattle.scope.specs.Outcome.{Outcome, answer, refused, ◌>>◌}
+use Rattle.std.specs.Prelude.{List, cond, ◌&&◌, ℕ, eqb, length, Result}
+use Rattle.scope.specs.declared.Refusal.{Refusal}
+use Rattle.scope.specs.Outcome.{Outcome, answer, refused, outcome_by, ◌>>◌}
 use Rattle.scope.specs.Table.{list_from}
 use Rattle.rules.specs.declared.Version.{Version}
 use Rattle.rules.specs.Steps.{step_at}
 use Rattle.rules.specs.Rules.{names, may_be_unnamed, names_test}
-use Rattle.naming.specs.declared.Named.{Named}
-use Rattle.naming.specs.declared.Named.TheVariants.{Goals, Refused}
 
 -- the goals that n steps name, from step i on
 abbrev pub names_of : List ℕ → ℕ → ℕ → List ℕ
@@ -20,7 +19,6 @@ head_of v goals ls = names_test v goals ls >> answer (length ls)
 abbrev pub missing_of : Version → ℕ → Outcome ℕ
 missing_of v i = cond (may_be_unnamed v && eqb i 0) (answer 0) (refused 64 i)
 
--- the number and the values of every case of a `Named`
-abbrev pub named_of : Named → Outcome ℕ
-named_of (Goals n) = answer n
-named_of (Refused r) = refused r.number r.place
+-- the number and the values of every case of what is said of a head
+abbrev pub named_of : Result ℕ Refusal → Outcome ℕ
+named_of = outcome_by (λ n. n)

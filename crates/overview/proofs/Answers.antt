@@ -2,6 +2,7 @@
 use mathlib.Core.Path.{◌≡◌, refl, sym, ap, ap₂, ◌∙◌}
 use mathlib.Core.List.{List, [], ◌∷◌, ◌++◌}
 use mathlib.Core.Bool.{Bool, ◌&&◌}
+use Rattle.std.specs.Prelude.{Result, Ok, Err}
 use Prim.Native.Nat.{ℕ, ◌*◌, ◌<◌, ◌≤◌}
 use native.Mathlib.Omega.{arith}
 use lib.Dec.{leb, ltb}
@@ -9,13 +10,10 @@ use lib.ListN.{length, get_or, drop, length-map, get_or-append}
 use borrow.Author.Tests.{leb-true}
 use Rattle.scope.specs.declared.Node.{Node}
 use Rattle.scope.specs.declared.Refusal.{Refusal}
-use Rattle.scope.specs.declared.Verdict.{Verdict}
-use Rattle.scope.specs.declared.Verdict.TheVariants.{Fine, Refused}
 use Rattle.scope.specs.Outcome.{Outcome, answer, refused, verdict_of, ◌>>=◌}
 use Rattle.scope.specs.Table.{decode}
 use Rattle.scope.proofs.Tests.{and_right, refused_no, required, bound}
 use Rattle.codec.specs.Valid.{Bytes}
-use Rattle.table.specs.declared.Counted.{Counted}
 use Rattle.calculus.specs.Order.{Answer, possible, impossible, unfinished, answer_of}
 use Rattle.calculus.specs.Model.{All, Below}
 use Rattle.calculus.specs.Agree.{Alike}
@@ -89,20 +87,20 @@ module _ (t goals b w : List ℕ) (all : Bytes t) where
       tells t r.0 all a.0 (get_or goals i 0) (all_at (λ l. l < 2 * length r.0) goals i 0 a.1.below h) w a.1.work
       (ap (λ (l : List ℕ). get_or l i 0) (sym y) ∙ byte_at r.0 i h)
 
-  each_by : (r : Verdict) {b' : List ℕ} → verdict_of r ≡ (overview t goals b w >>= λ after. answer tt) → b' ≡ answers_after b (overview t goals b w)
-      → r ≡ Fine → (i : ℕ) → i < length goals → Told t w (get_or goals i 0) (get_or b' i 0)
+  each_by : (r : Result (Unit {0}) Refusal) {b' : List ℕ} → verdict_of r ≡ (overview t goals b w >>= λ after. answer tt) → b' ≡ answers_after b (overview t goals b w)
+      → r ≡ Ok tt → (i : ℕ) → i < length goals → Told t w (get_or goals i 0) (get_or b' i 0)
   each_by r {b'} a c e i h =
       let x = bound (overview t goals b w) (λ after. answer tt) (sym a ∙ ap verdict_of e) in
       rw (c ∙ ap (answers_after b) x.1) (told_each x.1 i h)
 
-  overviews : (r : Verdict) {b' w' : List ℕ} → verdict_of r ≡ (overview t goals b w >>= λ after. answer tt) → b' ≡ answers_after b (overview t goals b w)
-      → ((f : Refusal) → r ≡ Refused f → w' ≡ w) → Overviews t goals b w b' w' r
+  overviews : (r : Result (Unit {0}) Refusal) {b' w' : List ℕ} → verdict_of r ≡ (overview t goals b w >>= λ after. answer tt) → b' ≡ answers_after b (overview t goals b w)
+      → ((f : Refusal) → r ≡ Err f → w' ≡ w) → Overviews t goals b w b' w' r
   overviews r a c kept = record { answered = a; bytes = c; work = kept; each = each_by r a c }
 
   -- ---- where overview ends
 
   -- what was asked, by the list's own row
-  pub by_row : {listed : Outcome (Unit {0})} {x : List ℕ} {r : Counted} → listed ≡ overview_row goals (length b) → Within listed t goals 0 0 (length w) x r
+  pub by_row : {listed : Outcome (Unit {0})} {x : List ℕ} {r : Result ℕ Refusal} → listed ≡ overview_row goals (length b) → Within listed t goals 0 0 (length w) x r
       → Within (overview_row goals (length b)) t goals 0 0 (length w) x r
   by_row e a = rw e at a
 
@@ -110,10 +108,10 @@ module _ (t goals b w : List ℕ) (all : Bytes t) where
   unfolding overview
   refused_by q = rw q
 
-  pub refuses : (f : Refusal) → asked_by (overview_row goals (length b)) t goals 0 0 (length w) ≡ refused f.number f.place → Overviews t goals b w b w (Refused f)
+  pub refuses : (f : Refusal) → asked_by (overview_row goals (length b)) t goals 0 0 (length w) ≡ refused f.number f.place → Overviews t goals b w b w (Err f)
   refuses f q =
       let d = refused_by q in
-      overviews (Refused f) (rw d) (rw d) (λ g z. refl)
+      overviews (Err f) (rw d) (rw d) (λ g z. refl)
 
   module _ {x : List ℕ} {n : ℕ} (p : Reached (overview_row goals (length b)) t goals 0 0 (length w) x n) where
     pub room : length goals ≤ length b
@@ -127,7 +125,7 @@ module _ (t goals b w : List ℕ) (all : Bytes t) where
     same_bytes (l ∷ ls) h a =
         ap₂ ◌∷◌ (ap (λ (o : Answer). byte_of o) (ap answer_of (searches_within p (l ∷ []) (h.0, tt) (a.0, tt)))) (same_bytes ls h.1 a.1)
 
-    pub ends : {b' w' : List ℕ} → b' ≡ bytes_of (asks (index_node x) n) goals ++ drop (length goals) b → Overviews t goals b w b' w' Fine
+    pub ends : {b' w' : List ℕ} → b' ≡ bytes_of (asks (index_node x) n) goals ++ drop (length goals) b → Overviews t goals b w b' w' (Ok tt)
     ends q =
         let d = overview-asked p.answered in
-        overviews Fine (rw d) (q ∙ ap (◌++ drop (length goals) b) (same_bytes goals p.below p.alike) ∙ rw d) (λ f z. refused_no (sym (ap verdict_of z)))
+        overviews (Ok tt) (rw d) (q ∙ ap (◌++ drop (length goals) b) (same_bytes goals p.below p.alike) ∙ rw d) (λ f z. refused_no (sym (ap verdict_of z)))

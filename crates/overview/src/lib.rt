@@ -12,31 +12,24 @@ ghost use Rattle.questions.specs.Asking.{asks};
 ghost use Rattle.overview.specs.Overview.{most_asked, overview_row, byte_of, bytes_of};
 ghost use Rattle.overview.specs.Overviews.{Overviews};
 
-use scope::{Refusal, Verdict};
+use scope::Refusal;
 use searching::Found;
-use table::Counted;
 
 // Whether a list of so many goals, with so many answer bytes lent, passes row 68.
 fn fits(count: usize, lent: usize) -> bool
     ensures { result ≡ (ltb 0 count && (leb count most_asked && leb count lent)) }
 {
-    if count == 0 {
-        return false;
-    }
-    if 256 < count {
-        return false;
-    }
-    count <= lent
+    0 < count && count <= 256 && count <= lent
 }
 
 // Row 68.
-fn list_row(goals: &[u16], lent: usize) -> Verdict
+fn list_row(goals: &[u16], lent: usize) -> Result<(), Refusal>
     ensures { verdict_of result ≡ overview_row goals.now lent }
 {
     if fits(goals.len(), lent) {
-        return Verdict::Fine;
+        return Ok(());
     }
-    Verdict::Refused(Refusal {
+    Err(Refusal {
         number: 68,
         place: 0,
     })
@@ -73,10 +66,8 @@ fn put_each(
     requires goals_in_bounds { length goals.now ≤ length answers.old }
     ensures { answers.new ≡ bytes_of (asks (index_node x.now) n) goals.now ++ drop (length goals.now) answers.old }
 {
-    let mut i = 0;
-    while i < goals.len() {
-        answers[i] = byte(x, n, goals[i], work, rests);
-        i += 1;
+    for (i, goal) in goals.iter().enumerate() {
+        answers[i] = byte(x, n, *goal, work, rests);
     }
 }
 
@@ -94,17 +85,17 @@ fn put(x: &[u16; 22626], n: usize, goals: &[u16], answers: &mut [u8], work: &mut
 }
 
 // Whether each goal by itself is possible.
-pub fn overview(t: &[u8], goals: &[u16], answers: &mut [u8], work: &mut [u16]) -> Verdict
+pub fn overview(
+    t: &[u8],
+    goals: &[u16],
+    answers: &mut [u8],
+    work: &mut [u16],
+) -> Result<(), Refusal>
     ensures { Overviews t.now goals.now answers.old work.old answers.new work.new result }
 {
     let mut x = [0u16; 22626];
     let listed = list_row(goals, answers.len());
-    let a = asking::ask_within_by(listed, t, goals, 0, 0, work.len(), &mut x);
-    match a {
-        Counted::Refused(f) => Verdict::Refused(f),
-        Counted::Nodes(n) => {
-            put(&x, n, goals, answers, work);
-            Verdict::Fine
-        }
-    }
+    let n = asking::ask_within_by(listed, t, goals, 0, 0, work.len(), &mut x)?;
+    put(&x, n, goals, answers, work);
+    Ok(())
 }

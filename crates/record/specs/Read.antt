@@ -1,14 +1,8 @@
--- The number and the values of every case of a `NodeRead`. Assumes nothing.
+-- The number and the values of every answer of reading a record: the node, or its refusal. Assumes nothing.
+use Rattle.std.specs.Prelude.{Result}
 use Rattle.scope.specs.declared.Node.{Node}
-use Rattle.scope.specs.Outcome.{Outcome, answer, refused, fine}
-use Rattle.record.specs.declared.NodeRead.{NodeRead}
-use Rattle.record.specs.declared.NodeRead.TheVariants.{Found, Refused}
+use Rattle.scope.specs.declared.Refusal.{Refusal}
+use Rattle.scope.specs.Outcome.{Outcome, outcome_by}
 
-abbrev pub read_of : NodeRead → Outcome Node
-read_of (Found x) = answer x
-read_of (Refused r) = refused r.number r.place
-
--- the same as a test's outcome: the node is left out
-abbrev pub read_verdict : NodeRead → Outcome (Unit {0})
-read_verdict (Found x) = fine
-read_verdict (Refused r) = refused r.number r.place
+abbrev pub read_of : Result Node Refusal → Outcome Node
+read_of = outcome_by (λ x. x)

@@ -2,20 +2,12 @@
 #![tactic(auto)]
 
 ghost use Rattle.std.specs.Prelude.{◌≡◌, ◌%◌, ◌<◌, length, true};
-ghost use Rattle.scope.specs.Outcome.{verdict_of};
 ghost use Rattle.scope.specs.Table.{node_of, form_ok, range_ok, order_ok, read_record};
 ghost use Rattle.record.specs.Place.{place_of};
 ghost use Rattle.record.specs.Halves.{Passes};
-ghost use Rattle.record.specs.Read.{read_of, read_verdict};
+ghost use Rattle.record.specs.Read.{read_of};
 
-use scope::{Node, Refusal, Verdict};
-
-// What reading a record answers: the node or its refusal.
-#[derive(Clone, Copy)]
-pub enum NodeRead {
-    Found(Node),
-    Refused(Refusal),
-}
+use scope::{Node, Refusal};
 
 // The kind is known, and each must-be-zero field is 0.
 fn form_ok(x: Node, one: u8) -> bool
@@ -183,38 +175,28 @@ pub fn fields(r: &[u8]) -> Node
 }
 
 // The record of node n: its node or its refusal.
-pub fn read_record(r: &[u8], n: usize) -> NodeRead
+pub fn read_record(r: &[u8], n: usize) -> Result<Node, Refusal>
     requires { length r.now ≡ 8 }
     ensures { read_of result ≡ read_record r.now n }
 {
     let x = fields(r);
     if !form_ok(x, r[1]) {
-        return NodeRead::Refused(Refusal {
+        return Err(Refusal {
             number: 14,
             place: n,
         });
     }
     if !range_ok(x, n) {
-        return NodeRead::Refused(Refusal {
+        return Err(Refusal {
             number: 15,
             place: n,
         });
     }
     if !order_ok(x) {
-        return NodeRead::Refused(Refusal {
+        return Err(Refusal {
             number: 16,
             place: n,
         });
     }
-    NodeRead::Found(x)
-}
-
-// A refusal passed on.
-pub fn pass(r: NodeRead) -> Verdict
-    ensures { verdict_of result ≡ read_verdict r }
-{
-    match r {
-        NodeRead::Found(_) => Verdict::Fine,
-        NodeRead::Refused(f) => Verdict::Refused(f),
-    }
+    Ok(x)
 }

@@ -144,10 +144,10 @@ joint_high low high low' high' e =
 
 -- the record of node m is these two numbers or not, by the first that differs
 module _ (t : List ℕ) (m low high : ℕ) {at first : ℕ} (p : at ≡ place_of m) (e : first ≡ double_at t at) where
-  pub other_low : Bytes t → low < 4294967296 → (first ≡ low → ⊥) → false ≡ eqb (key_at t m) (joint low high)
+  pub other_low : Bytes t → low < 4294967296 → (first ≡ low → ⊥) → eqb first low ≡ eqb (key_at t m) (joint low high)
   other_low b l d =
       let small : double_at t (place_of m) < 4294967296 = omega (arith, b (place_of m), b (place_of m + 1), b (place_of m + 2), b (place_of m + 2 + 1)) in
-      sym (ne_eqb (key_at t m) (joint low high) (λ q. d (e ∙ ap (double_at t) p ∙ joint_low _ _ _ _ small l q)))
+      ne_eqb first low d ∙ sym (ne_eqb (key_at t m) (joint low high) (λ q. d (e ∙ ap (double_at t) p ∙ joint_low _ _ _ _ small l q)))
 
   pub by_high : {second : ℕ} → second ≡ double_at t (at + 4) → first ≡ low → eqb second high ≡ eqb (key_at t m) (joint low high)
   by_high f l =

@@ -23,12 +23,7 @@ fn same(t: &[u8], m: usize, low: u32, high: u32) -> bool
     ensures { result ≡ eqb (key_at t.now m) (joint low high) }
 {
     let at = record::place(m);
-    let first = words::double(t, at);
-    if first != low {
-        return false;
-    }
-    let second = words::double(t, at + 4);
-    second == high
+    words::double(t, at) == low && words::double(t, at + 4) == high
 }
 
 // Whether the record of a node before node n is that of node n, low and high.

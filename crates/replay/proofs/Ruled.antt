@@ -42,7 +42,8 @@ module _ (t : ℕ → Node) (n : ℕ) (w : List ℕ) where
 
     pub passes : (w' : List ℕ) (r : Status) → Told t n w f true → Ruled t n o w w' r → Ruled t n (λ goals b ws. given (f goals b) >> o goals b ws) w w' r
     passes w' r T R goals s h =
-        subst (λ (x : Outcome Progress). Says t n goals w' x r) (sym (ap (λ (x : Bool). given x >> o goals (branch_of w s) (waiting_of w s)) (T goals s h))) (R goals s h)
+        subst (λ (x : Outcome Progress). Says t n goals w' x r) (sym (ap (λ (x : Bool). given x >> o goals (branch_of w s) (waiting_of w s)) (T goals s h)))
+        (R goals s h)
 
   -- the one literal of a list, and then the rest of the rule
   module _ (f : List ℕ → Branch → List ℕ) (o : ℕ → Rule) where
@@ -94,7 +95,8 @@ module _ (t : ℕ → Node) (n : ℕ) where
 
   module _ (few : n ≤ most_nodes) where
     pub joined-moves : (l : ℕ) (w w' : List ℕ) → Joined t n l w w' → Moves (join l) w w'
-    joined-moves l w w' j goals s h = (s, joined-holds t n goals w few s h l w' j, joined-branch t n goals w few s h l w' j, joined-waiting t n goals w few s h l w' j)
+    joined-moves l w w' j goals s h =
+        (s, joined-holds t n goals w few s h l w' j, joined-branch t n goals w few s h l w' j, joined-waiting t n goals w few s h l w' j)
 
     -- a strike at an open slot of a clause that stands
     module _ (w w' : List ℕ) (k x : ℕ) (st : stands_in w k ≡ true) (o : Open w (base_at w k) (length_at w k) x) where
@@ -154,7 +156,8 @@ module _ (w : List ℕ) (k : ℕ) {x : Left} (e : x ≡ left_of (free_in w k)) w
     left_open = (subst (All (Open w (base_at w k) (length_at w k))) only-slot (free_open w (base_at w k) (length_at w k))).0
 
 -- an open slot lies within the slots
-pub open_below : {t : ℕ → Node} {n : ℕ} {w : List ℕ} (few : n ≤ most_nodes) (H : Held t n w) (k : ℕ) {x : ℕ} → k < clause_count w → Open w (base_at w k) (length_at w k) x
+pub open_below : {t : ℕ → Node} {n : ℕ} {w : List ℕ} (few : n ≤ most_nodes) (H : Held t n w) (k : ℕ) {x : ℕ} → k < clause_count w
+    → Open w (base_at w k) (length_at w k) x
     → (x < most_slots) × (x < base_at w (k + 1))
 open_below few H k b o =
     let r = (ranged_of few H).ends k b in
@@ -174,7 +177,8 @@ module _ (t : ℕ → Node) (n : ℕ) (w : List ℕ) (few : n ≤ most_nodes) wh
   pub turn_ends : depth w ≡ 0 → Ruled t n (λ goals b waiting. answer (turn waiting)) w w Complete
   turn_ends e goals s h = go s.strikes s.frames h
     where
-      go : (S : List Strike) (fs : List Frame) → Holds t n goals w (history S fs) → ◌≡◌ {A = Outcome Progress} (answer (turn (waits (trail_at w) fs))) (answer complete)
+      go : (S : List Strike) (fs : List Frame) → Holds t n goals w (history S fs)
+          → ◌≡◌ {A = Outcome Progress} (answer (turn (waits (trail_at w) fs))) (answer complete)
       go S [] h = ap (λ (bs : List Branch). answer (turn bs)) (waits-none (trail_at w))
       go S (f ∷ fs) h = absurd (omega (arith, e, h.depths))
 
@@ -207,7 +211,8 @@ module _ (t : ℕ → Node) (n : ℕ) (w : List ℕ) (few : n ≤ most_nodes) wh
 
     module _ {w₁ : List ℕ} (H : Held t n w) (f : Fresh n (g_of w) l) (p : Saved w w₁) where
       -- nothing is held after a save but before the literal joins; the numbers are right all the same
-      pub split-ready : (area_size ≤ length w₁) × (((clause_count w₁ + 3 ≤ most_clauses) × (base_at w₁ (clause_count w₁) + 4 ≤ most_slots)) × (Trail n (trail_at w₁) × Fresh n (g_of w₁) l))
+      pub split-ready : (area_size ≤ length w₁) × (((clause_count w₁ + 3 ≤ most_clauses) × (base_at w₁ (clause_count w₁) + 4 ≤ most_slots))
+          × (Trail n (trail_at w₁) × Fresh n (g_of w₁) l))
       split-ready =
           let d : depth w < most_nodes = (save-ready H f).1 in
           let b = saved-base t n H.0 w few H.1 H.2 w₁ p d in
@@ -230,19 +235,26 @@ module _ (e : ℕ → List (List ℕ)) (n : ℕ) (s : Step) where
   unfolding apply
   is_u p goals b ws = simp (eq-eqb s.rule 85 p)
 
-  pub is_r : (s.rule ≡ 85 → ⊥) → s.rule ≡ 82 → (goals : List ℕ) (b : Branch) (ws : List Branch) → apply e goals n s b ws ≡ rule_r e goals n s.position s.value b ws
+  pub is_r : s.rule ≡ 82 → (goals : List ℕ) (b : Branch) (ws : List Branch) → apply e goals n s b ws ≡ rule_r e goals n s.position s.value b ws
   unfolding apply
-  is_r p q goals b ws = simp (ne_eqb s.rule 85 p, eq-eqb s.rule 82 q)
+  is_r q goals b ws = simp (ne_eqb s.rule 85 (λ p. omega (arith, p, q)), eq-eqb s.rule 82 q)
 
-  pub is_e : (s.rule ≡ 85 → ⊥) → (s.rule ≡ 82 → ⊥) → s.rule ≡ 69 → (goals : List ℕ) (b : Branch) (ws : List Branch) → apply e goals n s b ws ≡ rule_e e goals n s.value b ws
+  pub is_e : s.rule ≡ 69 → (goals : List ℕ) (b : Branch) (ws : List Branch) → apply e goals n s b ws ≡ rule_e e goals n s.value b ws
   unfolding apply
-  is_e p q r goals b ws = simp (ne_eqb s.rule 85 p, ne_eqb s.rule 82 q, eq-eqb s.rule 69 r)
+  is_e r goals b ws = simp (ne_eqb s.rule 85 (λ p. omega (arith, p, r)), ne_eqb s.rule 82 (λ p. omega (arith, p, r)), eq-eqb s.rule 69 r)
 
-  pub is_c : (s.rule ≡ 85 → ⊥) → (s.rule ≡ 82 → ⊥) → (s.rule ≡ 69 → ⊥) → s.rule ≡ 67 → (goals : List ℕ) (b : Branch) (ws : List Branch) → apply e goals n s b ws ≡ rule_c e goals n s.value b ws
+  pub is_c : s.rule ≡ 67 → (goals : List ℕ) (b : Branch) (ws : List Branch) → apply e goals n s b ws ≡ rule_c e goals n s.value b ws
   unfolding apply
-  is_c p q r f goals b ws = simp (ne_eqb s.rule 85 p, ne_eqb s.rule 82 q, ne_eqb s.rule 69 r, eq-eqb s.rule 67 f)
+  is_c f goals b ws =
+      simp (
+        ne_eqb s.rule 85 (λ p. omega (arith, p, f)),
+        ne_eqb s.rule 82 (λ p. omega (arith, p, f)),
+        ne_eqb s.rule 69 (λ p. omega (arith, p, f)),
+        eq-eqb s.rule 67 f,
+      )
 
-  pub is_s : (s.rule ≡ 85 → ⊥) → (s.rule ≡ 82 → ⊥) → (s.rule ≡ 69 → ⊥) → (s.rule ≡ 67 → ⊥) → (goals : List ℕ) (b : Branch) (ws : List Branch) → apply e goals n s b ws
+  pub is_s : (s.rule ≡ 85 → ⊥) → (s.rule ≡ 82 → ⊥) → (s.rule ≡ 69 → ⊥) → (s.rule ≡ 67 → ⊥) → (goals : List ℕ) (b : Branch) (ws : List Branch)
+      → apply e goals n s b ws
       ≡ rule_s e goals n s.value b ws
   unfolding apply
   is_s p q r f goals b ws = simp (ne_eqb s.rule 85 p, ne_eqb s.rule 82 q, ne_eqb s.rule 69 r, ne_eqb s.rule 67 f)

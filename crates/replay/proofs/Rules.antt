@@ -2,7 +2,7 @@
 use mathlib.Core.Path.{◌≡◌, refl, sym, ap, ◌∙◌, subst}
 use mathlib.Core.Bool.{Bool, true, false, not, ◌&&◌, false≢true}
 use mathlib.Core.List.{List, ◌∷◌, map}
-use Prim.Native.Nat.{ℕ, ◌+◌, ◌-◌, ◌*◌, ◌<◌, ◌≤◌}
+use Prim.Native.Nat.{ℕ, suc, ◌+◌, ◌-◌, ◌*◌, ◌<◌, ◌≤◌}
 use native.Mathlib.Omega.{arith}
 use lib.Dec.{eqb, ltb}
 use lib.ListN.{length, get_or}
@@ -92,16 +92,20 @@ module _ (t : ℕ → Node) (n : ℕ) (w : List ℕ) (few : n ≤ most_nodes) (k
         u-refuses z =
             passes t n w up unit w Failed (stands-told t n w few k (sym st))
             (takes t n w rest joins l w Failed (λ goals s h. left-told t n w few k st goals s h ∙ left-literal w k e o q)
-            (fails t n w (λ goals b. is_undecided (value_of b.G l)) (λ goals b ws. answer (running (strike_clause k (join l b)) ws)) (undecided_told t n w l f (ne_eqb v 0 z))))
+            (fails t n w (λ goals b. is_undecided (value_of b.G l)) (λ goals b ws. answer (running (strike_clause k (join l b)) ws))
+            (undecided_told t n w l f (ne_eqb v 0 z))))
 
         module _ (z : v ≡ 0) {w₁ : List ℕ} (p : Struck whole x.first w w₁) where
           pub u-ready : (H : Held t n w) → Table n t
-              → (area_size ≤ length w₁) × (((clause_count w₁ + 3 ≤ most_clauses) × (base_at w₁ (clause_count w₁) + 4 ≤ most_slots)) × (Trail n (trail_at w₁) × Fresh n (g_of w₁) l))
+              → (area_size ≤ length w₁) × (((clause_count w₁ + 3 ≤ most_clauses) × (base_at w₁ (clause_count w₁) + 4 ≤ most_slots))
+              × (Trail n (trail_at w₁) × Fresh n (g_of w₁) l))
           u-ready H T =
               let m = whole-moves t n few w w₁ k x.first st (left_open w k e o) p in
-              let b : slot_at w x.first < 2 * n = slot_literal few H T k (number_of t n w few k st) x.first (open_below few H k (number_of t n w few k st) (left_open w k e o)).1 in
+              let b : slot_at w x.first < 2 * n = slot_literal few H T k (number_of t n w few k st) x.first
+              (open_below few H k (number_of t n w few k st) (left_open w k e o)).1 in
               push_ready few (moves-held t n (strike_clause k) w w₁ m H)
-              (subst (λ (G : List ℕ). Fresh n G l) (sym (moves-list t n (strike_clause k) w w₁ m (λ b. refl) H)) (free_is n l (g_of w) (omega (arith, b, q)) f z))
+              (subst (λ (G : List ℕ). Fresh n G l) (sym (moves-list t n (strike_clause k) w w₁ m (λ b. refl) H))
+              (free_is n l (g_of w) (omega (arith, b, q)) f z))
 
           pub u-runs : {w₂ : List ℕ} → Joined t n l w₁ w₂ → Ruled t n (λ goals. rule_u (expand t) goals n k) w w₂ Running
           unfolding rule_u
@@ -111,7 +115,8 @@ module _ (t : ℕ → Node) (n : ℕ) (w : List ℕ) (few : n ≤ most_nodes) (k
               (passes t n w (λ goals b. is_undecided (value_of b.G l)) (λ goals b ws. answer (running (strike_clause k (join l b)) ws)) w₂ Running
               (undecided_told t n w l f (eq-eqb v 0 z))
               (moves-run t n (λ b. strike_clause k (join l b)) w w₂
-              (moves-then t n (strike_clause k) w w₁ (whole-moves t n few w w₁ k x.first st (left_open w k e o) p) (join l) w₂ (joined-moves t n few l w₁ w₂ j)))))
+              (moves-then t n (strike_clause k) w w₁ (whole-moves t n few w w₁ k x.first st (left_open w k e o) p) (join l) w₂
+              (joined-moves t n few l w₁ w₂ j)))))
 
       -- the slot that is left, and its literal
       pub left_below : (H : Held t n w) → Table n t → x.count ≡ 1 → (x.first < most_slots) × (slot_at w x.first < 2 * n) × (strike_at w x.first ≡ 0)
@@ -127,7 +132,8 @@ module _ (t : ℕ → Node) (n : ℕ) (w : List ℕ) (few : n ≤ most_nodes) (k
     c-lacks : eqb (length (free_in w k)) 0 ≡ false → Ruled t n (λ goals. rule_c (expand t) goals n k) w w Failed
     unfolding rule_c
     c-lacks z =
-        passes t n w up closes w Failed (stands-told t n w few k (sym st)) (fails t n w (λ goals b. eqb (length (rest goals b)) 0) (λ goals b ws. answer (turn ws)) (none_told z))
+        passes t n w up closes w Failed (stands-told t n w few k (sym st))
+        (fails t n w (λ goals b. eqb (length (rest goals b)) 0) (λ goals b ws. answer (turn ws)) (none_told z))
 
     c-closes : (w' : List ℕ) (r : Status) → eqb (length (free_in w k)) 0 ≡ true → Ruled t n (λ goals b ws. answer (turn ws)) w w' r
         → Ruled t n (λ goals. rule_c (expand t) goals n k) w w' r
@@ -138,26 +144,25 @@ module _ (t : ℕ → Node) (n : ℕ) (w : List ℕ) (few : n ≤ most_nodes) (k
 
     -- ---- E
 
-    module _ {v : ℕ} (e : v ≡ true_from w (base_at w k) (length_at w k)) where
-      pub e-lacks : v ≡ 0 → Ruled t n (λ goals. rule_e (expand t) goals n k) w w Failed
+    pub e-lacks : 0 ≡ true_from w (base_at w k) (length_at w k) → Ruled t n (λ goals. rule_e (expand t) goals n k) w w Failed
+    unfolding rule_e
+    e-lacks e =
+        passes t n w up met w Failed (stands-told t n w few k (sym st))
+        (fails t n w (λ goals b. any_holds b.G (rest goals b)) (λ goals b ws. answer (running (strike_clause k b) ws)) (true-told t n w few k st e refl))
+
+    module _ {s : ℕ} (e : suc s ≡ true_from w (base_at w k) (length_at w k)) where
+      pub true_below : (H : Held t n w) → (s < most_slots) × (strike_at w s ≡ 0)
+      true_below H =
+          let o = true_open w (base_at w k) (length_at w k) e in
+          ((open_below few H k (number_of t n w few k st) o).0, o.2)
+
+      pub e-runs : {w₁ : List ℕ} → Struck whole s w w₁ → Ruled t n (λ goals. rule_e (expand t) goals n k) w w₁ Running
       unfolding rule_e
-      e-lacks z =
-          passes t n w up met w Failed (stands-told t n w few k (sym st))
-          (fails t n w (λ goals b. any_holds b.G (rest goals b)) (λ goals b ws. answer (running (strike_clause k b) ws)) (true-told t n w few k st e (ap not (eq-eqb v 0 z))))
-
-      module _ (z : v ≡ 0 → ⊥) where
-        pub true_below : (H : Held t n w) → (v - 1 < most_slots) × (strike_at w (v - 1) ≡ 0)
-        true_below H =
-            let o = true_open w (base_at w k) (length_at w k) e z in
-            ((open_below few H k (number_of t n w few k st) o).0, o.2)
-
-        pub e-runs : {w₁ : List ℕ} → Struck whole (v - 1) w w₁ → Ruled t n (λ goals. rule_e (expand t) goals n k) w w₁ Running
-        unfolding rule_e
-        e-runs {w₁} p =
-            passes t n w up met w₁ Running (stands-told t n w few k (sym st))
-            (passes t n w (λ goals b. any_holds b.G (rest goals b)) (λ goals b ws. answer (running (strike_clause k b) ws)) w₁ Running
-            (true-told t n w few k st e (ap not (ne_eqb v 0 z)))
-            (moves-run t n (strike_clause k) w w₁ (whole-moves t n few w w₁ k (v - 1) st (true_open w (base_at w k) (length_at w k) e z) p)))
+      e-runs {w₁} p =
+          passes t n w up met w₁ Running (stands-told t n w few k (sym st))
+          (passes t n w (λ goals b. any_holds b.G (rest goals b)) (λ goals b ws. answer (running (strike_clause k b) ws)) w₁ Running
+          (true-told t n w few k st e (ap not (ne_eqb (suc s) 0 (λ q. omega (arith, q)))))
+          (moves-run t n (strike_clause k) w w₁ (whole-moves t n few w w₁ k s st (true_open w (base_at w k) (length_at w k) e) p)))
 
     -- ---- R
 
@@ -179,23 +184,27 @@ module _ (t : ℕ → Node) (n : ℕ) (w : List ℕ) (few : n ≤ most_nodes) (k
           pub r-struck : (v ≡ 0 → ⊥) → Ruled t n (λ goals. rule_r (expand t) goals n p k) w w Failed
           r-struck z =
               there w Failed
-              (fails t n w (λ goals b. not (among (record { clause = k; position = p }) b.struck_literals)) (failing p) (unstruck-told t n w few k st p b e (ne_eqb v 0 z)))
+              (fails t n w (λ goals b. not (among (record { clause = k; position = p }) b.struck_literals)) (failing p)
+              (unstruck-told t n w few k st p b e (ne_eqb v 0 z)))
 
           module _ (z : v ≡ 0) {l u : ℕ} (g : l ≡ slot_at w (base_at w k + p)) (f : u ≡ value_code (value_of (g_of w) l)) where
             free : (w' : List ℕ) (r : Status) → Ruled t n (failing p) w w' r → Ruled t n (λ goals. rule_r (expand t) goals n p k) w w' r
             free w' r R =
                 there w' r
-                (passes t n w (λ goals b. not (among (record { clause = k; position = p }) b.struck_literals)) (failing p) w' r (unstruck-told t n w few k st p b e (eq-eqb v 0 z)) R)
+                (passes t n w (λ goals b. not (among (record { clause = k; position = p }) b.struck_literals)) (failing p) w' r
+                (unstruck-told t n w few k st p b e (eq-eqb v 0 z)) R)
 
             pub r-refuses : (u ≡ 2 → ⊥) → Ruled t n (λ goals. rule_r (expand t) goals n p k) w w Failed
             r-refuses y =
                 free w Failed
-                (fails t n w (λ goals b. is_fails (value_of b.G (get_or (clause_at (expand t) goals n b k) p 0))) (removed p) (fails-told t n w few k st p b g f (ne_eqb u 2 y)))
+                (fails t n w (λ goals b. is_fails (value_of b.G (get_or (clause_at (expand t) goals n b k) p 0))) (removed p)
+                (fails-told t n w few k st p b g f (ne_eqb u 2 y)))
 
             pub r-runs : {w₁ : List ℕ} → u ≡ 2 → Struck 0 (base_at w k + p) w w₁ → Ruled t n (λ goals. rule_r (expand t) goals n p k) w w₁ Running
             r-runs {w₁} y q =
                 free w₁ Running
-                (passes t n w (λ goals b. is_fails (value_of b.G (get_or (clause_at (expand t) goals n b k) p 0))) (removed p) w₁ Running (fails-told t n w few k st p b g f (eq-eqb u 2 y))
+                (passes t n w (λ goals b. is_fails (value_of b.G (get_or (clause_at (expand t) goals n b k) p 0))) (removed p) w₁ Running
+                (fails-told t n w few k st p b g f (eq-eqb u 2 y))
                 (moves-run t n (strike_literal (record { clause = k; position = p })) w w₁
                 (subst (λ (i : ℕ). Moves t n (strike_literal (record { clause = k; position = i })) w w₁) at
                 (part-moves t n few w w₁ k (base_at w k + p) st (omega arith, omega (arith, b), sym e ∙ z) q))))
@@ -208,13 +217,14 @@ module _ (t : ℕ → Node) (n : ℕ) (w : List ℕ) (few : n ≤ most_nodes) (k
 -- ---- U and C, where the clause may not stand
 
 module _ (t : ℕ → Node) (n : ℕ) (w : List ℕ) (few : n ≤ most_nodes) (k : ℕ) where
-  pub u_none : {r : ℕ} → r ≡ only_in w k → r ≡ 0 → Ruled t n (λ goals. rule_u (expand t) goals n k) w w Failed
-  u_none e z = by_test (stands_in w k) (λ y. u-lacks t n w few k y refl (only_none w k e z y)) (u-falls t n w few k)
+  pub u_none : 0 ≡ only_in w k → Ruled t n (λ goals. rule_u (expand t) goals n k) w w Failed
+  u_none e = by_test (stands_in w k) (λ y. u-lacks t n w few k y refl (only_none w k e y)) (u-falls t n w few k)
 
   pub c_refuses : empty_in w k ≡ false → Ruled t n (λ goals. rule_c (expand t) goals n k) w w Failed
   c_refuses z = by_test (stands_in w k) (λ y. c-lacks t n w few k y (sym (ap (◌&& eqb (length (free_in w k)) 0) y) ∙ z)) (c-falls t n w few k)
 
-  pub c_turns : (w' : List ℕ) (r : Status) → empty_in w k ≡ true → Ruled t n (λ goals b ws. answer (turn ws)) w w' r → Ruled t n (λ goals. rule_c (expand t) goals n k) w w' r
+  pub c_turns : (w' : List ℕ) (r : Status) → empty_in w k ≡ true → Ruled t n (λ goals b ws. answer (turn ws)) w w' r
+      → Ruled t n (λ goals. rule_c (expand t) goals n k) w w' r
   c_turns w' r z R = by_test (stands_in w k) (λ y. c-closes t n w few k y w' r (sym (ap (◌&& eqb (length (free_in w k)) 0) y) ∙ z) R)
       (λ y. absurd (false≢true (sym (ap (◌&& eqb (length (free_in w k)) 0) y) ∙ z)))
 
@@ -231,7 +241,8 @@ module _ (t : ℕ → Node) (n : ℕ) (w : List ℕ) (few : n ≤ most_nodes) (l
     unfolding rule_s
     s-refuses z =
         passes t n w (λ goals b. ltb l (2 * n)) splits w Failed (λ goals s h. lt-ltb l (2 * n) b)
-        (fails t n w (λ goals b. is_undecided (value_of b.G l)) (λ goals b ws. answer (running (join l b) (join (neg l) b ∷ ws))) (undecided_told t n w l e (ne_eqb v 0 z)))
+        (fails t n w (λ goals b. is_undecided (value_of b.G l)) (λ goals b ws. answer (running (join l b) (join (neg l) b ∷ ws)))
+        (undecided_told t n w l e (ne_eqb v 0 z)))
 
     pub s-runs : {w₁ w₂ : List ℕ} → Held t n w → v ≡ 0 → Saved w w₁ → Joined t n l w₁ w₂ → Ruled t n (λ goals. rule_s (expand t) goals n l) w w₂ Running
     unfolding rule_s

@@ -89,8 +89,10 @@ module _ (v : Version) (t : ℕ → Node) (n : ℕ) (goals : List ℕ) (f : ℕ 
           ap (λ (ss : List Step). run v (expand t) goals n m ss complete) (list_from_done f m count z) ∙ over m ∙ sym (simp (le-ltb m count z))
 
   module _ {o : Outcome (Unit {0})} {w : List ℕ} {i : ℕ} (g : Going o w i) where
-    step_is : i < count → o ≡ run v (expand t) goals n i (f i ∷ list_from f (i + 1) (count - (i + 1))) (running (branch_of w g.history) (waiting_of w g.history))
-    step_is h = g.same ∙ ap (λ (ss : List Step). run v (expand t) goals n i ss (running (branch_of w g.history) (waiting_of w g.history))) (list_from_turn f i count h)
+    step_is : i < count → o ≡ run v (expand t) goals n i (f i ∷ list_from f (i + 1) (count - (i + 1)))
+        (running (branch_of w g.history) (waiting_of w g.history))
+    step_is h = g.same ∙ ap (λ (ss : List Step). run v (expand t) goals n i ss (running (branch_of w g.history) (waiting_of w g.history)))
+        (list_from_turn f i count h)
 
     pub going-late : i < count → is_g (f i) ≡ true → refused 64 i ≡ o
     going-late h q =
@@ -102,15 +104,19 @@ module _ (v : Version) (t : ℕ → Node) (n : ℕ) (goals : List ℕ) (f : ℕ 
         step_is h ∙ run-goes v (expand t) goals n i (f i) (list_from f (i + 1) (count - (i + 1))) (branch_of w g.history) (waiting_of w g.history) other p q
         ∙ ap (λ (m : ℕ). run v (expand t) goals n m (list_from f (i + 1) (count - (i + 1))) p) (sym (add-one i))
 
-    pub going-fails : i < count → is_g (f i) ≡ false → apply_in (expand t) goals n v (f i) (branch_of w g.history) (waiting_of w g.history) ≡ refused 45 0 → refused 45 i ≡ o
+    pub going-fails : i < count → is_g (f i) ≡ false → apply_in (expand t) goals n v (f i) (branch_of w g.history) (waiting_of w g.history) ≡ refused 45 0
+        → refused 45 i ≡ o
     going-fails h other q =
-        sym (step_is h ∙ run-fails v (expand t) goals n i (f i) (list_from f (i + 1) (count - (i + 1))) (branch_of w g.history) (waiting_of w g.history) other q)
+        sym (step_is h ∙ run-fails v (expand t) goals n i (f i) (list_from f (i + 1) (count - (i + 1))) (branch_of w g.history)
+        (waiting_of w g.history) other q)
 
-    pub going-completes : i < count → is_g (f i) ≡ false → apply_in (expand t) goals n v (f i) (branch_of w g.history) (waiting_of w g.history) ≡ answer complete
+    pub going-completes : i < count → is_g (f i) ≡ false → apply_in (expand t) goals n v (f i) (branch_of w g.history)
+        (waiting_of w g.history) ≡ answer complete
         → cond (ltb (i + 1) count) (refused 46 (i + 1)) fine ≡ o
     going-completes h other q = sym (goes_to complete h other q ∙ complete_is (i + 1) (omega (arith, h)))
 
-    pub going-goes : {w' : List ℕ} → i < count → is_g (f i) ≡ false → Says t n goals w' (apply_in (expand t) goals n v (f i) (branch_of w g.history) (waiting_of w g.history)) Running → Going o w' (i + 1)
+    pub going-goes : {w' : List ℕ} → i < count → is_g (f i) ≡ false
+        → Says t n goals w' (apply_in (expand t) goals n v (f i) (branch_of w g.history) (waiting_of w g.history)) Running → Going o w' (i + 1)
     going-goes {w'} h other r = record {
       within = omega (arith, h);
       history = r.0;
@@ -121,7 +127,8 @@ module _ (v : Version) (t : ℕ → Node) (n : ℕ) (goals : List ℕ) (f : ℕ 
     pub going-ends : count ≤ i → refused 47 count ≡ o
     going-ends h =
         let z : i ≡ count = omega (arith, h, g.within) in
-        sym (g.same ∙ ap (λ (ss : List Step). run v (expand t) goals n i ss (running (branch_of w g.history) (waiting_of w g.history))) (list_from_done f i count h)
+        sym (g.same ∙ ap (λ (ss : List Step). run v (expand t) goals n i ss (running (branch_of w g.history) (waiting_of w g.history)))
+        (list_from_done f i count h)
         ∙ still_open i (branch_of w g.history) (waiting_of w g.history) ∙ ap (refused 47) z)
 
 -- what a step's function said, of the step that was read

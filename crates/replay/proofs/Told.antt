@@ -66,7 +66,8 @@ module _ {t : ℕ → Node} {n : ℕ} {w : List ℕ} (few : n ≤ most_nodes) (H
 
   -- a literal may join
   pub push_ready : {l : ℕ} → Fresh n (g_of w) l
-      → (area_size ≤ length w) × (((clause_count w + 3 ≤ most_clauses) × (base_at w (clause_count w) + 4 ≤ most_slots)) × (Trail n (trail_at w) × Fresh n (g_of w) l))
+      → (area_size ≤ length w) × (((clause_count w + 3 ≤ most_clauses) × (base_at w (clause_count w) + 4 ≤ most_slots)) × (Trail n (trail_at w) × Fresh n
+      (g_of w) l))
   push_ready {l} f = (size_of, (push_room t n H.0 w few H.2.base f, (trail_of, f)))
 
   -- the literals in a clause's slots are those of the nodes
@@ -105,7 +106,8 @@ module _ (t : ℕ → Node) (n : ℕ) (w : List ℕ) where
         go (yes i) =
             let c : k < length (clauses_of t goals w) = omega (arith, i, h.base.listed.count) in
             let p : whole_in w (base_at w k) (length_at w k) ≡ mem k (clauses_in s.strikes) =
-            ap (λ (b : ℕ). whole_in w b (length_at w k)) (base_is t n goals w few h.base k c) ∙ ap (whole_in w (offset (clauses_of t goals w) k)) (length-is t n goals w few h.base k c)
+            ap (λ (b : ℕ). whole_in w b (length_at w k)) (base_is t n goals w few h.base k c)
+            ∙ ap (whole_in w (offset (clauses_of t goals w) k)) (length-is t n goals w few h.base k c)
             ∙ whole_is (clauses_of t goals w) w s.strikes (slots_fit t n goals w few h.base) h.marked k c in
             sym (e ∙ ap (λ (b : Bool). ltb k (clause_count w) && not b) p ∙ ap (λ (m : ℕ). ltb k m && not (mem k (clauses_in s.strikes))) h.base.listed.count)
         go (no i) =
@@ -191,7 +193,8 @@ module _ (t : ℕ → Node) (n : ℕ) (w : List ℕ) where
           low : (i : ℕ) → i < length (get_or (clauses_of t goals w) k []) → i < length_at w k
           low i c = omega (arith, c, length-is t n goals w few h.base k (inside goals s h))
 
-      pub true-told : {v : ℕ} {r : Bool} → v ≡ true_from w (base_at w k) (length_at w k) → not (eqb v 0) ≡ r → Told (λ goals b. any_holds b.G (left (expand t) goals n b k)) r
+      pub true-told : {v : ℕ} {r : Bool} → v ≡ true_from w (base_at w k) (length_at w k) → not (eqb v 0) ≡ r
+          → Told (λ goals b. any_holds b.G (left (expand t) goals n b k)) r
       true-told {v} e q goals s h =
           ap (any_holds (g_of w)) (left-told goals s h) ∙ true-is w (base_at w k) (length_at w k) ∙ ap (λ (x : ℕ). not (eqb x 0)) (sym e) ∙ q
 
@@ -212,4 +215,20 @@ module _ (t : ℕ → Node) (n : ℕ) (w : List ℕ) where
           pub fails-told : {l v : ℕ} {r : Bool} → l ≡ slot_at w (base_at w k + p) → v ≡ value_code (value_of (g_of w) l) → eqb v 2 ≡ r
               → Told (λ goals b. is_fails (value_of b.G (get_or (clause_at (expand t) goals n b k) p 0))) r
           fails-told {l} e f q goals s h =
-              ap (λ (x : ℕ). is_fails (value_of (g_of w) x)) (literal-told goals s h p b ∙ sym e) ∙ is_fails_lem (value_of (g_of w) l) ∙ ap (λ (x : ℕ). eqb x 2) (sym f) ∙ q
+              ap (λ (x : ℕ). is_fails (value_of (g_of w) x)) (literal-told goals s h p b ∙ sym e) ∙ is_fails_lem (value_of (g_of w) l)
+              ∙ ap (λ (x : ℕ). eqb x 2) (sym f) ∙ q
+
+-- ---- the slots of a clause that stands
+
+pub record Within (w : List ℕ) (k : ℕ) : Type 0 where
+  pub size : area_size ≤ length w
+  pub number : k < clause_count w
+  pub most : clause_count w ≤ most_clauses
+  pub order : base_at w k ≤ base_at w (k + 1)
+  pub end : base_at w (k + 1) ≤ most_slots
+
+pub clause_within : {t : ℕ → Node} {n : ℕ} {w : List ℕ} (few : n ≤ most_nodes) (H : Held t n w) {k : ℕ} → stands_in w k ≡ true → Within w k
+clause_within {t} {n} {w} few H {k} st =
+    let number = number_of t n w few k st in
+    let ends = (ranged_of few H).ends k number in
+    record { size = size_of few H; number = number; most = (ranged_of few H).count; order = ends.0; end = ends.1 }

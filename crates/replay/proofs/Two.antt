@@ -1,8 +1,9 @@
 -- U and C of version two: each test of the code is a condition of the rule, and past them the rule runs. Assumes nothing.
-use mathlib.Core.Path.{◌≡◌, sym, ap, ◌∙◌, subst}
+use mathlib.Core.Path.{◌≡◌, refl, sym, ap, ◌∙◌, subst}
 use mathlib.Core.Bool.{Bool, true, false}
 use mathlib.Core.List.{List, []}
 use Prim.Native.Nat.{ℕ, ◌+◌, ◌*◌, ◌<◌, ◌≤◌}
+use native.Mathlib.Omega.{arith}
 use lib.ListN.{length}
 use borrow.Author.Tests.{eq-eqb, ne_eqb, lt-ltb, le-ltb}
 use Rattle.scope.specs.declared.Node.{Node}
@@ -15,7 +16,9 @@ use Rattle.calculus.proofs.Fresh.{clauses-below}
 use Rattle.rules.specs.declared.Step.{Step}
 use Rattle.rules.specs.Rules.{Branch, join, Progress, running, turn, the_one, given, clause_at, in_list, rule_s, unit_two, conflict_two, apply_two}
 use Rattle.area.specs.Area.{area_size, most_nodes, most_clauses, most_slots, clause_count, base_at, trail_at, g_of, Trail}
-use Rattle.seen.specs.Seen.{state_in}
+use Rattle.seen.specs.Seen.{state_in, seen_of}
+use Rattle.seen.specs.declared.Seen.{Seen}
+use Rattle.seen.specs.declared.Seen.TheVariants.{Met, Empty, One, Many}
 use Rattle.seen.proofs.States.{one-says}
 use Rattle.branch.specs.Holds.{branch_of, waiting_of, Held, Joined}
 use Rattle.replay.specs.declared.Status.{Status}
@@ -68,7 +71,8 @@ module _ (t : ℕ → Node) (n : ℕ) (w : List ℕ) (few : n ≤ most_nodes) (k
 
     module _ {l : ℕ} (q : x ≡ one l) where
       pub unit-ready : (H : Held t n w) → Table n t
-          → (area_size ≤ length w) × (((clause_count w + 3 ≤ most_clauses) × (base_at w (clause_count w) + 4 ≤ most_slots)) × (Trail n (trail_at w) × Fresh n (g_of w) l))
+          → (area_size ≤ length w) × (((clause_count w + 3 ≤ most_clauses) × (base_at w (clause_count w) + 4 ≤ most_slots))
+          × (Trail n (trail_at w) × Fresh n (g_of w) l))
       unit-ready H T =
           let b = H.2.base in
           let below : Below n (clause_at (expand t) H.0 n (branch_of w H.1) k) =
@@ -99,6 +103,19 @@ module _ (t : ℕ → Node) (n : ℕ) (w : List ℕ) (few : n ≤ most_nodes) (k
         passes t n w listed closes w' r inside
         (passes t n w (λ goals b. are_all_false (stated goals b)) (λ goals b ws. answer (turn ws)) w' r (λ goals s h. ap are_all_false (told goals s h ∙ q)) R)
 
+-- what was seen is not one literal, and not that all are false
+pub not_one : (r : Seen) → ((l : ℕ) → r ≡ One l → ⊥) → the_one (seen_of r) ≡ refused 45 0
+not_one Met h = refl
+not_one Empty h = refl
+not_one (One l) h = absurd (h l refl)
+not_one (Many l) h = refl
+
+pub not_empty : (r : Seen) → (r ≡ Empty → ⊥) → are_all_false (seen_of r) ≡ false
+not_empty Met h = refl
+not_empty Empty h = absurd (h refl)
+not_empty (One l) h = refl
+not_empty (Many l) h = refl
+
 -- ---- the rule of a step's letter
 
 module _ (e : ℕ → List (List ℕ)) (n : ℕ) (s : Step) where
@@ -106,14 +123,15 @@ module _ (e : ℕ → List (List ℕ)) (n : ℕ) (s : Step) where
   unfolding apply_two
   two_u p goals b ws = simp (eq-eqb s.rule 85 p)
 
-  pub two_c : (s.rule ≡ 85 → ⊥) → s.rule ≡ 67 → (goals : List ℕ) (b : Branch) (ws : List Branch) → apply_two e goals n s b ws ≡ conflict_two e goals n s.value b ws
+  pub two_c : s.rule ≡ 67 → (goals : List ℕ) (b : Branch) (ws : List Branch) → apply_two e goals n s b ws ≡ conflict_two e goals n s.value b ws
   unfolding apply_two
-  two_c p q goals b ws = simp (ne_eqb s.rule 85 p, eq-eqb s.rule 67 q)
+  two_c q goals b ws = simp (ne_eqb s.rule 85 (λ p. omega (arith, p, q)), eq-eqb s.rule 67 q)
 
-  pub two_s : (s.rule ≡ 85 → ⊥) → (s.rule ≡ 67 → ⊥) → s.rule ≡ 83 → (goals : List ℕ) (b : Branch) (ws : List Branch) → apply_two e goals n s b ws ≡ rule_s e goals n s.value b ws
+  pub two_s : s.rule ≡ 83 → (goals : List ℕ) (b : Branch) (ws : List Branch) → apply_two e goals n s b ws ≡ rule_s e goals n s.value b ws
   unfolding apply_two
-  two_s p q r goals b ws = simp (ne_eqb s.rule 85 p, ne_eqb s.rule 67 q, eq-eqb s.rule 83 r)
+  two_s r goals b ws = simp (ne_eqb s.rule 85 (λ p. omega (arith, p, r)), ne_eqb s.rule 67 (λ p. omega (arith, p, r)), eq-eqb s.rule 83 r)
 
-  pub two_none : (s.rule ≡ 85 → ⊥) → (s.rule ≡ 67 → ⊥) → (s.rule ≡ 83 → ⊥) → (goals : List ℕ) (b : Branch) (ws : List Branch) → apply_two e goals n s b ws ≡ refused 45 0
+  pub two_none : (s.rule ≡ 85 → ⊥) → (s.rule ≡ 67 → ⊥) → (s.rule ≡ 83 → ⊥) → (goals : List ℕ) (b : Branch) (ws : List Branch)
+      → apply_two e goals n s b ws ≡ refused 45 0
   unfolding apply_two
   two_none p q r goals b ws = simp (ne_eqb s.rule 85 p, ne_eqb s.rule 67 q, ne_eqb s.rule 83 r)

@@ -14,7 +14,7 @@ ghost use Rattle.branch.specs.Holds.{Indexed, Goals, Held};
 ghost use Rattle.replay.specs.Ruled.{Ruled};
 
 use rules::{Step, Version};
-use scope::{Refusal, Verdict};
+use scope::Refusal;
 use seen::Seen;
 
 // What a rule leaves: the derivation goes on, is complete, or the rule's condition fails.
@@ -31,11 +31,9 @@ fn rule_u(x: &[u16], n: usize, work: &mut [u16], k: usize) -> Status
     requires held { Held (index_node x.now) n work.old }
     ensures { Ruled (index_node x.now) n (λ goals. rule_u (expand (index_node x.now)) goals n k) work.old work.new result }
 {
-    let found = area::only(work, k);
-    if found == 0 {
+    let Some(s) = area::only(work, k) else {
         return Status::Failed;
-    }
-    let s = found - 1;
+    };
     let l = area::literal_in(work, s);
     if area::value(work, n, l) != 0 {
         return Status::Failed;
@@ -77,11 +75,10 @@ fn rule_e(x: &[u16], n: usize, work: &mut [u16], k: usize) -> Status
     if !area::stands(work, k) {
         return Status::Failed;
     }
-    let found = area::true_slot(work, n, k);
-    if found == 0 {
+    let Some(s) = area::true_slot(work, n, k) else {
         return Status::Failed;
-    }
-    area::strike(work, found - 1, area::WHOLE);
+    };
+    area::strike(work, s, area::WHOLE);
     Status::Running
 }
 
@@ -120,8 +117,7 @@ fn rule_s(x: &[u16], n: usize, work: &mut [u16], l: u16) -> Status
     if 2 * n <= l as usize {
         return Status::Failed;
     }
-    let known = area::value(work, n, l);
-    if known != 0 {
+    if area::value(work, n, l) != 0 {
         return Status::Failed;
     }
     area::save_split(work);
@@ -138,16 +134,11 @@ fn unit_two(x: &[u16], n: usize, work: &mut [u16], k: usize) -> Status
     if work[0] as usize <= k {
         return Status::Failed;
     }
-    let state = seen::clause_state(work, n, k);
-    match state {
-        Seen::Met => Status::Failed,
-        Seen::Empty => Status::Failed,
-        Seen::One(l) => {
-            branch::push(x, n, work, l);
-            Status::Running
-        }
-        Seen::Many(_) => Status::Failed,
-    }
+    let Seen::One(l) = seen::clause_state(work, n, k) else {
+        return Status::Failed;
+    };
+    branch::push(x, n, work, l);
+    Status::Running
 }
 
 // C of version two: all literals of clause k are false.
@@ -159,13 +150,10 @@ fn conflict_two(x: &[u16], n: usize, work: &mut [u16], k: usize) -> Status
     if work[0] as usize <= k {
         return Status::Failed;
     }
-    let state = seen::clause_state(work, n, k);
-    match state {
-        Seen::Met => Status::Failed,
-        Seen::Empty => turn(x, n, work),
-        Seen::One(_) => Status::Failed,
-        Seen::Many(_) => Status::Failed,
-    }
+    let Seen::Empty = seen::clause_state(work, n, k) else {
+        return Status::Failed;
+    };
+    turn(x, n, work)
 }
 
 // The rule of a step's letter, in version two.
@@ -175,16 +163,12 @@ fn apply_two(x: &[u16], n: usize, work: &mut [u16], step: Step) -> Status
     ensures { Ruled (index_node x.now) n (λ goals. apply_two (expand (index_node x.now)) goals n step) work.old work.new result }
 {
     let k = step.value as usize;
-    if step.rule == 85 {
-        return unit_two(x, n, work, k);
+    match step.rule {
+        85 => unit_two(x, n, work, k),
+        67 => conflict_two(x, n, work, k),
+        83 => rule_s(x, n, work, step.value),
+        _ => Status::Failed,
     }
-    if step.rule == 67 {
-        return conflict_two(x, n, work, k);
-    }
-    if step.rule == 83 {
-        return rule_s(x, n, work, step.value);
-    }
-    Status::Failed
 }
 
 // The rule of a step's letter, in version one.
@@ -194,19 +178,13 @@ fn apply_step(x: &[u16], n: usize, work: &mut [u16], step: Step) -> Status
     ensures { Ruled (index_node x.now) n (λ goals. apply (expand (index_node x.now)) goals n step) work.old work.new result }
 {
     let k = step.value as usize;
-    if step.rule == 85 {
-        return rule_u(x, n, work, k);
+    match step.rule {
+        85 => rule_u(x, n, work, k),
+        82 => rule_r(x, n, work, step.position, k),
+        69 => rule_e(x, n, work, k),
+        67 => rule_c(x, n, work, k),
+        _ => rule_s(x, n, work, step.value),
     }
-    if step.rule == 82 {
-        return rule_r(x, n, work, step.position, k);
-    }
-    if step.rule == 69 {
-        return rule_e(x, n, work, k);
-    }
-    if step.rule == 67 {
-        return rule_c(x, n, work, k);
-    }
-    rule_s(x, n, work, step.value)
 }
 
 // The rule of a step's letter in its version.
@@ -222,21 +200,20 @@ fn apply_in(version: Version, x: &[u16], n: usize, work: &mut [u16], step: Step)
 }
 
 // A refusal.
-fn refusal(number: u16, place: usize) -> Verdict
+fn refusal(number: u16, place: usize) -> Result<(), Refusal>
     ensures { verdict_of result ≡ refused number place }
 {
-    let r = Refusal { number, place };
-    Verdict::Refused(r)
+    Err(Refusal { number, place })
 }
 
 // A derivation that is complete before step i: 46 where there is such a step.
-fn completed(i: usize, count: usize) -> Verdict
+fn completed(i: usize, count: usize) -> Result<(), Refusal>
     ensures { verdict_of result ≡ cond (ltb i count) (refused 46 i) fine }
 {
     if i < count {
         return refusal(46, i);
     }
-    Verdict::Fine
+    Ok(())
 }
 
 // The steps of a derivation in turn, from a step on: 46 already complete, 64 a late G, 45 a rule's condition fails, 47 branches open at
@@ -250,7 +227,7 @@ pub fn check_run(
     d: &[u8],
     from: usize,
     count: usize,
-) -> Verdict
+) -> Result<(), Refusal>
     requires indexed { Indexed x.now n }
     requires goals { Goals n goals.now }
     requires area_size_in_bounds { area_size ≤ length work.old }
@@ -259,25 +236,18 @@ pub fn check_run(
     ensures { verdict_of result ≡ run version (expand (index_node x.now)) goals.now n from (list_from (step_at d.now) from (count - from)) (running root []) }
 {
     branch::begin(x, n, goals, work);
-    let mut i = from;
     let mut at = steps::place(from);
-    while i < count {
+    for i in from..count {
         let s = steps::step_by(d, i, at);
         if s.rule == 71 {
             return refusal(64, i);
         }
-        let r = apply_in(version, x, n, work, s);
-        match r {
-            Status::Failed => {
-                return refusal(45, i);
-            }
-            Status::Complete => {
-                return completed(i + 1, count);
-            }
+        match apply_in(version, x, n, work, s) {
+            Status::Failed => return refusal(45, i),
+            Status::Complete => return completed(i + 1, count),
             Status::Running => {}
         }
         at = steps::place_after(i, at);
-        i += 1;
     }
     refusal(47, count)
 }

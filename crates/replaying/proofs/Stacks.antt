@@ -4,13 +4,12 @@ use mathlib.Core.List.{List, [], ◌∷◌}
 use Prim.Native.Nat.{ℕ, suc, ◌+◌, ◌-◌, ◌<◌, ◌≤◌}
 use native.Mathlib.Omega.{arith}
 use native.Mathlib.Numerals.{add-one}
-use native.Mathlib.Decide.{ℕ_discrete}
-use lib.ListN.{length, get_or, set, length-set}
-use lib.Seq.{get_or-set_same, get_or-set_other}
+use lib.ListN.{length, get_or, set, take, drop, length-set, length-take, length-drop}
+use lib.Seq.{get_or-set_same, get_or-set_other, length-take-le, get_or-take, get_or-drop}
 use Rattle.trail.specs.Trail.{trail}
 use Rattle.trail.proofs.Trails.{trail-length, trail-suc, trail_same}
-use Rattle.state.specs.Work.{tail, g_of}
-use Rattle.replaying.specs.Standing.{stack_size, stack_of, Copied}
+use Rattle.state.specs.Work.{area, tail, g_of}
+use Rattle.replaying.specs.Standing.{stack_size, stack_of}
 
 -- the numbers of a list as a trail
 abbrev pub numbers : List ℕ → ℕ → ℕ
@@ -51,19 +50,24 @@ popped o size some =
 pub emptied : (o : List ℕ) → length o ≡ stack_size → stack_of (set o 0 0) ≡ []
 emptied o size = stack_none (set o 0 0) (get_or-set_same o 0 0 0 (omega arith))
 
+-- the numbers of a stack, oldest first, as a slice has them
+pub oldest-first : (o : List ℕ) (h q : ℕ) → q < length (take (1 + h - 1) (drop 1 o)) → get_or (take (1 + h - 1) (drop 1 o)) q 0 ≡ get_or o (1 + q) 0
+oldest-first o h q l = get_or-take (1 + h - 1) (drop 1 o) q 0 (omega (arith, length-take (1 + h - 1) (drop 1 o))) ∙ get_or-drop 1 o q 0
+
 -- ---- a copy of the literals held
 
-pub copied_none : (w c : List ℕ) → length c ≡ stack_size → Copied w 0 c
-copied_none w c e = record { size = e; numbers = λ i h. absurd (omega arith) }
+-- c holds the literals that stand in w, with their count
+pub record Copied (w c : List ℕ) : Type 0 where
+  pub size : length c ≡ stack_size
+  pub numbers : (i : ℕ) → i < stack_size → get_or c i 0 ≡ tail w i
 
-pub copied_more : {w c : List ℕ} {k : ℕ} → k < stack_size → Copied w k c → Copied w (k + 1) (set c k (tail w k))
-copied_more {w} {c} {k} h s = record { size = length-set c k (tail w k) ∙ s.size; numbers = λ i l. go i l (ℕ_discrete i k) }
-  where
-    go : (i : ℕ) → i < k + 1 → Dec (i ≡ k) → get_or (set c k (tail w k)) i 0 ≡ tail w i
-    go i l (yes e) = rw e (get_or-set_same c k (tail w k) 0 (omega (arith, s.size)))
-    go i l (no e) = get_or-set_other c k i (tail w k) 0 e ∙ s.numbers i (omega arith)
+pub copied : {w c : List ℕ} → area ≤ length w → c ≡ take stack_size (drop 4 w) → Copied w c
+copied {w} {c} h e = rw e (record {
+  size = length-take-le stack_size (drop 4 w) (omega (arith, length-drop 4 w));
+  numbers = λ i l. get_or-take stack_size (drop 4 w) i 0 l ∙ get_or-drop 4 w i 0;
+})
 
-module _ {w c : List ℕ} (s : Copied w stack_size c) where
+module _ {w c : List ℕ} (s : Copied w c) where
   pub copied_count : get_or c 0 0 ≡ tail w 0
   copied_count = s.numbers 0 (omega arith)
 

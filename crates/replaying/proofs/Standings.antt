@@ -16,7 +16,8 @@ use Rattle.calculus.specs.Model.{Table, Below, Goals, Fresh, Good}
 use Rattle.calculus.specs.declared.Move.{Move}
 use Rattle.calculus.specs.declared.Move.TheVariants.{Conflict, Unit as Single, Done, Split}
 use Rattle.calculus.proofs.Count.{room}
-use Rattle.index.specs.Index.{most_nodes}
+use Rattle.index.specs.Index.{most_nodes, index_node}
+use Rattle.index.specs.Indexed.{Indexed}
 use Rattle.trail.specs.Trail.{trail}
 use Rattle.trail.proofs.Trails.{trail-length}
 use Rattle.state.specs.Work.{tail, g_of}
@@ -25,8 +26,10 @@ use Rattle.turns.specs.Turn.{Search, running, found, closed, is_running, number_
 use Rattle.turns.proofs.Turns.{turn_by, times-add}
 use Rattle.turns.proofs.Splits.{opens-split, opens-past, opens_short}
 use Rattle.turns.proofs.Replay.{replays_more, may-join, replays_short}
-use Rattle.replaying.specs.Standing.{stack_size, stack_of, Stands, Copied, Followed, Replayed, search_by, Made, Turned}
-use Rattle.replaying.proofs.Stacks.{numbers, stack_length, emptied, copied_count, copied_list}
+use Rattle.replaying.specs.declared.Verdict.{Verdict}
+use Rattle.replaying.specs.declared.Verdict.TheVariants.{Impossible, Possible, Unfinished}
+use Rattle.replaying.specs.Standing.{number_by, stack_size, stack_of, Stands, Followed, Replayed, search_by, Made, Turned}
+use Rattle.replaying.proofs.Stacks.{numbers, stack_length, emptied, Copied, copied_count, copied_list}
 
 -- ---- the literals that a move lets join
 
@@ -174,12 +177,12 @@ cut e goals r q (suc k) h f = on (ℕ_discrete q (suc k)) (cut e goals r q k)
     on (no z) c = rw (c (omega arith) f)
 
 module _ {t : ℕ → Node} {n : ℕ} {goals c w₀ m₀ o₀ w m o : List ℕ} {q : ℕ} (g : Going t n goals c w₀ m₀ o₀ w m o q) where
-  module _ {w' m' o' : List ℕ} {r : Bool} (f : Followed t n goals w w' m' o' (get_or c (1 + q) 0) r) where
+  module _ {l : ℕ} (z : l ≡ get_or c (1 + q) 0) {w' m' o' : List ℕ} {r : Bool} (f : Followed t n goals w w' m' o' l r) where
     pub going_more : r ≡ true → length w' ≡ length w → length m' ≡ length m → length o' ≡ length o → Going t n goals c w₀ m₀ o₀ w' m' o' (q + 1)
     unfolding trail
     going_more e a b d = record {
       stands = f.stands e;
-      list = f.list e ∙ ap (get_or c (1 + q) 0 ∷◌) g.list ∙ rw (add-one q);
+      list = f.list e ∙ ap (◌∷ g_of w) z ∙ ap (get_or c (1 + q) 0 ∷◌) g.list ∙ rw (add-one q);
       work = a ∙ g.work;
       masks = b ∙ g.masks;
       opens = d ∙ g.opens;
@@ -187,7 +190,7 @@ module _ {t : ℕ → Node} {n : ℕ} {goals c w₀ m₀ o₀ w m o : List ℕ} 
 
     strays : r ≡ false → replays (expand t) goals (trail (suc q) (numbers c)) ≡ false
     unfolding trail replays
-    strays e = rw (← g.list, g.stands.replayed) (sym f.told ∙ e)
+    strays e = rw (← g.list, g.stands.replayed, ← z) (sym f.told ∙ e)
 
     pub replay-stops : q < get_or c 0 0 → r ≡ false → Replayed t n goals (stack_of c) w' m' o' false
     replay-stops h e = record {
@@ -210,18 +213,21 @@ module _ (e : ℕ → List (List ℕ)) (goals G : List ℕ) where
   taken_all : replays e goals G ≡ true → taken_up e goals G ≡ G
   taken_all z = rw z
 
-module _ {t : ℕ → Node} {n : ℕ} {goals w c : List ℕ} (T : Table n t) (B : Goals n goals) (few : n ≤ most_nodes) (k : Copied w stack_size c) where
+module _ {x : List ℕ} {n : ℕ} {goals w c : List ℕ} (I : Indexed x n) (B : Goals n goals) (k : Copied w c) where
+  abbrev t : ℕ → Node
+  t = index_node x
+
   -- more literals than nodes do not replay
   pub taken_long : n < length (g_of w) → taken_up (expand t) goals (g_of w) ≡ []
   taken_long h = on (replays (expand t) goals (g_of w)) refl
     where
       on : (b : Bool) → replays (expand t) goals (g_of w) ≡ b → taken_up (expand t) goals (g_of w) ≡ []
-      on true z = absurd (omega (arith, replays_short n t goals T B.below (g_of w) z))
+      on true z = absurd (omega (arith, replays_short n t goals I.table B.below (g_of w) z))
       on false z = taken_none (expand t) goals (g_of w) z
 
   module _ (h : length (g_of w) ≤ n) where
     few-held : tail w 0 ≤ most_nodes
-    few-held = omega (arith, trail-length (tail w 0) (tail w))
+    few-held = omega (arith, I.few, trail-length (tail w 0) (tail w))
 
     pub few-copied : get_or c 0 0 ≤ most_nodes
     few-copied = omega (arith, copied_count k, few-held)
@@ -274,6 +280,17 @@ module _ {t : ℕ → Node} {n : ℕ} {goals w m o : List ℕ} where
   made_stands (running G) a e = a.at.0
   made_stands (found G) a e = absurd (omega (arith, a.number))
   made_stands closed a e = absurd (omega (arith, a.number))
+
+-- the number of one that found a model, and of one that is not over
+pub by_one : (v : Verdict) → number_by v ≡ 1 → v ≡ Possible
+by_one Impossible e = absurd (omega arith)
+by_one Possible e = refl
+by_one Unfinished e = absurd (omega arith)
+
+pub by-two : (v : Verdict) → number_by v ≡ 2 → v ≡ Unfinished
+by-two Impossible e = absurd (omega arith)
+by-two Possible e = absurd (omega arith)
+by-two Unfinished e = refl
 
 -- ---- turns one after another
 

@@ -2,12 +2,20 @@
 -- Assumes nothing.
 use Rattle.std.specs.Prelude.{◌≡◌, Bool, true, cond, List, ◌∷◌, ℕ, ◌<◌, ◌≤◌, eqb, length, get_or}
 use Rattle.scope.specs.declared.Node.{Node}
+use Rattle.replaying.specs.declared.Verdict.{Verdict}
+use Rattle.replaying.specs.declared.Verdict.TheVariants.{Impossible, Possible, Unfinished}
 use Rattle.calculus.specs.Expansion.{expand}
 use Rattle.calculus.specs.Order.{move}
 use Rattle.trail.specs.Trail.{held}
-use Rattle.state.specs.Work.{tail, g_of}
+use Rattle.state.specs.Work.{g_of}
 use Rattle.state.specs.Holds.{Holds}
 use Rattle.turns.specs.Turn.{Search, running, found, closed, is_running, number_of, follows, opens, replays, times}
+
+-- what a search has come to, as the number that areas and reports have for it
+abbrev pub number_by : Verdict → ℕ
+number_by Impossible = 0
+number_by Possible = 1
+number_by Unfinished = 2
 
 -- a stack: how many, and from 1 on each, the newest last; here as a list, the newest first
 abbrev pub stack_size : ℕ
@@ -30,11 +38,6 @@ At t n goals w m o (found G) = g_of w ≡ G
 At t n goals w m o closed = Unit {0}
 
 -- ---- what each function leaves
-
--- the literals that stood in w were copied, with their count
-pub record Copied (w : List ℕ) (k : ℕ) (c : List ℕ) : Type 0 where
-  pub size : length c ≡ stack_size
-  pub numbers : (i : ℕ) → i < k → get_or c i 0 ≡ tail w i
 
 -- whether l may join at the next move; if so it has joined
 pub record Followed (t : ℕ → Node) (n : ℕ) (goals w w' m' o' : List ℕ) (l : ℕ) (r : Bool) : Type 0 where

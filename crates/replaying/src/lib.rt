@@ -12,23 +12,33 @@ ghost use Rattle.index.specs.Indexed.{Indexed};
 ghost use Rattle.units.specs.Units.{words};
 ghost use Rattle.state.specs.Work.{area, g_of, Ready};
 ghost use Rattle.turns.specs.Turn.{running, back, turn as turn_of, times, taken_up};
-ghost use Rattle.replaying.specs.Standing.{stack_size, stack_of, Stands, Copied, Followed, Replayed, Made, Turned};
+ghost use Rattle.replaying.specs.Standing.{stack_size, stack_of, number_by, Stands, Followed, Replayed, Made, Turned};
 
 use calculus::Move;
+
+// What a search has come to.
+#[derive(Clone, Copy)]
+pub enum Verdict {
+    Impossible,
+    Possible,
+    Unfinished,
+}
+
+impl Verdict {
+    // The number that areas and reports have for it.
+    pub fn number(self) -> u8
+        ensures { result ≡ number_by self }
+    {
+        self as u8
+    }
+}
 
 // Turns made one after another: what the search has then come to, and how many they were.
 #[derive(Clone, Copy)]
 pub struct Ran {
-    pub verdict: u8,
+    pub verdict: Verdict,
     pub made: usize,
 }
-
-// What a search has come to.
-const IMPOSSIBLE: u8 = 0;
-
-const POSSIBLE: u8 = 1;
-
-const UNFINISHED: u8 = 2;
 
 // No unit is the next move.
 const NO_UNIT: u32 = 4294967295;
@@ -157,35 +167,20 @@ fn replay(
 {
     let held = literals[0] as usize;
     let mut u = moves::pick(work, masks);
-    let mut q = 0;
-    while q < held {
-        let l = literals[1 + q];
-        q += 1;
+    for &l in &literals[1..1 + held] {
         if u != NO_UNIT {
             if (u % 4096) as u16 != l {
                 return false;
             }
             u = solver::join(x, n, goals, work, masks, u);
-        } else {
-            if !follow(x, n, goals, work, masks, opens, l) {
-                return false;
-            }
-            u = moves::pick(work, masks);
+            continue;
         }
+        if !follow(x, n, goals, work, masks, opens, l) {
+            return false;
+        }
+        u = moves::pick(work, masks);
     }
     true
-}
-
-// The literals that an area holds are copied, with their count.
-fn copy(work: &[u16], literals: &mut [u16])
-    requires { (area ≤ length work.now) × (length literals.old ≡ stack_size) }
-    ensures { Copied work.now stack_size literals.new }
-{
-    let mut i = 0;
-    while i < 2017 {
-        literals[i] = work[TRAIL + i];
-        i += 1;
-    }
 }
 
 // The search is taken up at the literals that its area holds, or at its start where they do not replay.
@@ -205,7 +200,7 @@ pub fn resume(
 {
     let held = state::count(work);
     let mut literals = [0u16; 2017];
-    copy(work, &mut literals);
+    literals.copy_from_slice(&work[TRAIL..TRAIL + 2017]);
     begin(x, n, goals, work, masks, opens);
     if n < held as usize {
         return;
@@ -223,23 +218,23 @@ fn turn_right(
     work: &mut [u16],
     masks: &mut [u64],
     opens: &mut [u16],
-) -> u8
+) -> Verdict
     requires indexed { Indexed x.now n }
     requires goals { Goals n goals.now }
     requires stands { Stands (index_node x.now) n goals.now work.old masks.old opens.old }
-    ensures made { Made (index_node x.now) n goals.now work.new masks.new opens.new (back (expand (index_node x.now)) goals.now (g_of work.old)) result }
+    ensures made { Made (index_node x.now) n goals.now work.new masks.new opens.new (back (expand (index_node x.now)) goals.now (g_of work.old)) (number_by result) }
     ensures ready { Ready n work.new }
 {
     let k = opens[0];
     if k == 0 {
-        return IMPOSSIBLE;
+        return Verdict::Impossible;
     }
     let held = opens[k as usize];
     opens[0] = k - 1;
     let l = state::literal(work, held as usize);
     solver::undo_to(x, n, goals, work, masks, held);
     solver::assume(x, n, goals, work, masks, clause::negated(l));
-    UNFINISHED
+    Verdict::Unfinished
 }
 
 // One turn of the plain order; what the search has then come to.
@@ -250,11 +245,11 @@ fn turn(
     work: &mut [u16],
     masks: &mut [u64],
     opens: &mut [u16],
-) -> u8
+) -> Verdict
     requires indexed { Indexed x.now n }
     requires goals { Goals n goals.now }
     requires stands { Stands (index_node x.now) n goals.now work.old masks.old opens.old }
-    ensures made { Made (index_node x.now) n goals.now work.new masks.new opens.new (turn_of (expand (index_node x.now)) goals.now (running (g_of work.old))) result }
+    ensures made { Made (index_node x.now) n goals.now work.new masks.new opens.new (turn_of (expand (index_node x.now)) goals.now (running (g_of work.old))) (number_by result) }
     ensures ready { Ready n work.new }
 {
     let m = moves::next_move(x, n, goals, work, masks);
@@ -262,12 +257,12 @@ fn turn(
         Move::Conflict(_) => turn_right(x, n, goals, work, masks, opens),
         Move::Unit(_, l) => {
             solver::assume(x, n, goals, work, masks, l);
-            UNFINISHED
+            Verdict::Unfinished
         }
-        Move::Done => POSSIBLE,
+        Move::Done => Verdict::Possible,
         Move::Split(l) => {
             fork(x, n, goals, work, masks, opens, l);
-            UNFINISHED
+            Verdict::Unfinished
         }
     }
 }
@@ -285,29 +280,26 @@ pub fn run(
     requires indexed { Indexed x.now n }
     requires goals { Goals n goals.now }
     requires stands { Stands (index_node x.now) n goals.now work.old masks.old opens.old }
-    ensures made { Made (index_node x.now) n goals.now work.new masks.new opens.new (times (turn_of (expand (index_node x.now)) goals.now) result.made (running (g_of work.old))) result.verdict }
+    ensures made { Made (index_node x.now) n goals.now work.new masks.new opens.new (times (turn_of (expand (index_node x.now)) goals.now) result.made (running (g_of work.old))) (number_by result.verdict) }
     ensures turned { Turned (turn_of (expand (index_node x.now)) goals.now) (running (g_of work.old)) most result.made }
     ensures ready { Ready n work.new }
 {
     let mut u = moves::pick(work, masks);
-    let mut k = 0;
-    while k < most {
-        k += 1;
+    for k in 0..most {
         if u != NO_UNIT {
             u = solver::join(x, n, goals, work, masks, u);
-        } else {
-            let v = turn(x, n, goals, work, masks, opens);
-            if v != UNFINISHED {
-                return Ran {
-                    verdict: v,
-                    made: k,
-                };
-            }
-            u = moves::pick(work, masks);
+            continue;
+        }
+        match turn(x, n, goals, work, masks, opens) {
+            Verdict::Unfinished => u = moves::pick(work, masks),
+            over => return Ran {
+                verdict: over,
+                made: k + 1,
+            },
         }
     }
     Ran {
-        verdict: UNFINISHED,
-        made: k,
+        verdict: Verdict::Unfinished,
+        made: most,
     }
 }

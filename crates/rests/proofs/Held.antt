@@ -58,7 +58,11 @@ sets_blank = record { size = length-replicate {A = ℕ} sets_size 0; none = rest
 
 -- as many words as are asked for, each 0
 pub slots_zero : (n k : ℕ) → 2 * n + 4 ≤ k → Slots n (replicate k 0)
-slots_zero n k b = record { size = omega (arith, length-replicate {A = ℕ} k 0, b); none = rests_zero (replicate k 0) 0 (λ j h. get_or-replicate {A = ℕ} k (2 * 0 + j) 0 0 (omega (arith, b, h))) }
+slots_zero n k b = record {
+  size = omega (arith, length-replicate {A = ℕ} k 0, b);
+  none = rests_zero (replicate k 0) 0
+      (λ j h. get_or-replicate {A = ℕ} k (2 * 0 + j) 0 0 (omega (arith, b, h)));
+}
 
 pub sets_slots : {n : ℕ} {m : List ℕ} → 2 * n + 4 ≤ sets_size → Sets m → Slots n m
 sets_slots b s = record { size = omega (arith, s.size, b); none = s.none }

@@ -17,11 +17,8 @@ pub fn clear(m: &mut [u64], k: usize)
     requires { There m.old k }
     ensures { Cleared m.old k m.new }
 {
-    let end = 2 * k + 2;
-    let mut i = 0;
-    while i < end {
+    for i in 0..2 * k + 2 {
         m[i] = 0;
-        i += 1;
     }
 }
 

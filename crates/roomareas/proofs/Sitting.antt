@@ -1,20 +1,23 @@
 -- The questions' searches in a call: one is changed, and the others stay. Assumes nothing.
-use mathlib.Core.Path.{◌≡◌, refl, ◌∙◌}
+use mathlib.Core.Path.{◌≡◌, refl, ap, ◌∙◌}
+use mathlib.Core.Bool.{Bool, true, false, cond}
 use mathlib.Core.List.{List}
 use Prim.Native.Nat.{ℕ, ◌+◌, ◌*◌, ◌<◌, ◌≤◌}
 use native.Mathlib.Omega.{arith}
 use native.Mathlib.Decide.{ℕ_discrete}
+use lib.Dec.{eqb}
 use lib.ListN.{length, get_or, set, length-set}
-use borrow.Author.Tests.{ne_eqb}
 use lib.Seq.{get_or-set_same, get_or-set_other}
 use Rattle.scope.specs.declared.Node.{Node}
 use Rattle.calculus.specs.Expansion.{expand}
 use Rattle.calculus.specs.Model.{Goals}
 use Rattle.calculus.proofs.Lists.{all_at}
 use Rattle.state.specs.Work.{g_of}
-use Rattle.turns.specs.Turn.{Search, taken_up, resumed}
-use Rattle.replaying.specs.Standing.{search_by, Stands, Made}
-use Rattle.replaying.proofs.Standings.{made_search}
+use Rattle.turns.specs.Turn.{Search, running, found, closed, number_of, taken_up, resumed}
+use Rattle.replaying.specs.declared.Verdict.{Verdict}
+use Rattle.replaying.specs.declared.Verdict.TheVariants.{Unfinished}
+use Rattle.replaying.specs.Standing.{number_by, search_by, Stands, Made}
+use Rattle.replaying.proofs.Standings.{by-two, made_search}
 use Rattle.roomareas.specs.Areas.{area_size, part_of, stored, goal_of, goals_of, search_in}
 use Rattle.roomareas.specs.Changes.{MadeAt, search_at, SitsAt, TakenUp}
 
@@ -24,19 +27,33 @@ goal_below {n} {questions} g {i} h = all_at (λ l. l < 2 * n) questions i 0 g.be
 
 -- ---- one search is taken up
 
-module _ {t : ℕ → Node} {n : ℕ} {goals : List ℕ} (w : List ℕ) {m o : List ℕ} where
-  pub taken_closed : get_or w 0 0 ≡ 0 → Made t n goals w m o (resumed (expand t) goals (stored w)) 0
+module _ {t : ℕ → Node} {n : ℕ} {goals : List ℕ} (w : List ℕ) {m o : List ℕ} {v : Verdict}
+    (e : (G : List ℕ) → number_by v ≡ number_of (search_by (get_or w 0 0) G)) where
+  -- it is over
+  pub taken_over : (v ≡ Unfinished → ⊥) → Made t n goals w m o (resumed (expand t) goals (stored w)) (number_by v)
   unfolding search_by
-  taken_closed e = rw e (record { number = refl; at = tt })
+  taken_over d = by (eqb (get_or w 0 0) 0) (eqb (get_or w 0 0) 1) (e (g_of w))
+    where
+      by : (a b : Bool) → number_by v ≡ number_of (cond a closed (cond b (found (g_of w)) (running (g_of w))))
+          → Made t n goals w m o (resumed (expand t) goals (cond a closed (cond b (found (g_of w)) (running (g_of w))))) (number_by v)
+      by true b z = record { number = z; at = tt }
+      by false true z = record { number = z; at = refl }
+      by false false z = absurd (d (by-two v z))
 
-  pub taken_found : get_or w 0 0 ≡ 1 → Made t n goals w m o (resumed (expand t) goals (stored w)) 1
+  -- it goes on
+  pub taken_running : v ≡ Unfinished → {w' : List ℕ} → Stands t n goals w' m o → g_of w' ≡ taken_up (expand t) goals (g_of w)
+      → Made t n goals w' m o (resumed (expand t) goals (stored w)) (number_by v)
   unfolding search_by
-  taken_found e = rw e (record { number = refl; at = refl })
+  taken_running u {w'} s g = by (eqb (get_or w 0 0) 0) (eqb (get_or w 0 0) 1) (e (g_of w))
+    where
+      two : number_by v ≡ 2
+      two = ap number_by u
 
-  pub taken_running : (get_or w 0 0 ≡ 0 → ⊥) → (get_or w 0 0 ≡ 1 → ⊥) → {w' : List ℕ} → Stands t n goals w' m o → g_of w' ≡ taken_up (expand t) goals (g_of w)
-      → Made t n goals w' m o (resumed (expand t) goals (stored w)) 2
-  unfolding search_by
-  taken_running a b s g = rw (ne_eqb (get_or w 0 0) 0 a, ne_eqb (get_or w 0 0) 1 b) (record { number = refl; at = (s, g) })
+      by : (a b : Bool) → number_by v ≡ number_of (cond a closed (cond b (found (g_of w)) (running (g_of w))))
+          → Made t n goals w' m o (resumed (expand t) goals (cond a closed (cond b (found (g_of w)) (running (g_of w))))) (number_by v)
+      by true b z = absurd (omega (arith, two))
+      by false true z = absurd (omega (arith, two))
+      by false false z = record { number = z; at = (s, g) }
 
 -- ---- one search is changed
 

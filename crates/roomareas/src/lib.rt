@@ -2,16 +2,18 @@
 // specs/Areas.antt.
 #![tactic(auto)]
 
-ghost use Rattle.std.specs.Prelude.{◌≡◌, List, ◌∷◌, [], ℕ, ◌+◌, ◌*◌, ◌≤◌, ◌<◌, length, get_or};
+ghost use Rattle.std.specs.Prelude.{◌≡◌, List, ◌∷◌, [], ℕ, ◌*◌, ◌≤◌, ◌<◌, length, get_or};
 ghost use Rattle.calculus.specs.Expansion.{expand};
 ghost use Rattle.calculus.specs.Model.{Goals};
 ghost use Rattle.index.specs.Index.{index_node};
 ghost use Rattle.index.specs.Indexed.{Indexed};
 ghost use Rattle.units.specs.Units.{words};
 ghost use Rattle.turns.specs.Turn.{number_of, resumed};
-ghost use Rattle.replaying.specs.Standing.{stack_size, search_by, Made};
+ghost use Rattle.replaying.specs.Standing.{stack_size, number_by, search_by, Made};
 ghost use Rattle.roomareas.specs.Areas.{area_size, part_of, stored, next_at};
 ghost use Rattle.roomareas.specs.Changes.{most_questions, Roomy, Lendable, MadeAt, TakenUp, PutDown, Opened, Looked, NextPut};
+
+use replaying::Verdict;
 
 // The numbers of an area, of a set of units and of a stack.
 const AREA: usize = 32768;
@@ -27,22 +29,28 @@ const NEXT: usize = 1;
 
 const COUNT: usize = 4;
 
-// A search that is not over.
-const UNFINISHED: u8 = 2;
-
 // The searches stand at their start, and the first question is next.
 pub fn open(q: usize, work: &mut [u16], verdicts: &mut [u8])
     requires { (0 < q) × (q ≤ most_questions) × (area_size * q ≤ length work.old) × (length verdicts.old ≡ most_questions) }
     ensures { Opened q work.new verdicts.old verdicts.new }
 {
-    let mut i = 0;
-    while i < q {
+    for i in 0..q {
         work[AREA * i + COUNT] = 0;
-        work[AREA * i + VERDICT] = UNFINISHED as u16;
-        verdicts[i] = UNFINISHED;
-        i += 1;
+        work[AREA * i + VERDICT] = Verdict::Unfinished as u16;
+        verdicts[i] = Verdict::Unfinished as u8;
     }
     work[NEXT] = 0;
+}
+
+// What an area's number says that its search has come to.
+fn verdict(v: u16) -> Verdict
+    ensures { (G : List ℕ) → number_by result ≡ number_of (search_by v G) }
+{
+    match v {
+        0 => Verdict::Impossible,
+        1 => Verdict::Possible,
+        _ => Verdict::Unfinished,
+    }
 }
 
 // A search is taken up from its area; what it has come to.
@@ -53,21 +61,17 @@ fn take_up(
     work: &mut [u16],
     masks: &mut [u64],
     opens: &mut [u16],
-) -> u8
+) -> Verdict
     requires indexed { Indexed x.now n }
     requires goals { Goals n goals.now }
     requires work_len { (length work.old ≡ area_size) × (length masks.old ≡ words) × (length opens.old ≡ stack_size) }
-    ensures { Made (index_node x.now) n goals.now work.new masks.new opens.new (resumed (expand (index_node x.now)) goals.now (stored work.old)) result }
+    ensures { Made (index_node x.now) n goals.now work.new masks.new opens.new (resumed (expand (index_node x.now)) goals.now (stored work.old)) (number_by result) }
 {
-    let v = work[VERDICT];
-    if v == 0 {
-        return 0;
+    let v = verdict(work[VERDICT]);
+    if let Verdict::Unfinished = v {
+        replaying::resume(x, n, goals, work, masks, opens);
     }
-    if v == 1 {
-        return 1;
-    }
-    replaying::resume(x, n, goals, work, masks, opens);
-    UNFINISHED
+    v
 }
 
 // So is that of question i, whose goal is given.
@@ -79,11 +83,11 @@ fn take_up_at(
     masks: &mut [u64],
     opens: &mut [u16],
     i: usize,
-) -> u8
+) -> Verdict
     requires indexed { Indexed x.now n }
     requires goal_bound { goal < 2 * n }
     requires lendable { Lendable i work.old masks.old opens.old }
-    ensures { MadeAt (index_node x.now) n (goal ∷ []) i work.old masks.old opens.old work.new masks.new opens.new (resumed (expand (index_node x.now)) (goal ∷ []) (stored (part_of area_size i work.old))) result }
+    ensures { MadeAt (index_node x.now) n (goal ∷ []) i work.old masks.old opens.old work.new masks.new opens.new (resumed (expand (index_node x.now)) (goal ∷ []) (stored (part_of area_size i work.old))) (number_by result) }
 {
     let goals = [goal];
     let a = AREA * i;
@@ -114,24 +118,9 @@ pub fn take_up_all(
     requires roomy { Roomy (length questions.now) work.old masks.old opens.old verdicts.old }
     ensures { TakenUp (index_node x.now) n questions.now work.old verdicts.old work.new masks.new opens.new verdicts.new }
 {
-    let mut i = 0;
-    while i < questions.len() {
-        verdicts[i] = take_up_at(x, n, questions[i], work, masks, opens, i);
-        i += 1;
+    for (i, &goal) in questions.iter().enumerate() {
+        verdicts[i] = take_up_at(x, n, goal, work, masks, opens, i).number();
     }
-}
-
-// What a number of an area says that its search has come to.
-fn verdict(v: u16) -> u8
-    ensures { (G : List ℕ) → result ≡ number_of (search_by v G) }
-{
-    if v == 0 {
-        return 0;
-    }
-    if v == 1 {
-        return 1;
-    }
-    UNFINISHED
 }
 
 // What the searches have come to is read off their areas; none is taken up.
@@ -139,19 +128,9 @@ pub fn look(q: usize, work: &[u16], verdicts: &mut [u8])
     requires { (q ≤ most_questions) × (area_size * q ≤ length work.now) × (length verdicts.old ≡ most_questions) }
     ensures { Looked q work.now verdicts.old verdicts.new }
 {
-    let mut i = 0;
-    while i < q {
-        verdicts[i] = verdict(work[AREA * i + VERDICT]);
-        i += 1;
+    for i in 0..q {
+        verdicts[i] = verdict(work[AREA * i + VERDICT]).number();
     }
-}
-
-// One more, if an area's number says that its search is not over.
-fn counted(c: usize, v: u16) -> usize
-    requires { c < most_questions }
-    ensures { result ≤ c + 1 }
-{
-    if 1 < v { c + 1 } else { c }
 }
 
 // How many searches are not over. It only chooses a way to the same answers, so no more is said than that there are not too many.
@@ -159,13 +138,7 @@ pub fn unfinished(q: usize, work: &[u16]) -> usize
     requires { (q ≤ most_questions) × (area_size * q ≤ length work.now) }
     ensures { result ≤ q }
 {
-    let mut c = 0;
-    let mut i = 0;
-    while i < q {
-        c = counted(c, work[AREA * i + VERDICT]);
-        i += 1;
-    }
-    c
+    (0..q).filter(|&i| 1 < work[AREA * i + VERDICT]).count()
 }
 
 // Whose turn is next.
@@ -189,10 +162,8 @@ pub fn put_down(q: usize, work: &mut [u16], verdicts: &[u8], next: u16)
     requires { (0 < q) × (q ≤ most_questions) × (area_size * q ≤ length work.old) × (length verdicts.now ≡ most_questions) }
     ensures { PutDown q next work.old verdicts.now work.new }
 {
-    let mut i = 0;
-    while i < q {
+    for i in 0..q {
         work[AREA * i + VERDICT] = verdicts[i] as u16;
-        i += 1;
     }
     work[NEXT] = next;
 }

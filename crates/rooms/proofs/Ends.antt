@@ -29,8 +29,7 @@ use Rattle.turns.proofs.Rounds.{turns_made_lem, turns_spent, turns_most, waits-f
 use Rattle.roomareas.specs.Areas.{goal_of, goals_of, round_of}
 use Rattle.roomareas.specs.Changes.{most_questions, Opened}
 use Rattle.roomareas.proofs.Sitting.{goal_below}
-use Rattle.rooms.specs.declared.Turned.{Turned}
-use Rattle.rooms.specs.Rooms.{admitted, eight, open_rooms, round_after, turns_after, turn_rooms}
+use Rattle.rooms.specs.Rooms.{Turned, admitted, eight, open_rooms, round_after, turns_after, turn_rooms}
 use Rattle.rooms.specs.Calls.{Went, Reported, OpensRooms, TurnsRooms}
 use Rattle.rooms.proofs.Goes.{went_same, reported_same}
 use Rattle.rooms.proofs.Rows.{admitted-few}
@@ -56,9 +55,6 @@ none = 0 ∷ 0 ∷ 0 ∷ 0 ∷ 0 ∷ 0 ∷ 0 ∷ 0 ∷ []
 pub none-zero : (i : ℕ) → get_or none i 0 ≡ 0
 none-zero i = zeros-at 8 i
 
-none-eight : none ≡ eight 0 (λ i. 0)
-none-eight = eight_is 0 (λ i. 0) none refl (λ i h. absurd (omega arith)) (λ i h. none-zero i)
-
 -- an answer's values
 abbrev pub turned : ℕ → ℕ → ℕ → List ℕ → List ℕ → Turned
 turned number place count turns verdicts = record { number = number; place = place; count = count; turns = turns; verdicts = verdicts }
@@ -73,22 +69,19 @@ module _ (t questions s w : List ℕ) where
   -- ---- the first call
 
   module _ (f : Refusal) (e : admitted t questions (length s) (length w) ≡ refused f.number f.place) where
-    refused-turned : (m : ℕ) → turned f.number f.place 0 none none ≡ turned f.number f.place 0 (eight 0 (λ i. 0)) (eight 0 (λ i. 0))
-    refused-turned m = ap (λ (l : List ℕ). turned f.number f.place 0 l l) none-eight
-
-    pub open-refused : OpensRooms t questions s w w (turned f.number f.place 0 none none)
+    pub open-refused : OpensRooms t questions s w w (turned f.number f.place 0 (eight 0 (λ i. 0)) (eight 0 (λ i. 0)))
     unfolding open_rooms
     open-refused = record {
-      answered = rw e (refused-turned 0);
+      answered = rw e;
       refuses = λ n p z. refl;
       searches = λ rs z. refused_no (sym e ∙ z);
       next = λ rs z. refused_no (sym e ∙ z);
     }
 
-    pub turn-refused : (m : ℕ) → TurnsRooms t questions s w m s w (turned f.number f.place 0 none none)
+    pub turn-refused : (m : ℕ) → TurnsRooms t questions s w m s w (turned f.number f.place 0 (eight 0 (λ i. 0)) (eight 0 (λ i. 0)))
     unfolding turn_rooms
     turn-refused m = record {
-      answered = rw e (refused-turned m);
+      answered = rw e;
       refuses = λ n p z. (refl, refl);
       went = λ rs z. refused_no (sym e ∙ z);
       made = λ rs z. refused_no (sym e ∙ z);

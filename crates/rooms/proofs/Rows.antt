@@ -9,13 +9,12 @@ use native.Mathlib.Decide.{dec_le}
 use lib.Dec.{leb, ltb}
 use lib.ListN.{length}
 use borrow.Author.Tests.{lt-ltb, le-leb, lt-leb, ltb-true, leb-true}
+use Rattle.std.specs.Prelude.{Result, Err}
 use Rattle.scope.specs.declared.Node.{Node}
 use Rattle.scope.specs.declared.Refusal.{Refusal}
 use Rattle.scope.specs.Outcome.{Outcome, answer, refused, ◌>>◌, ◌>>=◌}
 use Rattle.scope.specs.Table.{decode}
 use Rattle.scope.proofs.Tests.{refused_no, and_left, and_right, required, then_first}
-use Rattle.table.specs.declared.Counted.{Counted}
-use Rattle.table.specs.declared.Counted.TheVariants.{Refused}
 use Rattle.table.specs.Counted.{counted_of}
 use Rattle.calculus.specs.Decide.{list_row, rows_test, asked_by, asked}
 use Rattle.calculus.specs.Model.{Below}
@@ -39,7 +38,7 @@ share q area h = on (dec_le (area_size * q) area)
         few (no k) = lt-leb area_size (area / q) (omega arith)
 
 module _ (t questions : List ℕ) (points area : ℕ) where
-  refuses_by : (x : List ℕ) (f : Refusal) → admitted t questions points area ≡ refused f.number f.place → AsksRooms t questions points area x (Refused f)
+  refuses_by : (x : List ℕ) (f : Refusal) → admitted t questions points area ≡ refused f.number f.place → AsksRooms t questions points area x (Err f)
   refuses_by x f e = record {
     answered = rw e;
     fit = λ n z. absurd (let y : ◌≡◌ {A = ℕ} 0 1 = cc in omega arith);
@@ -48,7 +47,7 @@ module _ (t questions : List ℕ) (points area : ℕ) where
 
   -- 69
   pub none-asked : (x : List ℕ) (f : Refusal) → f.number ≡ 69 → f.place ≡ 0 → (ltb 0 (length questions) && leb (length questions) most_questions) ≡ false
-      → AsksRooms t questions points area x (Refused f)
+      → AsksRooms t questions points area x (Err f)
   unfolding admitted
   none-asked x f a b e = refuses_by x f (rw (e, a, b))
 
@@ -74,7 +73,7 @@ module _ (t questions : List ℕ) (points area : ℕ) where
         go (answer rs) = rw (test-same (length rs))
         go (refused number place) = refl
 
-    pub rooms-asked : {x : List ℕ} {r : Counted} → Asks (list_row questions) t questions (points_size * length questions) points (area / length questions) x r
+    pub rooms-asked : {x : List ℕ} {r : Result ℕ Refusal} → Asks (list_row questions) t questions (points_size * length questions) points (area / length questions) x r
         → AsksRooms t questions points area x r
     rooms-asked a = record {
       answered = a.answered ∙ ap (◌>>= λ rs. answer (length rs)) (sym admitted-asked);
@@ -101,7 +100,7 @@ module _ (t questions : List ℕ) (points area : ℕ) where
         (a.0, a.1.below)
 
   -- what the calls take from it: a refusal is that of the definition
-  pub rooms_refused : {x : List ℕ} (r : Counted) {f : Refusal} → AsksRooms t questions points area x r → r ≡ Refused f
+  pub rooms_refused : {x : List ℕ} (r : Result ℕ Refusal) {f : Refusal} → AsksRooms t questions points area x r → r ≡ Err f
       → admitted t questions points area ≡ refused f.number f.place
   rooms_refused r {f} a q = go (admitted t questions points area) (sym a.answered ∙ ap counted_of q)
     where

@@ -1,19 +1,17 @@
 -- What the two calls promise. Assumes nothing.
-use Rattle.std.specs.Prelude.{◌≡◌, true, List, [], ℕ, ◌*◌, ◌<◌, ◌≤◌, length, get_or, drop}
+use Rattle.std.specs.Prelude.{◌≡◌, true, List, [], ℕ, ◌*◌, ◌<◌, ◌≤◌, length, get_or, drop, Result, Ok}
 use Rattle.scope.specs.declared.Node.{Node}
+use Rattle.scope.specs.declared.Refusal.{Refusal}
 use Rattle.scope.specs.Outcome.{answer, refused, ◌>>=◌}
 use Rattle.calculus.specs.Expansion.{expand}
 use Rattle.calculus.specs.Decide.{nodes_of, list_row}
-use Rattle.table.specs.declared.Counted.{Counted}
-use Rattle.table.specs.declared.Counted.TheVariants.{Nodes}
 use Rattle.table.specs.Counted.{counted_of}
 use Rattle.asking.specs.Asks.{Prepared}
 use Rattle.turns.specs.Turn.{running, number_of, turn, times}
 use Rattle.turns.specs.Round.{runs, remaining, total, turn_for, spend, turns_for, written}
 use Rattle.roomareas.specs.Areas.{area_size, points_size, part_of, next_at, goal_of, goals_of, search_in, round_by, round_of}
 use Rattle.roomareas.specs.Changes.{most_questions}
-use Rattle.rooms.specs.declared.Turned.{Turned}
-use Rattle.rooms.specs.Rooms.{admitted, open_rooms, turn_rooms, turned_of}
+use Rattle.rooms.specs.Rooms.{Turned, admitted, open_rooms, turn_rooms, turned_of}
 
 -- questions that may be put: not too many, and room for each
 pub record Fit (questions : List ℕ) (points area : ℕ) : Type 0 where
@@ -23,10 +21,10 @@ pub record Fit (questions : List ℕ) (points area : ℕ) : Type 0 where
   pub work : area_size * length questions ≤ area
 
 -- the rows are asked
-pub record AsksRooms (t questions : List ℕ) (points area : ℕ) (x : List ℕ) (r : Counted) : Type 0 where
+pub record AsksRooms (t questions : List ℕ) (points area : ℕ) (x : List ℕ) (r : Result ℕ Refusal) : Type 0 where
   pub answered : counted_of r ≡ (admitted t questions points area >>= λ rs. answer (length rs))
-  pub fit : (n : ℕ) → r ≡ Nodes n → Fit questions points area
-  pub prepared : (n : ℕ) → r ≡ Nodes n
+  pub fit : (n : ℕ) → r ≡ Ok n → Fit questions points area
+  pub prepared : (n : ℕ) → r ≡ Ok n
       → (needed lent room : ℕ) × (p : Prepared (list_row questions) t questions needed lent room x n) × (admitted t questions points area ≡ answer p.nodes)
 
 -- the areas hold each question's search, m turns later: 'one turn of the plain order further for each turn reported'; over the clauses e of

@@ -2,8 +2,7 @@
 use Rattle.std.specs.Prelude.{◌≡◌, List, [], ◌∷◌, ℕ, ◌+◌, length, get_or}
 use Rattle.scope.specs.declared.Node.{Node}
 use Rattle.scope.specs.Outcome.{answer}
-use Rattle.rooms.specs.declared.Turned.{Turned}
-use Rattle.rooms.specs.Rooms.{admitted}
+use Rattle.rooms.specs.Rooms.{Turned, admitted}
 use Rattle.rooms.specs.Calls.{OpensRooms, TurnsRooms}
 
 -- later calls of these allowances, the last one first, from the settings s₀ and the areas w₀ on; each is given the settings and the areas as

@@ -1,7 +1,8 @@
 -- 02, 'Rooms under one allowance': the rows, and what the calls answer. Assumes nothing.
-use Rattle.std.specs.Prelude.{cond, ◌&&◌, List, ℕ, ◌*◌, ltb, leb, length}
+use Rattle.std.specs.Prelude.{cond, ◌&&◌, List, ℕ, ◌*◌, ltb, leb, length, Result}
 use Rattle.scope.specs.declared.Node.{Node}
-use Rattle.scope.specs.Outcome.{Outcome, answer, refused, require, first, ◌>>◌, ◌>>=◌}
+use Rattle.scope.specs.declared.Refusal.{Refusal}
+use Rattle.scope.specs.Outcome.{Outcome, outcome_by, answer, refused, require, first, ◌>>◌, ◌>>=◌}
 use Rattle.scope.specs.Table.{list_from, decode}
 use Rattle.calculus.specs.Expansion.{expand}
 use Rattle.calculus.specs.Decide.{nodes_of, goal_row}
@@ -9,7 +10,7 @@ use Rattle.turns.specs.Turn.{Search, number_of}
 use Rattle.turns.specs.Round.{Round, opening, turn_for, spend, turns_for}
 use Rattle.roomareas.specs.Areas.{area_size, points_size, goal_of, round_of}
 use Rattle.roomareas.specs.Changes.{most_questions}
-use Rattle.rooms.specs.declared.Turned.{Turned}
+use Rattle.rooms.specs.declared.Told.{Told}
 
 -- 69: 'no questions or over 8'
 abbrev pub questions_row : List ℕ → Outcome (Unit {0})
@@ -26,9 +27,14 @@ rooms_test nodes questions points area =
 unfoldable pub admitted : List ℕ → List ℕ → ℕ → ℕ → Outcome (List Node)
 admitted t questions points area = questions_row questions >> (decode t >>= λ rs. rooms_test (length rs) questions points area >> answer rs)
 
--- what a call answers of its questions: how many they are, and for each the turns made in this call and its verdict, 0 impossible, 1
--- possible, 2 unfinished
-pub record Told : Type 0 where
+-- what a call answers: of its questions, or a refusal's number and place
+abbrev pub told_of : Result Told Refusal → Outcome Told
+told_of = outcome_by (λ d. d)
+
+-- so it is as one record: number 0 and the values, or a refusal's number and place and every value 0
+pub record Turned : Type 0 where
+  pub number : ℕ
+  pub place : ℕ
   pub count : ℕ
   pub turns : List ℕ
   pub verdicts : List ℕ

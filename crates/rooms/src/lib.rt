@@ -12,16 +12,15 @@ ghost use Rattle.units.specs.Units.{words};
 ghost use Rattle.replaying.specs.Standing.{stack_size};
 ghost use Rattle.roomareas.specs.Changes.{most_questions};
 ghost use Rattle.rounds.specs.Spent.{Pointed};
+ghost use Rattle.rooms.specs.Rooms.{turned_of, told_of};
 ghost use Rattle.rooms.specs.Calls.{Fit, AsksRooms, Went, Reported, OpensRooms, TurnsRooms};
 
 use scope::Refusal;
-use table::Counted;
 
-// What a call answers: number 0 and the values, or a refusal's number and place and every value 0.
+// What a call answers of its questions: how many they are, and for each the turns made in this call and its verdict, 0 impossible, 1
+// possible, 2 unfinished; and 0 for those that are not.
 #[derive(Clone, Copy)]
-pub struct Turned {
-    pub number: u16,
-    pub place: usize,
+pub struct Told {
     pub count: usize,
     pub turns: [usize; 8],
     pub verdicts: [u8; 8],
@@ -35,13 +34,19 @@ fn few(count: usize) -> bool
 }
 
 // The node count of a table to which each question may be put, and the index of its nodes; or the first row's refusal. x is zeros.
-fn ask(t: &[u8], questions: &[u16], points: usize, area: usize, x: &mut [u16]) -> Counted
+fn ask(
+    t: &[u8],
+    questions: &[u16],
+    points: usize,
+    area: usize,
+    x: &mut [u16],
+) -> Result<usize, Refusal>
     requires { Zeros x.old }
     ensures { AsksRooms t.now questions.now points area x.new result }
 {
     let q = questions.len();
     if !few(q) {
-        return Counted::Refused(Refusal {
+        return Err(Refusal {
             number: 69,
             place: 0,
         });
@@ -50,32 +55,19 @@ fn ask(t: &[u8], questions: &[u16], points: usize, area: usize, x: &mut [u16]) -
 }
 
 // The first call: each search stands at its start.
-pub fn open(t: &[u8], questions: &[u16], settings: &[u8], work: &mut [u16]) -> Turned
-    ensures { OpensRooms t.now questions.now settings.now work.old work.new result }
+pub fn open(t: &[u8], questions: &[u16], settings: &[u8], work: &mut [u16]) -> Result<Told, Refusal>
+    ensures { OpensRooms t.now questions.now settings.now work.old work.new (turned_of (told_of result)) }
 {
     let mut x = [0u16; 22626];
-    let turns = [0usize; 8];
+    ask(t, questions, settings.len(), work.len(), &mut x)?;
+    let count = questions.len();
     let mut verdicts = [0u8; 8];
-    let a = ask(t, questions, settings.len(), work.len(), &mut x);
-    match a {
-        Counted::Refused(r) => Turned {
-            number: r.number,
-            place: r.place,
-            count: 0,
-            turns,
-            verdicts,
-        },
-        Counted::Nodes(_) => {
-            roomareas::open(questions.len(), work, &mut verdicts);
-            Turned {
-                number: 0,
-                place: 0,
-                count: questions.len(),
-                turns,
-                verdicts,
-            }
-        }
-    }
+    roomareas::open(count, work, &mut verdicts);
+    Ok(Told {
+        count,
+        turns: [0; 8],
+        verdicts,
+    })
 }
 
 // The searches are taken up, an allowance of turns is spent on them, and they are put down.
@@ -120,8 +112,8 @@ fn spend_in(
     roomareas::put_down(questions.len(), work, verdicts, next as u16);
 }
 
-// So they are, with a set of units and a stack for each of eight.
-fn spend_all(
+// So they are, with M numbers for their sets of units and S for their stacks.
+fn spend_over<const M: usize, const S: usize>(
     x: &[u16],
     n: usize,
     questions: &[u16],
@@ -135,43 +127,16 @@ fn spend_all(
     requires pointed { Pointed x.now n }
     requires goals { Goals n questions.now }
     requires fit { Fit questions.now (length settings.old) (length work.old) }
+    requires questions_in_bounds { (words * length questions.now ≤ M) × (stack_size * length questions.now ≤ S) }
+    requires sizes { (M ≤ 264) × (S ≤ 16136) }
     requires turns_len { (length turns.old ≡ most_questions) × (length verdicts.old ≡ most_questions) }
     requires by_index { (i : ℕ) → get_or turns.old i 0 ≡ 0 }
     requires by_index_2 { (i : ℕ) → get_or verdicts.old i 0 ≡ 0 }
     ensures went { Went (expand (index_node x.now)) (list_from (index_node x.now) 0 n) questions.now settings.old work.old allowance settings.new work.new }
     ensures reported { Reported (expand (index_node x.now)) questions.now work.old allowance turns.new verdicts.new }
 {
-    let mut masks = [0u64; 264];
-    let mut opens = [0u16; 16136];
-    spend_in(
-        x, n, questions, settings, work, &mut masks, &mut opens, allowance, turns, verdicts,
-    );
-}
-
-// So is one search.
-fn spend_one(
-    x: &[u16],
-    n: usize,
-    questions: &[u16],
-    settings: &mut [u8],
-    work: &mut [u16],
-    allowance: usize,
-    turns: &mut [usize],
-    verdicts: &mut [u8],
-)
-    requires indexed { Indexed x.now n }
-    requires pointed { Pointed x.now n }
-    requires goals { Goals n questions.now }
-    requires fit { Fit questions.now (length settings.old) (length work.old) }
-    requires questions_len { length questions.now ≡ 1 }
-    requires turns_len { (length turns.old ≡ most_questions) × (length verdicts.old ≡ most_questions) }
-    requires by_index { (i : ℕ) → get_or turns.old i 0 ≡ 0 }
-    requires by_index_2 { (i : ℕ) → get_or verdicts.old i 0 ≡ 0 }
-    ensures went { Went (expand (index_node x.now)) (list_from (index_node x.now) 0 n) questions.now settings.old work.old allowance settings.new work.new }
-    ensures reported { Reported (expand (index_node x.now)) questions.now work.old allowance turns.new verdicts.new }
-{
-    let mut masks = [0u64; 33];
-    let mut opens = [0u16; 2017];
+    let mut masks = [0u64; M];
+    let mut opens = [0u16; S];
     spend_in(
         x, n, questions, settings, work, &mut masks, &mut opens, allowance, turns, verdicts,
     );
@@ -236,11 +201,11 @@ fn spend(
     ensures reported { Reported (expand (index_node x.now)) questions.now work.old allowance turns.new verdicts.new }
 {
     if questions.len() == 1 {
-        spend_one(x, n, questions, settings, work, allowance, turns, verdicts);
+        spend_over::<33, 2017>(x, n, questions, settings, work, allowance, turns, verdicts);
         return;
     }
     if roomareas::unfinished(questions.len(), work) < allowance {
-        spend_all(x, n, questions, settings, work, allowance, turns, verdicts);
+        spend_over::<264, 16136>(x, n, questions, settings, work, allowance, turns, verdicts);
     } else {
         spend_few(x, n, questions, settings, work, allowance, turns, verdicts);
     }
@@ -253,39 +218,26 @@ pub fn turn(
     settings: &mut [u8],
     work: &mut [u16],
     allowance: usize,
-) -> Turned
-    ensures { TurnsRooms t.now questions.now settings.old work.old allowance settings.new work.new result }
+) -> Result<Told, Refusal>
+    ensures { TurnsRooms t.now questions.now settings.old work.old allowance settings.new work.new (turned_of (told_of result)) }
 {
     let mut x = [0u16; 22626];
+    let n = ask(t, questions, settings.len(), work.len(), &mut x)?;
     let mut turns = [0usize; 8];
     let mut verdicts = [0u8; 8];
-    let a = ask(t, questions, settings.len(), work.len(), &mut x);
-    match a {
-        Counted::Refused(r) => Turned {
-            number: r.number,
-            place: r.place,
-            count: 0,
-            turns,
-            verdicts,
-        },
-        Counted::Nodes(n) => {
-            spend(
-                &x,
-                n,
-                questions,
-                settings,
-                work,
-                allowance,
-                &mut turns,
-                &mut verdicts,
-            );
-            Turned {
-                number: 0,
-                place: 0,
-                count: questions.len(),
-                turns,
-                verdicts,
-            }
-        }
-    }
+    spend(
+        &x,
+        n,
+        questions,
+        settings,
+        work,
+        allowance,
+        &mut turns,
+        &mut verdicts,
+    );
+    Ok(Told {
+        count: questions.len(),
+        turns,
+        verdicts,
+    })
 }

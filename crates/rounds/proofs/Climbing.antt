@@ -8,9 +8,11 @@ use native.Mathlib.Numerals.{add-one}
 use native.Mathlib.Omega.{arith}
 use native.Mathlib.Decide.{ℕ_discrete}
 use lib.Dec.{eqb, ltb}
-use lib.ListN.{length, get_or, set}
+use lib.ListN.{length, get_or, set, take}
 use lib.Seq.{get_or-set_same, get_or-set_other}
 use borrow.Author.Tests.{eq-eqb, ne_eqb}
+use Rattle.std.specs.Prelude.{◌==◌, count_by}
+use Rattle.std.proofs.lemmas.List.Sums.{count_by_more_no, count_by_more_yes}
 use Rattle.scope.specs.declared.Node.{Node}
 use Rattle.scope.specs.Table.{list_from}
 use Rattle.calculus.specs.Count.{one, tally}
@@ -71,18 +73,15 @@ share_few a c d =
 
 -- counting the questions that run
 
-pub tally_starts : (p : ℕ → Bool) → 0 ≡ tally p 0
+pub tally_counts : (v : List ℕ) (q : ℕ) → q ≤ length v → count_by (λ x. x == 2) (take q v) ≡ tally (runs_by v) q
 unfolding tally
-tally_starts p = refl
-
-pub tally_goes : (v : List ℕ) (i : ℕ) {c r : ℕ} → r ≡ one (eqb (get_or v i 0) 2) + c → c ≡ tally (runs_by v) i → r ≡ tally (runs_by v) (i + 1)
-unfolding tally
-tally_goes v i a b = rw (add-one i) (omega (arith, a, b))
-
-pub tally-few : (p : ℕ → Bool) (i : ℕ) → tally p i ≤ i
-unfolding tally
-tally-few p zero = omega arith
-tally-few p (suc i) = omega (arith, one_most (p i), tally-few p i)
+tally_counts v zero h = refl
+tally_counts v (suc q) h = on (eqb (get_or v q 0) 2) refl (tally_counts v q (omega arith))
+  where
+    on : (b : Bool) → eqb (get_or v q 0) 2 ≡ b → count_by (λ x. x == 2) (take q v) ≡ tally (runs_by v) q
+        → count_by (λ x. x == 2) (take (suc q) v) ≡ one (eqb (get_or v q 0) 2) + tally (runs_by v) q
+    on true e r = rw (e, ← add-one q) (omega (arith, count_by_more_yes (λ x. x == 2) v q 0 (omega arith) e, r))
+    on false e r = rw (e, ← add-one q) (omega (arith, count_by_more_no (λ x. x == 2) v q 0 (omega arith) e, r))
 
 -- ---- who had the last turn
 

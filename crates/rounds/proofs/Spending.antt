@@ -10,6 +10,7 @@ use lib.Dec.{eqb}
 use lib.ListN.{length, get_or, set, length-set}
 use lib.Seq.{get_or-set_same, get_or-set_other}
 use borrow.Author.Tests.{eq-eqb, ne_eqb, eqb-true, lt-ltb, le-ltb}
+use Rattle.std.specs.Prelude.{Option, Some, None}
 use Rattle.scope.specs.declared.Node.{Node}
 use Rattle.scope.specs.Table.{list_from}
 use Rattle.calculus.specs.Count.{one}
@@ -27,19 +28,19 @@ use Rattle.replaying.proofs.Standings.{made_stands}
 use Rattle.roomareas.specs.Areas.{area_size, points_size, part_of, stored, goal_of, goals_of, search_in}
 use Rattle.roomareas.specs.Changes.{Beside, search_at, SitsAt, Sits}
 use Rattle.roomareas.proofs.Sitting.{search_here, sits_here, search-other, sits-other}
-use Rattle.rounds.specs.Spent.{runs_by, turns_at, Served, next_in, SteppedAt, round_in, round_after, turns_after, Spent}
+use Rattle.rounds.specs.Spent.{runs_by, turns_at, Served, next_in, SteppedAt, round_in, round_after, turns_after, Spent, Sought}
 
 -- who is up, by two looks
-module _ (p : ℕ → Bool) (q next : ℕ) {i : ℕ} (e : i ≡ seek p next (q - next)) where
-  pub up_early : i < q → i ≡ up_next p q next
+module _ (p : ℕ → Bool) (q next : ℕ) where
+  pub sought_early : {i : ℕ} → Sought (seek p next (q - next)) q (Some i) → Sought (up_next p q next) q (Some i)
   unfolding up_next
-  up_early h = rw (← e, lt-ltb i q h)
+  sought_early {i} s = (rw (← s.0, lt-ltb i q s.1) refl, s.1)
 
-  pub up_late : q ≤ i → {j : ℕ} → j ≡ seek p 0 (q - 0) → j ≡ up_next p q next
+  pub sought_late : Sought (seek p next (q - next)) q None → (o : Option ℕ) → Sought (seek p 0 (q - 0)) q o → Sought (up_next p q next) q o
   unfolding up_next
-  up_late h d =
+  sought_late s o d =
       let z : q - 0 ≡ q = omega arith in
-      rw (← e, le-ltb i q h) (rw z at d)
+      rw (le-ltb (seek p next (q - next)) q s) (rw z at d)
 
 -- where a search stays, its setting bytes do
 pub idle : (rs : List Node) (x : Search) (p : List ℕ) → p ≡ written rs x x p

@@ -1,5 +1,5 @@
 -- What the functions of this crate make of the questions' searches in a call, turn by turn. Assumes nothing.
-use Rattle.std.specs.Prelude.{◌≡◌, Bool, true, List, ◌++◌, ℕ, ◌+◌, ◌-◌, ◌<◌, ◌≤◌, eqb, ltb, length, get_or, drop}
+use Rattle.std.specs.Prelude.{◌≡◌, Bool, true, List, ◌++◌, Option, Some, None, ℕ, ◌+◌, ◌-◌, ◌<◌, ◌≤◌, eqb, ltb, length, get_or, drop}
 use Rattle.scope.specs.declared.Node.{Node}
 use Rattle.scope.specs.Table.{list_from}
 use Rattle.calculus.specs.Count.{one}
@@ -17,6 +17,11 @@ use Rattle.roomareas.specs.Changes.{Beside, MadeAt}
 -- question j is unfinished, by the verdicts
 abbrev pub runs_by : List ℕ → ℕ → Bool
 runs_by v j = eqb (get_or v j 0) 2
+
+-- the first of some numbers below q that passes was sought: a number that is not below q says that none does
+abbrev pub Sought : ℕ → ℕ → Option ℕ → Type 0
+Sought r q None = q ≤ r
+Sought r q (Some i) = (i ≡ r) × (i < q)
 
 -- each ATOM of the index has a point
 abbrev pub Pointed : List ℕ → ℕ → Type 0

@@ -2,7 +2,7 @@
 // all full laps in a row, and only what is then left of the allowance goes round turn by turn.
 #![tactic(auto)]
 
-ghost use Rattle.std.specs.Prelude.{◌≡◌, ◌∷◌, [], ℕ, ◌+◌, ◌-◌, ◌*◌, ◌≤◌, ◌<◌, eqb, ltb, length, get_or};
+ghost use Rattle.std.specs.Prelude.{◌≡◌, ◌∷◌, [], ℕ, ◌+◌, ◌-◌, ◌*◌, ◌≤◌, ◌<◌, ltb, length, get_or};
 ghost use Rattle.calculus.specs.Count.{one, tally};
 ghost use Rattle.calculus.specs.Expansion.{expand};
 ghost use Rattle.calculus.specs.Model.{Goals};
@@ -12,12 +12,12 @@ ghost use Rattle.units.specs.Units.{words};
 ghost use Rattle.state.specs.Work.{g_of, Ready};
 ghost use Rattle.turns.specs.Turn.{running, number_of, turn, times};
 ghost use Rattle.turns.specs.Round.{seek as seek_from, up_next};
-ghost use Rattle.replaying.specs.Standing.{stack_size, Stands, Turned};
+ghost use Rattle.replaying.specs.Standing.{stack_size, number_by, Stands, Turned};
 ghost use Rattle.roomareas.specs.Areas.{area_size, points_size, part_of, goals_of, search_in};
 ghost use Rattle.roomareas.specs.Changes.{most_questions, Roomy, Lendable, MadeAt, search_at, Sits};
-ghost use Rattle.rounds.specs.Spent.{runs_by, Pointed, MarkedAt, Served, Climbs, laps_by, LastOf, VerdictPut, Stepped, SteppedAt, Spent};
+ghost use Rattle.rounds.specs.Spent.{runs_by, Sought, Pointed, MarkedAt, Served, Climbs, laps_by, LastOf, VerdictPut, Stepped, SteppedAt, Spent};
 
-use replaying::Ran;
+use replaying::{Ran, Verdict};
 
 // The numbers of an area, of a set of units and of a stack, and the setting bytes of a question.
 const AREA: usize = 32768;
@@ -31,34 +31,29 @@ const POINTS: usize = 1024;
 // In an area, what its search has come to.
 const VERDICT: usize = 0;
 
-// What a search has come to.
-const POSSIBLE: u8 = 1;
-
-const UNFINISHED: u8 = 2;
+// The byte of a search that is not over.
+const UNFINISHED: u8 = Verdict::Unfinished as u8;
 
 // The first unfinished question from one on, up to another.
-fn seek(verdicts: &[u8], from: usize, to: usize) -> usize
+fn seek(verdicts: &[u8], from: usize, to: usize) -> Option<usize>
     requires { to ≤ length verdicts.now }
-    ensures { result ≡ seek_from (runs_by verdicts.now) from (to - from) }
+    ensures { Sought (seek_from (runs_by verdicts.now) from (to - from)) to result }
 {
-    let mut i = from;
-    while i < to {
+    for i in from..to {
         if verdicts[i] == UNFINISHED {
-            return i;
+            return Some(i);
         }
-        i += 1;
     }
-    i
+    None
 }
 
-// The question that is up next; q where all are finished.
-fn up_next(verdicts: &[u8], q: usize, next: usize) -> usize
+// The question that is up next, if any is unfinished.
+fn up_next(verdicts: &[u8], q: usize, next: usize) -> Option<usize>
     requires { q ≤ length verdicts.now }
-    ensures { result ≡ up_next (runs_by verdicts.now) q next }
+    ensures { Sought (up_next (runs_by verdicts.now) q next) q result }
 {
-    let i = seek(verdicts, next, q);
-    if i < q {
-        return i;
+    if let Some(i) = seek(verdicts, next, q) {
+        return Some(i);
     }
     seek(verdicts, 0, q)
 }
@@ -78,7 +73,7 @@ fn run_at(
     requires goal_bound { goal < 2 * n }
     requires lendable { Lendable i work.old masks.old opens.old }
     requires stands { Stands (index_node x.now) n (goal ∷ []) (part_of area_size i work.old) (part_of words i masks.old) (part_of stack_size i opens.old) }
-    ensures made_at { MadeAt (index_node x.now) n (goal ∷ []) i work.old masks.old opens.old work.new masks.new opens.new (times (turn (expand (index_node x.now)) (goal ∷ [])) result.made (running (g_of (part_of area_size i work.old)))) result.verdict }
+    ensures made_at { MadeAt (index_node x.now) n (goal ∷ []) i work.old masks.old opens.old work.new masks.new opens.new (times (turn (expand (index_node x.now)) (goal ∷ [])) result.made (running (g_of (part_of area_size i work.old)))) (number_by result.verdict) }
     ensures turned { Turned (turn (expand (index_node x.now)) (goal ∷ [])) (running (g_of (part_of area_size i work.old))) most result.made }
     ensures ready { Ready n (part_of area_size i work.new) }
 {
@@ -128,14 +123,13 @@ fn serve(
     requires i_in_bounds { (i < length questions.now) × (points_size * (i + 1) ≤ length settings.old) }
     requires lendable { Lendable i work.old masks.old opens.old }
     requires stands { Stands (index_node x.now) n (goals_of questions.now i) (part_of area_size i work.old) (part_of words i masks.old) (part_of stack_size i opens.old) }
-    ensures { Served (index_node x.now) n questions.now i most result.made settings.old work.old masks.old opens.old settings.new work.new masks.new opens.new result.verdict }
+    ensures { Served (index_node x.now) n questions.now i most result.made settings.old work.old masks.old opens.old settings.new work.new masks.new opens.new (number_by result.verdict) }
 {
-    let v = run_at(x, n, questions[i], work, masks, opens, i, most);
-    if v.verdict == POSSIBLE {
+    let ran = run_at(x, n, questions[i], work, masks, opens, i, most);
+    if let Verdict::Possible = ran.verdict {
         mark(x, n, work, settings, i);
-        return v;
     }
-    v
+    ran
 }
 
 // One where question i stands before the first one up: its turn of the first lap was made before this call.
@@ -145,26 +139,12 @@ fn ahead(i: usize, first: usize) -> usize
     if i < first { 1 } else { 0 }
 }
 
-// One more, if a verdict says that its search is not over.
-fn counted(c: usize, v: u8) -> usize
-    requires { c < most_questions }
-    ensures { result ≡ one (eqb v 2) + c }
-{
-    if v == UNFINISHED { c + 1 } else { c }
-}
-
 // How many of q questions are unfinished.
 fn unfinished(verdicts: &[u8], q: usize) -> usize
     requires { (q ≤ most_questions) × (length verdicts.now ≡ most_questions) }
     ensures { result ≡ tally (runs_by verdicts.now) q }
 {
-    let mut c = 0;
-    let mut i = 0;
-    while i < q {
-        c = counted(c, verdicts[i]);
-        i += 1;
-    }
-    c
+    verdicts[..q].iter().filter(|v| **v == UNFINISHED).count()
 }
 
 // How many full laps of the unfinished questions an allowance has. It only chooses a way to the same answers, so no more is said than that
@@ -206,20 +186,18 @@ fn climb(
 {
     let laps = laps_in(verdicts, questions.len(), allowance);
     let mut spent = 0;
-    let mut i = 0;
     if laps == 0 {
         return 0;
     }
-    while i < questions.len() {
-        let w = i;
-        i += 1;
-        if verdicts[w] == UNFINISHED {
-            let most = laps - ahead(w, first);
-            let v = serve(x, n, questions, settings, work, masks, opens, w, most);
-            verdicts[w] = v.verdict;
-            turns[w] = v.made;
-            spent += v.made;
+    for i in 0..questions.len() {
+        if verdicts[i] != UNFINISHED {
+            continue;
         }
+        let most = laps - ahead(i, first);
+        let ran = serve(x, n, questions, settings, work, masks, opens, i, most);
+        verdicts[i] = ran.verdict.number();
+        turns[i] = ran.made;
+        spent += ran.made;
     }
     spent
 }
@@ -232,17 +210,14 @@ fn after(turns: &[usize], q: usize, first: usize, k: usize) -> usize
 {
     let mut next = 0;
     let mut most = 0;
-    let mut i = 0;
     if k == 0 {
         return first;
     }
-    while i < q {
-        let w = i;
-        i += 1;
+    for w in 0..q {
         let made = turns[w] + ahead(w, first);
         if most <= made {
             most = made;
-            next = i;
+            next = w + 1;
         }
     }
     next
@@ -272,20 +247,18 @@ pub fn spend(
     ensures spent { Spent (index_node x.now) n questions.now settings.old verdicts.old (search_at work.old verdicts.old) first allowance settings.new verdicts.new turns.new (search_at work.new verdicts.new) result }
     ensures sits_2 { Sits (index_node x.now) n questions.now work.new masks.new opens.new verdicts.new }
 {
-    let mut k = climb(
+    let spent = climb(
         x, n, questions, settings, work, masks, opens, verdicts, turns, first, allowance,
     );
-    let mut next = after(turns, questions.len(), first, k);
-    while k < allowance {
-        let i = up_next(verdicts, questions.len(), next);
-        if questions.len() <= i {
+    let mut next = after(turns, questions.len(), first, spent);
+    for k in spent..allowance {
+        let Some(i) = up_next(verdicts, questions.len(), next) else {
             return next;
-        }
-        let v = serve(x, n, questions, settings, work, masks, opens, i, 1);
-        verdicts[i] = v.verdict;
+        };
+        let ran = serve(x, n, questions, settings, work, masks, opens, i, 1);
+        verdicts[i] = ran.verdict.number();
         turns[i] += 1;
         next = i + 1;
-        k += 1;
     }
     next
 }
@@ -372,16 +345,13 @@ pub fn spend_few(
     ensures { Spent (index_node x.now) n questions.now settings.old verdicts.old (search_in (expand (index_node x.now)) questions.now work.old) first allowance settings.new verdicts.new turns.new (search_in (expand (index_node x.now)) questions.now work.new) result }
 {
     let mut next = first;
-    let mut spent = 0;
-    while spent < allowance {
-        let w = up_next(verdicts, questions.len(), next);
-        if questions.len() <= w {
+    for spent in 0..allowance {
+        let Some(w) = up_next(verdicts, questions.len(), next) else {
             return next;
-        }
+        };
         verdicts[w] = step_at(x, n, questions[w], settings, work, w);
         turns[w] += 1;
         next = w + 1;
-        spent += 1;
     }
     next
 }

@@ -2,7 +2,7 @@
 #![tactic(auto)]
 
 // The version of a derivation's steps.
-#[derive(Clone, Copy)]
+#[derive(Clone, Copy, PartialEq, Eq)]
 pub enum Version {
     One,
     Two,

@@ -1,9 +1,13 @@
--- Laws of the tests' Bools and of one outcome after another. Assumes nothing.
+-- Laws of the tests' Bools, of one outcome after another, and of what `?` returns. Assumes nothing.
 use mathlib.Core.Path.{◌≡◌, sym, refl}
 use mathlib.Core.Bool.{Bool, true, false, ◌&&◌, ◌||◌, false≢true}
 use Prim.Native.Nat.{ℕ}
 use native.Mathlib.Omega.{arith}
-use Rattle.scope.specs.Outcome.{Outcome, answer, refused, fine, require, ◌>>◌, ◌>>=◌}
+use Rattle.std.specs.Prelude.{Result}
+use Rattle.std.specs.Result.{IsErrAnd}
+use Rattle.std.proofs.lemmas.Result.{err_from_is_err_and}
+use Rattle.scope.specs.declared.Refusal.{Refusal}
+use Rattle.scope.specs.Outcome.{Outcome, answer, refused, fine, outcome_by, require, ◌>>◌, ◌>>=◌}
 
 -- a proof by the two cases of a test
 pub by_test : {P : Type 0} (t : Bool) → (t ≡ true → P) → (t ≡ false → P) → P
@@ -60,3 +64,9 @@ pub passed_on : {A B C : Type 0} (x : Outcome A) (count : A → B) (next : A →
     → (x >>= λ a. answer (count a)) ≡ refused number place → (x >>= next) ≡ refused number place
 passed_on (answer a) count next e = refused_no (sym e)
 passed_on (refused number place) count next e = cc
+
+-- what a `?` hands on is the refusal that it met
+pub handed_on : {A B : Type 0} (f : A → B) (r : Result A Refusal) {e : Refusal} → IsErrAnd r (λ x. x ≡ e) → outcome_by f r ≡ refused e.number e.place
+handed_on f r h =
+    let p = err_from_is_err_and r h in
+    rw (p.1, p.2)

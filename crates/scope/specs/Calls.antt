@@ -1,5 +1,5 @@
 -- 01, 'Where each call says no': the calls on tables, each a chain of rows in table order. Assumes nothing.
-use Rattle.std.specs.Prelude.{List, [], ◌∷◌, ◌++◌, cond, ℕ, suc, ◌+◌, ◌*◌, ◌/◌, eqb, leb, ltb, length, get_or, take, drop}
+use Rattle.std.specs.Prelude.{List, [], ◌∷◌, ◌++◌, cond, ℕ, suc, ◌*◌, ◌/◌, eqb, leb, ltb, length, get_or, take, drop}
 use Rattle.scope.specs.declared.Node.{Node}
 use Rattle.scope.specs.declared.Truth.{Truth}
 use Rattle.scope.specs.Outcome.{Outcome, answer, refused, require, first, ◌>>◌, ◌>>=◌}

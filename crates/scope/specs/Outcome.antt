@@ -1,7 +1,6 @@
 -- 01, 'Where each call says no': what a call answers. Assumes nothing.
-use Rattle.std.specs.Prelude.{Bool, true, false, ℕ, zero, suc}
-use Rattle.scope.specs.declared.Verdict.{Verdict}
-use Rattle.scope.specs.declared.Verdict.TheVariants.{Fine, Refused}
+use Rattle.std.specs.Prelude.{Bool, true, false, ℕ, zero, suc, Result, Ok, Err}
+use Rattle.scope.specs.declared.Refusal.{Refusal}
 
 -- 'A refusal is a number and a place'
 pub data Outcome (A : Type 0) : Type 0 where
@@ -32,7 +31,11 @@ unfoldable pub first : (ℕ → Outcome (Unit {0})) → ℕ → ℕ → Outcome 
 first f i zero = fine
 first f i (suc n) = f i >> first f (suc i) n
 
--- the number and the values of every case of a `Verdict`
-abbrev pub verdict_of : Verdict → Outcome (Unit {0})
-verdict_of Fine = fine
-verdict_of (Refused r) = refused r.number r.place
+-- the number and the values of every case of an answer: what an `Ok` holds goes by f
+abbrev pub outcome_by : {A B : Type 0} → (A → B) → Result A Refusal → Outcome B
+outcome_by f (Ok a) = answer (f a)
+outcome_by f (Err r) = refused r.number r.place
+
+-- an answer that says no more than that nothing is refused
+abbrev pub verdict_of : Result (Unit {0}) Refusal → Outcome (Unit {0})
+verdict_of = outcome_by (λ u. u)

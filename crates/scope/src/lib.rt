@@ -8,13 +8,6 @@ pub struct Refusal {
     pub place: usize,
 }
 
-// What a test answers: fine, or the first refusal.
-#[derive(Clone, Copy)]
-pub enum Verdict {
-    Fine,
-    Refused(Refusal),
-}
-
 // What tables and derivations each say of their blocks: the letter, the width of a record in bytes, how many records a full
 // block has, and the number of the first of a block's three refusals.
 #[derive(Clone, Copy)]

@@ -17,7 +17,6 @@ ghost use Rattle.searching.specs.Search.{Solved};
 ghost use Rattle.searching.specs.Jumps.{blank, Aimed, Concluded, Begun, LeftOff, Propagated, with_left, Jumps, found_by, Counted, Opened};
 
 use calculus::Move;
-use moves::Choice;
 
 // Where goals and units end: at a conflict or a false goal, at a model, or at a split on a literal.
 #[derive(Clone, Copy)]
@@ -82,8 +81,8 @@ fn conclude(x: &[u16], n: usize, goals: &[u16], work: &mut [u16], masks: &[u64])
 {
     let choice = moves::split_choice(x, n, goals, work, masks);
     match choice {
-        Choice::Done => Stop::Model,
-        Choice::Split(l) => Stop::Fork(l),
+        None => Stop::Model,
+        Some(l) => Stop::Fork(l),
     }
 }
 
@@ -128,12 +127,10 @@ fn join_goals(x: &[u16], n: usize, goals: &[u16], work: &mut [u16], masks: &mut 
     requires holds { Holds (index_node x.now) n goals.now work.old masks.old × (g_of work.old ≡ []) }
     ensures { Begun (index_node x.now) n goals.now work.new masks.new result }
 {
-    let mut k = 0;
-    while k < goals.len() {
+    for k in 0..goals.len() {
         if !solver::join_goal(x, n, goals, work, masks, k) {
             return false;
         }
-        k += 1;
     }
     true
 }

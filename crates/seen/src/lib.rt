@@ -19,39 +19,30 @@ pub enum Seen {
 fn weight(v: u16) -> u32
     ensures { (result ≡ weight_by v) × (result ≤ 65536) }
 {
-    if v == 0 {
-        return 1;
+    match v {
+        0 => 1,
+        1 => 65536,
+        _ => 0,
     }
-    if v == 1 {
-        return 65536;
-    }
-    0
 }
 
 // The first undecided literal, with l in front of the others.
 fn nearer(weight: u32, l: u16, first: u16) -> u16
     ensures { result ≡ cond (eqb weight 1) l first }
 {
-    if weight == 1 {
-        return l;
-    }
-    first
+    if weight == 1 { l } else { first }
 }
 
 // What a clause is, by the sum of its literals and the first undecided one.
 fn state_of(sum: u32, first: u16) -> Seen
     ensures { seen_of result ≡ state_by sum first }
 {
-    if 65536 <= sum {
-        return Seen::Met;
+    match sum {
+        0 => Seen::Empty,
+        1 => Seen::One(first),
+        65536.. => Seen::Met,
+        _ => Seen::Many(first),
     }
-    if sum == 0 {
-        return Seen::Empty;
-    }
-    if sum == 1 {
-        return Seen::One(first);
-    }
-    Seen::Many(first)
 }
 
 // What clause k is.
@@ -61,11 +52,10 @@ pub fn clause_state(work: &[u16], n: usize, k: usize) -> Seen
     ensures { seen_of result ≡ state_in work.now k }
 {
     let start = area::base(work, k);
-    let mut s = area::base(work, k + 1);
+    let end = area::base(work, k + 1);
     let mut sum: u32 = 0;
     let mut first: u16 = 0;
-    while start < s {
-        s -= 1;
+    for s in (start..end).rev() {
         let l = area::literal_in(work, s);
         let w = weight(area::value(work, n, l));
         sum += w;

@@ -1,9 +1,9 @@
 -- The goals join, one after another; which of them wait is not looked at meanwhile. Assumes nothing.
 use mathlib.Core.Path.{◌≡◌, refl, sym, ap, ◌∙◌, subst}
-use mathlib.Core.Logic.{◌⊎◌, inl, inr, ⊎_elim}
+use mathlib.Core.Logic.{inl, inr, ⊎_elim}
 use mathlib.Core.Bool.{Bool, true, false, false≢true}
 use mathlib.Core.List.{List, [], ◌∷◌}
-use Prim.Native.Nat.{ℕ, zero, suc, ◌+◌, ◌-◌, ◌<◌, ◌≤◌}
+use Prim.Native.Nat.{ℕ, zero, suc, ◌+◌, ◌<◌, ◌≤◌}
 use native.Mathlib.Omega.{arith}
 use native.Mathlib.Decide.{dec_lt}
 use lib.ListN.{length, get_or, set, replicate, length-map, length-set, length-replicate, get_or-replicate}
@@ -163,9 +163,6 @@ module _ (t : ℕ → Node) (goals w : List ℕ) where
 
 -- ---- what `join_goal` leaves
 
-true-false : true ≡ false → ⊥
-true-false e = false≢true (sym e)
-
 -- one cell is changed
 noted : {n : ℕ} {w : List ℕ} → n ≤ most_nodes → Ready n w → (v : ℕ) → Ready n (set w 2 v)
 noted {w = w} few h v =
@@ -173,15 +170,6 @@ noted {w = w} few h v =
     (λ i b. get_or-set_other w 2 (trail_at + (values_at + i)) v 0 (λ e. omega (arith, e)))
 
 module _ {t : ℕ → Node} {n : ℕ} {goals w m : List ℕ} (l : ℕ) (S : Stands t n goals w m) where
-  -- the goal was true
-  pub enlisted_true : most_nodes ≤ conflict_of w → value_of (g_of w) l ≡ holds → Enlisted t n goals l w w m true
-  enlisted_true free v = record {
-    ready = S.holds_them.ready;
-    on = λ _. (S, free);
-    list = λ _. inl (v, refl);
-    shut = λ e. absurd (true-false e);
-  }
-
   -- it is false
   pub enlisted_false : n ≤ most_nodes → (v : ℕ) {w' m' : List ℕ} → w' ≡ set w 2 v → value_of (g_of w) l ≡ fails → Enlisted t n goals l w w' m' false
   enlisted_false few v e y = record {
@@ -192,15 +180,6 @@ module _ {t : ℕ → Node} {n : ℕ} {goals w m : List ℕ} (l : ℕ) (S : Stan
   }
 
 module _ {t : ℕ → Node} {n : ℕ} {goals w w₁ m₁ : List ℕ} (l : ℕ) (v : value_of (g_of w) l ≡ undecided) (S : Stands t n goals w₁ m₁) (g : g_of w₁ ≡ l ∷ g_of w) where
-  -- it has joined
-  pub enlisted_joined : most_nodes ≤ conflict_of w₁ → Enlisted t n goals l w w₁ m₁ true
-  enlisted_joined free = record {
-    ready = S.holds_them.ready;
-    on = λ _. (S, free);
-    list = λ _. inr (v, g);
-    shut = λ e. absurd (true-false e);
-  }
-
   -- and closes
   pub enlisted_shut : n ≤ most_nodes → (c : ℕ) {w' m' : List ℕ} → w' ≡ set w₁ 2 c → conflict_of w₁ < most_nodes → Enlisted t n goals l w w' m' false
   enlisted_shut few c e b = record {

@@ -6,7 +6,7 @@ use mathlib.Core.List.{List}
 use Prim.Native.Nat.{ℕ, ◌+◌, ◌-◌, ◌*◌, ◌/◌, ◌%◌, ◌<◌, ◌≤◌}
 use native.Mathlib.Omega.{arith}
 use native.Mathlib.Decide.{ℕ_discrete}
-use lib.ListN.{length, get_or, set, length-set}
+use lib.ListN.{length, get_or, length-set}
 use lib.Seq.{get_or-set_same, get_or-set_other}
 use Rattle.scope.specs.declared.Node.{Node}
 use Rattle.scope.specs.Table.{operands}
@@ -20,7 +20,7 @@ use Rattle.calculus.proofs.Moves.{bit-true, bit-false}
 use Rattle.index.specs.Index.{most_nodes}
 use Rattle.units.specs.Units.{member, Units}
 use Rattle.clause.specs.Coded.{states_of, Coded}
-use Rattle.state.specs.Work.{tail, lit_at, entry_of, code_at, g_of, conflict_of, Ready, trail_at, literals_at, values_at, codes_at, area}
+use Rattle.state.specs.Work.{tail, lit_at, entry_of, code_at, g_of, conflict_of, Ready, trail_at, literals_at, values_at, codes_at}
 use Rattle.state.specs.Holds.{states_at, Forces, Entered, Late, Closed}
 use Rattle.state.proofs.Areas.{count_most, held_still, ready_same}
 use Rattle.solver.specs.Changes.{Beside, Lowered, Flagged, Renewed, Visited}
@@ -69,20 +69,6 @@ pub closed_still : (t : ℕ → Node) (G G' : List ℕ) (r r' : ℕ → ℕ) (c 
 closed_still t G G' r r' c n z o i = let (a, b) = o i in (omega (arith, a, n), ap (some is_empty) (z c a) ∙ b)
 
 -- ---- what `conflict` and `unit` do
-
-pub lowered_here : {w : List ℕ} {q : ℕ} → area ≤ length w → q < conflict_of w → Lowered w q (set w 1 q)
-lowered_here {w} {q} size k =
-    let e : get_or (set w 1 q) 1 0 ≡ q = get_or-set_same w 1 q 0 (omega (arith, size)) in
-    record {
-      size = length-set w 1 q;
-      other = λ i d. get_or-set_other w 1 i q 0 d;
-      lower = omega (arith, e, k);
-      least = omega (arith, e);
-      from = inr e;
-    }
-
-pub lowered_before : {w : List ℕ} {q : ℕ} → conflict_of w ≤ q → Lowered w q w
-lowered_before k = record { size = refl; other = λ i d. refl; lower = omega arith; least = k; from = inl refl }
 
 -- ---- a position is entered, by what the states of its clauses are
 
@@ -239,10 +225,6 @@ module _ {n : ℕ} {w : List ℕ} {p : ℕ} (h : Ready n w) (b : p < n) where
   -- the position of a literal of the node, by its entry
   only : (q : ℕ) → q < r₀ 0 → lit_at r₀ q / 2 ≡ p → entry_of r₀ p ≡ 2 * q + lit_at r₀ q % 2 + 1
   only q i e = sym (ap (entry_of r₀) e) ∙ h.trail.place q i
-
-  -- no literal of it is held
-  pub visited_none : {t : ℕ → Node} {m : List ℕ} {e : ℕ} → Units m → e ≡ entry_of r₀ p → e ≡ 0 → Visited t n w m p w m
-  visited_none u k z = visited_same u (λ q i e. absurd (omega (arith, only q i e, k, z)))
 
   module _ {e : ℕ} (entry : e ≡ entry_of r₀ p) (some-e : e ≡ 0 → ⊥) where
     abbrev at : ℕ

@@ -6,19 +6,14 @@ use mathlib.Core.Logic.{inl, inr}
 use mathlib.Core.List.{List}
 use Prim.Native.Nat.{ℕ, ◌+◌, ◌-◌, ◌*◌, ◌<◌, ◌≤◌}
 use native.Mathlib.Omega.{arith}
-use native.Mathlib.Decide.{ℕ_discrete}
 use lib.ListN.{length, get_or, set, length-set}
-use borrow.Author.Count.{below_more}
 use lib.Seq.{get_or-set_same, get_or-set_other}
 use Rattle.scope.specs.declared.Node.{Node}
 use Rattle.calculus.specs.Expansion.{neg}
-use Rattle.trail.proofs.Codes.{code_holds}
 use Rattle.calculus.specs.Order.{holds, value_of, is_empty, is_one, some}
-use Rattle.calculus.specs.Model.{Goals}
-use Rattle.calculus.proofs.Lists.{all_at}
 use Rattle.units.specs.Units.{Units, Empty}
 use Rattle.trail.proofs.Trails.{trail-length}
-use Rattle.state.specs.Work.{tail, lit_at, base_of, cursor_at, g_of, trail, value_code, cursor_of, waiting_of, held, Ready, Numbered}
+use Rattle.state.specs.Work.{tail, lit_at, base_of, cursor_at, g_of, trail, cursor_of, waiting_of, held, Ready, Numbered}
 use Rattle.state.specs.Work.{trail_at, literals_at, bases_at, values_at, cursors_at, area}
 use Rattle.state.specs.Holds.{Holds, AllMet, Waiting, states_at, denied_at, NoneDenied}
 use Rattle.state.specs.Changes.{Popped}
@@ -27,24 +22,8 @@ use Rattle.solver.specs.Changes.{Served, Apart, Awaited, Settled, Left}
 
 -- ---- whether a goal waits
 
-pub waiting_on : {goals G : List ℕ} (k v : ℕ) → k < length goals → ((i : ℕ) → i < k → value_of G (get_or goals i 0) ≡ holds)
-    → v ≡ value_code (value_of G (get_or goals k 0)) → (v ≡ 1 → ⊥) → Waiting goals G (length goals - k)
-waiting_on k v i f e d = record {
-  few = omega arith;
-  over = λ j b. f j (omega (arith, b, i));
-  on = λ z. (k, i, λ y. d (e ∙ ap value_code y));
-}
-
 pub waiting_over : {goals G : List ℕ} {k : ℕ} → length goals ≤ k → ((i : ℕ) → i < k → value_of G (get_or goals i 0) ≡ holds) → Waiting goals G 0
 waiting_over d f = record { few = omega arith; over = λ i b. f i (omega (arith, b, d)); on = λ z. absurd (z refl) }
-
--- one goal more is true
-pub true_more : (goals G : List ℕ) {k v : ℕ} → ((i : ℕ) → i < k → value_of G (get_or goals i 0) ≡ holds) → v ≡ value_code (value_of G (get_or goals k 0)) → v ≡ 1
-    → (i : ℕ) → i < k + 1 → value_of G (get_or goals i 0) ≡ holds
-true_more goals G f e z = below_more _ _ f (code_holds _ (sym e ∙ z))
-
-pub goal_low : {n k : ℕ} {goals : List ℕ} → Goals n goals → k < length goals → get_or goals k 0 < 2 * n
-goal_low {n} {k} {goals} g i = all_at (λ l. l < 2 * n) goals k 0 g.below i
 
 -- ---- the cells are set
 
@@ -168,32 +147,9 @@ module _ {goals w : List ℕ} {l v : ℕ} (b : area ≤ length w) (a : Waiting g
     other = λ i d e. get_or-set_other w 2 i v 0 d;
   }
 
-  -- it may be one of them
-  pub awaited_denied : Awaited goals l w (set (set w 2 v) denied_at 1)
-  awaited_denied =
-      let size : denied_at < length (set w 2 v) = simp length-set (omega (arith, b)) in
-      record {
-        size = length-set (set w 2 v) denied_at 1 ∙ length-set w 2 v;
-        waiting = rw (get_or-set_other (set w 2 v) denied_at 2 1 0 (λ y. omega (arith, y)), get_or-set_same w 2 v 0 (omega arith)) a;
-        denied = λ e. absurd (omega (arith, e, get_or-set_same (set w 2 v) denied_at 1 0 size));
-        other = λ i d e. get_or-set_other (set w 2 v) denied_at i 1 0 e ∙ get_or-set_other w 2 i v 0 d;
-      }
-
 -- ---- whether a literal's negation is among the goals
 
 -- of the first j goals
 pub record Denying (goals : List ℕ) (l : ℕ) (found : Bool) (j : ℕ) : Type 0 where
   pub turns : j ≤ length goals
   pub apart : found ≡ false → (k : ℕ) → k < j → get_or goals k 0 ≡ neg l → ⊥
-
-module _ {goals : List ℕ} {l j : ℕ} {found : Bool} (d : Denying goals l found j) where
-  pub denying_more : {other : ℕ} {r : Bool} → j < length goals → other ≡ neg l → (r ≡ false → (found ≡ false) × (get_or goals j 0 ≡ other → ⊥))
-      → Denying goals l r (j + 1)
-  denying_more {r = r} h e f = record { turns = omega arith; apart = λ z k i. go z k i (ℕ_discrete k j) }
-    where
-      go : r ≡ false → (k : ℕ) → k < j + 1 → Dec (k ≡ j) → get_or goals k 0 ≡ neg l → ⊥
-      go z k i (yes y) q = (f z).1 (ap (λ (i : ℕ). get_or goals i 0) (sym y) ∙ q ∙ sym e)
-      go z k i (no y) q = d.apart (f z).0 k (omega arith) q
-
-  pub denying_all : length goals ≤ j → found ≡ false → Apart goals l
-  denying_all h e k i q = d.apart e k (omega arith) q

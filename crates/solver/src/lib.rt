@@ -247,12 +247,10 @@ fn touch_threes(
     ensures onward { Onward work.old masks.old best work.new masks.new result }
 {
     let end = x[END + node] as usize;
-    let mut k = first;
     let mut b = best;
-    while k < end {
+    for k in first..end {
         let p = clause::parent_of_three(x, n, node, k);
         b = visit(x, n, work, masks, p, b);
-        k += 1;
     }
     b
 }
@@ -288,12 +286,11 @@ fn waits(n: usize, goals: &[u16], work: &[u16]) -> u16
     requires served { Served goals.now work.now }
     ensures { Waiting goals.now (g_of work.now) result }
 {
-    let mut k = goals.len() - work[WAITING] as usize;
-    while k < goals.len() {
+    let start = goals.len() - work[WAITING] as usize;
+    for k in start..goals.len() {
         if state::value(n, work, goals[k]) != 1 {
             return (goals.len() - k) as u16;
         }
-        k += 1;
     }
     0
 }
@@ -315,10 +312,8 @@ fn denies(goals: &[u16], l: u16) -> bool
 {
     let other = clause::negated(l);
     let mut found = false;
-    let mut j = 0;
-    while j < goals.len() {
-        found = hit(found, goals[j], other);
-        j += 1;
+    for g in goals {
+        found = hit(found, *g, other);
     }
     found
 }

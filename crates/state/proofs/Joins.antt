@@ -1,11 +1,10 @@
 -- A literal joins what is held, and the newest leaves. Assumes nothing.
 use Rattle.index.specs.Index.{most_nodes}
-use mathlib.Core.Path.{◌≡◌, refl, sym, ap, ◌∙◌, subst}
+use mathlib.Core.Path.{◌≡◌, sym, ap, ◌∙◌, subst}
 use mathlib.Core.Logic.{inl, inr}
 use mathlib.Core.List.{List, ◌∷◌}
 use Prim.Native.Nat.{ℕ, ◌+◌, ◌-◌, ◌/◌, ◌<◌, ◌≤◌}
 use native.Mathlib.Omega.{arith}
-use native.Mathlib.Decide.{ℕ_discrete}
 use lib.ListN.{length, get_or, set, length-set}
 use lib.Seq.{get_or-set_same, get_or-set_other}
 use Rattle.calculus.specs.Expansion.{neg}
@@ -182,20 +181,6 @@ module _ {n : ℕ} {w : List ℕ} {l : ℕ} (few : n ≤ most_nodes) (h : Ready 
 -- the cell of the first base
 abbrev first_base : ℕ
 first_base = trail_at + bases_at
-
-pub wiped_starts : (w : List ℕ) (from : ℕ) → Wiped w from 0 w
-wiped_starts w from = record { size = refl; zero = λ i a b. absurd (omega (arith, a, b)); kept = λ i d. refl }
-
-pub wiped_goes : {w w₁ : List ℕ} {from k : ℕ} → Wiped w from k w₁ → from + k < length w₁ → Wiped w from (k + 1) (set w₁ (from + k) 0)
-wiped_goes {w} {w₁} {from} {k} z b = record {
-  size = length-set w₁ (from + k) 0 ∙ z.size;
-  zero = λ i a c. go i a c (ℕ_discrete i (from + k));
-  kept = λ i d. get_or-set_other w₁ (from + k) i 0 0 (λ e. d (omega (arith, e)) (omega (arith, e))) ∙ z.kept i (λ a c. d a (omega (arith, c)));
-}
-  where
-    go : (i : ℕ) → from ≤ i → i < from + (k + 1) → Dec (i ≡ from + k) → get_or (set w₁ (from + k) 0) i 0 ≡ 0
-    go i a c (yes e) = rw e (get_or-set_same w₁ (from + k) 0 0 b)
-    go i a c (no e) = get_or-set_other w₁ (from + k) i 0 0 e ∙ z.zero i a (omega (arith, c, e))
 
 module _ {n : ℕ} {w w₁ w₂ : List ℕ} (more : ℕ) (few : n ≤ most_nodes) (size : area ≤ length w) (y : Wiped w (trail_at + entries_at) n w₁)
     (z : Wiped w₁ (trail_at + values_at) values_size w₂) where

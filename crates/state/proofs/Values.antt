@@ -1,11 +1,11 @@
 -- The values of literals: as a literal joins, as it leaves, and where none is held. Assumes nothing.
 use mathlib.Core.Path.{◌≡◌, refl, ap, ◌∙◌}
 use mathlib.Core.List.{List, [], ◌∷◌}
-use Prim.Native.Nat.{ℕ, ◌+◌, ◌*◌, ◌/◌, ◌%◌, ◌<◌, ◌≤◌}
+use Prim.Native.Nat.{ℕ, ◌+◌, ◌<◌, ◌≤◌}
 use native.Mathlib.Omega.{arith}
 use native.Mathlib.Decide.{ℕ_discrete}
 use lib.ListN.{length, get_or, set, length-set}
-use lib.Seq.{get_or-set_same, get_or-set_other, set_comm}
+use lib.Seq.{get_or-set_same, get_or-set_other}
 use Rattle.calculus.specs.Expansion.{neg}
 use Rattle.calculus.specs.Order.{mem, undecided, value_of}
 use Rattle.calculus.proofs.Literals.{value_joined, value_negated, value_other, undecided_neg}
@@ -66,18 +66,3 @@ module _ (w : List ℕ) (l v u : ℕ) (b : l < values_size) (size : trail_at + c
 
   pub set-length : length (values_set w l v u) ≡ length w
   set-length = simp length-set
-
--- where both are the same, it does not matter which comes first
-pub set-either : (w : List ℕ) (l v : ℕ)
-    → set (set w (trail_at + (values_at + 2 * (l / 2))) v) (trail_at + (values_at + (2 * (l / 2) + 1))) v ≡ values_set w l v v
-set-either w l v = go (ℕ_discrete (l % 2) 0)
-  where
-    go : Dec (l % 2 ≡ 0) → set (set w (trail_at + (values_at + 2 * (l / 2))) v) (trail_at + (values_at + (2 * (l / 2) + 1))) v ≡ values_set w l v v
-    go (yes e) =
-        let a : 2 * (l / 2) ≡ l = omega (arith, e) in
-        let b : 2 * (l / 2) + 1 ≡ neg l = omega (arith, e) in
-        rw (b, a)
-    go (no e) =
-        let a : 2 * (l / 2) ≡ neg l = omega (arith, e) in
-        let b : 2 * (l / 2) + 1 ≡ l = omega (arith, e) in
-        rw (b, a) (set_comm w (trail_at + (values_at + neg l)) (trail_at + (values_at + l)) v v (λ i. omega (arith, i)))

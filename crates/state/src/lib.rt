@@ -186,11 +186,7 @@ fn wipe(work: &mut [u16], from: usize, many: usize)
     requires { from + many ≤ length work.old }
     ensures { Wiped work.old from many work.new }
 {
-    let mut i = 0;
-    while i < many {
-        work[from + i] = 0;
-        i += 1;
-    }
+    work[from..from + many].fill(0);
 }
 
 // Nothing is held; so many clauses stand before those of the first literal. No entry is read but those of the n nodes.

@@ -30,13 +30,15 @@ module _ (d e : List ℕ) where
   unfolding step_of record_at
   same_step at q = rw (same 0 (lit< tt), same 1 (lit< tt), same 2 (lit< tt), same 3 (lit< tt))
     where
-      same : (i : ℕ) → i < 4 → get_or (take 4 (drop (512 * (at / 126) + (4 + 4 * (at % 126))) d)) i 0 ≡ get_or (take 4 (drop (512 * (at / 126) + (4 + 4 * (at % 126))) e)) i 0
+      same : (i : ℕ) → i < 4 → get_or (take 4 (drop (512 * (at / 126) + (4 + 4 * (at % 126))) d)) i 0
+          ≡ get_or (take 4 (drop (512 * (at / 126) + (4 + 4 * (at % 126))) e)) i 0
       same i h =
           byte_in d (at / 126) (4 + 4 * (at % 126)) i h (omega arith) ∙ ap (λ (b : List ℕ). get_or b (4 + 4 * (at % 126) + i) 0) q
           ∙ sym (byte_in e (at / 126) (4 + 4 * (at % 126)) i h (omega arith))
 
 -- bytes of the same length and version whose block of the index is the same
-module _ (d e : List ℕ) (at : ℕ) (size : length d ≡ length e) (first : get_or d 0 0 ≡ get_or e 0 0) (block : block_at d (block_of d at) ≡ block_at e (block_of d at)) where
+module _ (d e : List ℕ) (at : ℕ) (size : length d ≡ length e) (first : get_or d 0 0 ≡ get_or e 0 0)
+    (block : block_at d (block_of d at) ≡ block_at e (block_of d at)) where
   same_version : version_of d ≡ version_of e
   unfolding version_of
   same_version = rw first

@@ -1,5 +1,5 @@
 -- A reader hands out the steps of a derivation that reads, one after another, and then says that none is left (`hands_out`, `none_left`,
--- `reads_all`); of a derivation that is refused it says the refusal (`next_refused`). Assumes nothing.
+-- `reads_all`). Assumes nothing.
 use mathlib.Core.Path.{◌≡◌, ◌∙◌, ap, sym}
 use mathlib.Core.List.{List}
 use mathlib.Core.Bool.{true, false}
@@ -27,10 +27,6 @@ module _ (d : List ℕ) (at : ℕ) where
   past_count h = simp (le-ltb at (records_in derivations d) h)
 
   module _ (h : at < records_in derivations d) where
-    pub ill-formed : {number : ℕ} → step_row d at ≡ refused number at → counted_step d at ≡ refused number at
-    unfolding counted_step
-    ill-formed e = rw (lt-ltb at (records_in derivations d) h, e)
-
     pub well-formed : step_row d at ≡ fine → counted_step d at ≡ answer (one (step_at d at))
     unfolding counted_step
     well-formed e = rw (lt-ltb at (records_in derivations d) h, e)
@@ -60,11 +56,8 @@ module _ (d : List ℕ) (at : ℕ) where
           omega (arith, steps_most d some (rw last at block), ltb-false (at / 126) (length d / 512 - 1) q))
 
   -- with what opening met
-  pub next_fine : {form : Outcome (Unit {0})} → form ≡ fine → next_of d at form ≡ step_handed d at
+  next_fine : {form : Outcome (Unit {0})} → form ≡ fine → next_of d at form ≡ step_handed d at
   next_fine e = rw e
-
-  pub next_refused : {number place : ℕ} {form : Outcome (Unit {0})} → form ≡ refused number place → next_of d at form ≡ refused number place
-  next_refused e = rw e
 
 -- a derivation that reads: its steps, and then none
 module _ (d : List ℕ) (ss : List Step) (e : decode_steps d ≡ answer ss) where

@@ -1,24 +1,25 @@
 -- 01, 'Derivations': 'A reader over the derivation's bytes hands out one step at a time. Opening it meets rows 40 to 44; after the
 -- last step it says that none is left.' And row 65, 'with 44 and after it'. Assumes nothing.
-use Rattle.std.specs.Prelude.{List, [], ◌∷◌, cond, ℕ, zero, suc, ◌+◌, ◌-◌, ◌/◌, min, ltb, length}
-use Rattle.scope.specs.Outcome.{Outcome, answer, refused, require, ◌>>◌}
+use Rattle.std.specs.Prelude.{List, [], ◌∷◌, cond, ℕ, zero, suc, ◌+◌, ◌-◌, ◌/◌, min, ltb, length, Option, Some, None, Result}
+use Rattle.scope.specs.declared.Refusal.{Refusal}
+use Rattle.scope.specs.Outcome.{Outcome, answer, refused, outcome_by, require, ◌>>◌}
 use Rattle.scope.specs.Block.{records_in}
 use Rattle.rules.specs.declared.Step.{Step}
 use Rattle.rules.specs.Steps.{derivations, step_at, size_ok}
 use Rattle.steps.specs.Opened.{block_row, step_row}
-use Rattle.step_reader.specs.declared.Handed.{Handed}
-use Rattle.step_reader.specs.declared.Handed.TheVariants.{Step as Found, Done, Refused}
 
 -- a step, or that none is left
 pub data Next : Type 0 where
   one : Step → Next
   none : Next
 
--- the number and the values of every case of a `Handed`
-abbrev pub handed_of : Handed → Outcome Next
-handed_of (Found s) = answer (one s)
-handed_of Done = answer none
-handed_of (Refused f) = refused f.number f.place
+abbrev pub next_in : Option Step → Next
+next_in (Some s) = one s
+next_in None = none
+
+-- the number and the values of every case of what is handed out
+abbrev pub handed_of : Result (Option Step) Refusal → Outcome Next
+handed_of = outcome_by next_in
 
 -- below the count that the blocks state: 44 and 65 of the step, then the step. At or past the count none is left
 unfoldable pub counted_step : List ℕ → ℕ → Outcome Next

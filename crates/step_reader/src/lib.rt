@@ -10,21 +10,13 @@ ghost use Rattle.steps.specs.Opened.{place_of};
 ghost use Rattle.step_reader.specs.Handed.{handed_of, counted_step, step_handed, next_of, after_of};
 
 use rules::Step;
-use scope::{Refusal, Verdict};
+use scope::Refusal;
 
 #[derive(Clone, Copy)]
 pub struct Reader<'a> {
     pub src: &'a [u8],
     pub at: usize,
-    pub form: Verdict,
-}
-
-// What is handed out: a step, that none is left, or a refusal.
-#[derive(Clone, Copy)]
-pub enum Handed {
-    Step(Step),
-    Done,
-    Refused(Refusal),
+    pub form: Result<(), Refusal>,
 }
 
 // The block that an index falls in; behind all blocks, the last.
@@ -32,58 +24,49 @@ fn block_of(blocks: usize, at: usize) -> usize
     requires { 0 < blocks }
     ensures { result ≡ min (at / 126) (blocks - 1) }
 {
-    let own = at / 126;
-    if own < blocks {
-        return own;
-    }
-    blocks - 1
+    (at / 126).min(blocks - 1)
 }
 
 // A step below the count that the blocks state, and its rows 44 and 65.
-fn counted_step(d: &[u8], at: usize) -> Handed
+#[tactic(auto, unfolding(crate::specs::Handed::counted_step))]
+fn counted_step(d: &[u8], at: usize) -> Result<Option<Step>, Refusal>
     requires nonzero { 0 < length d.now / 512 }
     requires at_in_bounds { at < records_in derivations d.now → place_of at + 4 ≤ length d.now }
     ensures { handed_of result ≡ counted_step d.now at }
 {
     if steps::stated(d) <= at {
-        return Handed::Done;
+        return Ok(None);
     }
     let s = steps::step_at(d, at);
-    let number = steps::form_number(steps::version_of(d), s);
-    if number != 0 {
-        return Handed::Refused(Refusal { number, place: at });
-    }
-    Handed::Step(s)
+    steps::form_row(steps::version_of(d), s, at)?;
+    Ok(Some(s))
 }
 
-// The step at an index: row 40, rows 41 to 43 of its block, rows 44 and 65.
-pub fn step_of(d: &[u8], at: usize) -> Handed
+// The step at an index, or that none is left: row 40, rows 41 to 43 of its block, rows 44 and 65.
+#[tactic(auto, unfolding(crate::specs::Handed::step_handed))]
+pub fn step_of(d: &[u8], at: usize) -> Result<Option<Step>, Refusal>
     ensures { handed_of result ≡ step_handed d.now at }
 {
     if !steps::size_ok(d.len()) {
-        return Handed::Refused(Refusal {
+        return Err(Refusal {
             number: 40,
             place: 0,
         });
     }
-    let v = steps::block_verdict(d, block_of(d.len() / 512, at));
-    match v {
-        Verdict::Fine => counted_step(d, at),
-        Verdict::Refused(f) => Handed::Refused(f),
-    }
+    steps::block_verdict(d, block_of(d.len() / 512, at))?;
+    counted_step(d, at)
 }
 
 // The same of bytes whose form is known: where it was refused, the refusal.
-pub fn step_from(d: &[u8], at: usize, form: Verdict) -> Handed
+pub fn step_from(d: &[u8], at: usize, form: Result<(), Refusal>) -> Result<Option<Step>, Refusal>
     ensures { handed_of result ≡ next_of d.now at (verdict_of form) }
 {
-    match form {
-        Verdict::Fine => step_of(d, at),
-        Verdict::Refused(f) => Handed::Refused(f),
-    }
+    form?;
+    step_of(d, at)
 }
 
 // The index after one, as long as a derivation may have more steps.
+#[tactic(auto, unfolding(crate::specs::Handed::after_of))]
 pub fn after(at: usize) -> usize
     ensures { result ≡ after_of at }
 {
@@ -102,7 +85,7 @@ pub fn opened<'a>(src: &'a [u8]) -> Reader<'a>
 }
 
 // The step that the reader is at, that none is left, or the refusal.
-pub fn next<'a>(r: Reader<'a>) -> Handed
+pub fn next<'a>(r: Reader<'a>) -> Result<Option<Step>, Refusal>
     ensures { handed_of result ≡ next_of r.entry.src.now r.entry.at (verdict_of r.entry.form) }
 {
     step_from(r.src, r.at, r.form)
@@ -112,16 +95,14 @@ pub fn next<'a>(r: Reader<'a>) -> Handed
 pub fn moved<'a>(r: Reader<'a>) -> Reader<'a>
     ensures { (result.src ≡ r.entry.src) × (result.at ≡ after_of r.entry.at) × (result.form ≡ r.entry.form) }
 {
-    let at = after(r.at);
     Reader {
-        src: r.src,
-        at,
-        form: r.form,
+        at: after(r.at),
+        ..r
     }
 }
 
 // The first step of a derivation.
-pub fn first(d: &[u8]) -> Handed
+pub fn first(d: &[u8]) -> Result<Option<Step>, Refusal>
     ensures { handed_of result ≡ next_of d.now 0 (form_test d.now) }
 {
     next(opened(d))

@@ -2,7 +2,7 @@
 use mathlib.Core.Path.{◌≡◌, refl, sym, ap, ◌∙◌}
 use mathlib.Core.List.{List}
 use mathlib.Core.Logic.{◌⊎◌, inl, inr}
-use mathlib.Core.Bool.{Bool, true, false, cond, not, ◌&&◌, ◌||◌, false≢true}
+use mathlib.Core.Bool.{Bool, true, false, ◌&&◌, ◌||◌}
 use Prim.Native.Nat.{ℕ, ◌+◌, ◌-◌, ◌*◌, ◌<◌, ◌≤◌, min}
 use lib.Dec.{eqb, lit<, lit≤}
 use native.Mathlib.Omega.{arith}
@@ -101,18 +101,15 @@ module _ (s : Step) (low : s.rule < 256) where
       (removal 2 (lit≤ tt))
 
   -- the quick test
-  pub quick_passes : (two : Bool) → (one_of (head s) 85 67 83 71 || (one_of (head s) 69 82 338 594 && not two)) ≡ true → form_number (cond two Two One) s ≡ 0
-  quick_passes two e = go (or_split (one_of (head s) 85 67 83 71) (one_of (head s) 69 82 338 594 && not two) e)
+  pub quick_passes : (v : Version) (one : Bool) → (one ≡ true → v ≡ One) → (one_of (head s) 85 67 83 71 || (one_of (head s) 69 82 338 594 && one)) ≡ true
+      → form_number v s ≡ 0
+  quick_passes v one is e = go (or_split (one_of (head s) 85 67 83 71) (one_of (head s) 69 82 338 594 && one) e)
     where
-      one : (b : Bool) → not b ≡ true → form_number One s ≡ 0 → form_number (cond b Two One) s ≡ 0
-      one true n p = absurd (false≢true n)
-      one false n p = p
-
-      go : (one_of (head s) 85 67 83 71 ≡ true) ⊎ ((one_of (head s) 69 82 338 594 && not two) ≡ true) → form_number (cond two Two One) s ≡ 0
-      go (inl p) = both_pass (cond two Two One) p
+      go : (one_of (head s) 85 67 83 71 ≡ true) ⊎ ((one_of (head s) 69 82 338 594 && one) ≡ true) → form_number v s ≡ 0
+      go (inl p) = both_pass v p
       go (inr p) =
           let o : Bool = one_of (head s) 69 82 338 594 in
-          one two (and_right o (not two) p) (older_pass (and_left o (not two) p))
+          rw (is (and_right o one p)) (older_pass (and_left o one p))
 
 -- ---- steps one after another
 
@@ -139,7 +136,8 @@ pass_more d v from i p e q h = go (dec_lt q i)
 pub before_none : (d : List ℕ) (v : Version) (steps : ℕ) → Before d v steps 0
 before_none d v steps k h a = absurd (omega (arith, h))
 
-pub before_more : (d : List ℕ) (v : Version) (steps j count : ℕ) → count ≡ min (steps - 126 * j) 126 → Before d v steps j → Pass d v (126 * j) count → Before d v steps (j + 1)
+pub before_more : (d : List ℕ) (v : Version) (steps j count : ℕ) → count ≡ min (steps - 126 * j) 126
+    → Before d v steps j → Pass d v (126 * j) count → Before d v steps (j + 1)
 before_more d v steps j count m p b k h a = go (dec_lt k (126 * j))
   where
     go : Dec (k < 126 * j) → form_number v (step_at d k) ≡ 0
@@ -148,8 +146,8 @@ before_more d v steps j count m p b k h a = go (dec_lt k (126 * j))
         let z : 126 * j + (k - 126 * j) ≡ k = omega (arith, x) in
         ap (λ (i : ℕ). form_number v (step_at d i)) (sym z) ∙ b (k - 126 * j) (omega (arith, m, x, h, a))
 
-pub pass_fine : (d : List ℕ) (two : Bool) (steps : ℕ) → cond two Two One ≡ version_of d → ((k : ℕ) → k < steps → form_number (cond two Two One) (step_at d k) ≡ 0)
+pub pass_fine : (d : List ℕ) (v : Version) (steps : ℕ) → v ≡ version_of d → ((k : ℕ) → k < steps → form_number v (step_at d k) ≡ 0)
     → fine ≡ first (step_row d) 0 steps
-pass_fine d two steps e p =
+pass_fine d v steps e p =
     sym (all_fine (step_row d) steps 0
-    (λ k a b. step-fine (version_of d) (step_at d k) k (sym (ap (λ (v : Version). form_number v (step_at d k)) (sym e) ∙ p k (omega (arith, b)))) refl))
+    (λ k a b. step-fine (version_of d) (step_at d k) k (sym (ap (λ (u : Version). form_number u (step_at d k)) (sym e) ∙ p k (omega (arith, b)))) refl))

@@ -1,12 +1,11 @@
 -- Where a step stands, the rows of a derivation's form by block and by step, and what opening answers. Assumes nothing.
-use Rattle.std.specs.Prelude.{List, cond, ℕ, suc, ◌+◌, ◌*◌, ◌/◌, ◌%◌, eqb, length}
-use Rattle.scope.specs.Outcome.{Outcome, answer, refused, ◌>>=◌}
+use Rattle.std.specs.Prelude.{List, cond, ℕ, suc, ◌+◌, ◌*◌, ◌/◌, ◌%◌, eqb, length, Result}
+use Rattle.scope.specs.declared.Refusal.{Refusal}
+use Rattle.scope.specs.Outcome.{Outcome, answer, outcome_by, ◌>>=◌}
 use Rattle.scope.specs.Block.{block_test, block_at}
 use Rattle.rules.specs.declared.Step.{Step}
 use Rattle.rules.specs.declared.Version.{Version}
 use Rattle.rules.specs.Steps.{format_of, version_of, step_at, step_ok, rule_in, form_row, decode_steps}
-use Rattle.steps.specs.declared.Opened.{Opened}
-use Rattle.steps.specs.declared.Opened.TheVariants.{Steps, Refused}
 
 -- where step k starts
 abbrev pub place_of : ℕ → ℕ
@@ -28,7 +27,6 @@ step_row d k = form_row (version_of d) (step_at d k) k
 unfoldable pub step_count : List ℕ → Outcome ℕ
 step_count d = decode_steps d >>= λ ss. answer (length ss)
 
--- the number and the values of every case of an `Opened`
-abbrev pub opened_of : Opened → Outcome ℕ
-opened_of (Steps n) = answer n
-opened_of (Refused r) = refused r.number r.place
+-- the number and the values of every case of what opening answers
+abbrev pub opened_of : Result ℕ Refusal → Outcome ℕ
+opened_of = outcome_by (λ n. n)

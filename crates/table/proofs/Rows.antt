@@ -2,6 +2,7 @@
 use mathlib.Core.Path.{◌≡◌, ◌∙◌, ap, sym, refl}
 use mathlib.Core.List.{List}
 use mathlib.Core.Bool.{true, false, not}
+use Rattle.std.specs.Prelude.{Result}
 use Prim.Native.Nat.{ℕ, suc, ◌+◌, ◌-◌, ◌*◌, ◌/◌, ◌<◌, ◌≤◌}
 use native.Mathlib.Nat.{add-sub_cancel_left, zero-add}
 use native.Mathlib.Omega.{arith}
@@ -10,7 +11,7 @@ use lib.ListN.{length, get_or}
 use borrow.Author.Tests.{ne_eqb, eqb-true, lt-ltb, le-ltb}
 use Rattle.scope.specs.declared.Format.{Format}
 use Rattle.scope.specs.declared.Node.{Node}
-use Rattle.scope.specs.declared.Verdict.{Verdict}
+use Rattle.scope.specs.declared.Refusal.{Refusal}
 use Rattle.scope.specs.Outcome.{Outcome, answer, refused, fine, verdict_of, first, require, ◌>>◌}
 use Rattle.scope.specs.Block.{block_test, block_at, record_at, records_in}
 use Rattle.scope.specs.Table.{tables, node_at, form_ok, read_record, repeats, record_test, length_ok, block_rows, table_test, list_from, decode}
@@ -19,9 +20,6 @@ use Rattle.scope.proofs.Tests.{refused_no, then_first, bound, passed_on}
 use Rattle.scope.proofs.Lists.{length_list_from, get_d_list_from}
 use Rattle.scope.proofs.Records.{count_at}
 use Rattle.block.specs.Format.{Fitting}
-use Rattle.record.specs.declared.NodeRead.{NodeRead}
-use Rattle.record.specs.declared.NodeRead.TheVariants.{Found, Refused as Unread}
-use Rattle.record.specs.Read.{read_of, read_verdict}
 use Rattle.codec.specs.Valid.{Bytes}
 use Rattle.codec.proofs.Rows.{both}
 use Rattle.codec.proofs.Records.{reads, reading}
@@ -35,7 +33,7 @@ use Rattle.table.specs.Counted.{Tested}
 use Rattle.table.specs.Own.{own_rows}
 
 -- a refusal is the verdict of the tests, and nothing is said of the chains
-pub refuses : (t c : List ℕ) (v : Verdict) (tests : Outcome (Unit {0})) (n : ℕ) {number place : ℕ}
+pub refuses : (t c : List ℕ) (v : Result (Unit {0}) Refusal) (tests : Outcome (Unit {0})) (n : ℕ) {number place : ℕ}
     → verdict_of v ≡ refused number place → tests ≡ refused number place → Tested t c v tests n
 refuses t c v tests n e q = record { verdict = e ∙ sym q; entered = λ z. refused_no (sym e ∙ z) }
 
@@ -82,14 +80,6 @@ module _ (t : List ℕ) (n : ℕ) where
       reading r n (record { node = refl; form = rw (x, halves_one t n b) at p.form; range = rw x at p.range; order = rw x at p.order }) in
       rw e
 
-  -- what was read says the same
-  pub own_read : (r : NodeRead) → read_of r ≡ read_record (record_at tables t n) n → read_verdict r ≡ own_rows t n
-  own_read r e = go r ∙ ap (◌>> fine) e
-    where
-      go : (r : NodeRead) → read_verdict r ≡ (read_of r >> fine)
-      go (Found x) = refl
-      go (Unread f) = refl
-
 pub fitting : (F : Format) → F ≡ tables → Fitting F
 fitting F e = rw e (record { room = lit≤ tt; numbered = lit< tt })
 
@@ -121,7 +111,7 @@ module _ (t : List ℕ) (j : ℕ) where
   unfolding block_rows
   block_fine e = rw e
 
-  pub block_entered : (c : List ℕ) (v : Verdict) (k : ℕ) → BlockTest ≡ fine → k ≡ get_or t (512 * j + 1) 0
+  pub block_entered : (c : List ℕ) (v : Result (Unit {0}) Refusal) (k : ℕ) → BlockTest ≡ fine → k ≡ get_or t (512 * j + 1) 0
       → Tested t c v (first (record_test t) (63 * j) (63 * j + k - 63 * j)) (63 * j + k)
       → Tested t c v (block_rows t j) (63 * j + get_or (block_at t j) 1 0)
   block_entered c v k e q h =

@@ -1,11 +1,7 @@
 // Tests of the table calls on hand-made and damaged tables: each answer is a line, and the lines are compared.
 #![tactic(auto)]
 
-use adding::Added;
-use record::NodeRead;
 use scope::{Refusal, Truth};
-use table::Counted;
-use truth::Evaluated;
 
 fn say(rt: &impl Print, text: &[u8]) {
     let _ = rt.write_all(text);
@@ -24,20 +20,18 @@ fn refused(rt: &impl Print, f: Refusal) {
 }
 
 fn show_count(rt: &impl Print, t: &[u8]) {
-    let c = table::count(t);
-    match c {
-        Counted::Nodes(n) => {
+    match table::count(t) {
+        Ok(n) => {
             number(rt, n);
             say(rt, b" nodes\n");
         }
-        Counted::Refused(f) => refused(rt, f),
+        Err(f) => refused(rt, f),
     }
 }
 
 fn show_record(rt: &impl Print, t: &[u8], literal: usize) {
-    let c = table::record_of(t, literal);
-    match c {
-        NodeRead::Found(x) => {
+    match table::record_of(t, literal) {
+        Ok(x) => {
             number(rt, x.kind as usize);
             say(rt, b" ");
             number(rt, x.a as usize);
@@ -47,7 +41,7 @@ fn show_record(rt: &impl Print, t: &[u8], literal: usize) {
             number(rt, x.c as usize);
             say(rt, b"\n");
         }
-        NodeRead::Refused(f) => refused(rt, f),
+        Err(f) => refused(rt, f),
     }
 }
 
@@ -60,24 +54,17 @@ fn say_truth(rt: &impl Print, v: Truth) {
 }
 
 fn show_truth(rt: &impl Print, t: &[u8], literal: usize, s: &[u8]) {
-    let c = truth::evaluate(t, literal, s);
-    match c {
-        Evaluated::Told(v) => say_truth(rt, v),
-        Evaluated::Refused(f) => refused(rt, f),
+    match truth::evaluate(t, literal, s) {
+        Ok(v) => say_truth(rt, v),
+        Err(f) => refused(rt, f),
     }
 }
 
 fn node3(kind: u8, a: u16, b: u16, c: u16) -> [u8; 8] {
-    [
-        kind,
-        0,
-        (a % 256) as u8,
-        (a / 256) as u8,
-        (b % 256) as u8,
-        (b / 256) as u8,
-        (c % 256) as u8,
-        (c / 256) as u8,
-    ]
+    let [a0, a1] = a.to_le_bytes();
+    let [b0, b1] = b.to_le_bytes();
+    let [c0, c1] = c.to_le_bytes();
+    [kind, 0, a0, a1, b0, b1, c0, c1]
 }
 
 fn node(kind: u8, a: u16, b: u16) -> [u8; 8] {
@@ -86,24 +73,22 @@ fn node(kind: u8, a: u16, b: u16) -> [u8; 8] {
 
 // Adds a record and says nothing: the used length, as before where it is refused.
 fn put(buf: &mut [u8], used: usize, r: [u8; 8]) -> usize {
-    let v = adding::add(buf, used, r);
-    match v {
-        Added::At(m) => m.used,
-        Added::Refused(_) => used,
+    match adding::add(buf, used, r) {
+        Ok(m) => m.used,
+        Err(_) => used,
     }
 }
 
 fn show_add(rt: &impl Print, buf: &mut [u8], used: usize, r: [u8; 8]) {
-    let v = adding::add(buf, used, r);
-    match v {
-        Added::At(m) => {
+    match adding::add(buf, used, r) {
+        Ok(m) => {
             say(rt, b"literal ");
             number(rt, m.literal);
             say(rt, b" used ");
             number(rt, m.used);
             say(rt, b"\n");
         }
-        Added::Refused(f) => refused(rt, f),
+        Err(f) => refused(rt, f),
     }
 }
 
@@ -154,10 +139,7 @@ fn resealed(t: &mut [u8], seal: bool) {
 
 // The first n bytes, or all where there are fewer.
 fn front<'a>(t: &'a [u8], n: usize) -> &'a [u8] {
-    if t.len() < n {
-        return t;
-    }
-    &t[..n]
+    &t[..n.min(t.len())]
 }
 
 fn wide(b: u8) -> usize {
@@ -215,18 +197,14 @@ fn damaged(rt: &impl Print) {
 }
 
 fn show_records(rt: &impl Print, t: &[u8]) {
-    let mut literal = 0;
-    while literal < 21 {
+    for literal in 0..21 {
         show_record(rt, t, literal);
-        literal += 1;
     }
 }
 
 fn show_truths(rt: &impl Print, t: &[u8], s: &[u8]) {
-    let mut literal = 0;
-    while literal < 21 {
+    for literal in 0..21 {
         show_truth(rt, t, literal, s);
-        literal += 1;
     }
 }
 
@@ -287,10 +265,8 @@ fn adds(rt: &impl Print) {
 // ATOMs 0 to count - 1 behind the used part; the used length.
 fn atoms(buf: &mut [u8], from: usize, count: u16) -> usize {
     let mut used = from;
-    let mut i = 0;
-    while i < count {
+    for i in 0..count {
         used = put(buf, used, node(2, i, 0));
-        i += 1;
     }
     used
 }
@@ -306,10 +282,8 @@ fn pair(i: u16) -> [u8; 8] {
 // ANDs of nodes i and i + 1 for i below count, behind the used part; the used length.
 fn ands(buf: &mut [u8], from: usize, count: u16) -> usize {
     let mut used = from;
-    let mut i = 0;
-    while i < count {
+    for i in 0..count {
         used = put(buf, used, pair(i));
-        i += 1;
     }
     used
 }

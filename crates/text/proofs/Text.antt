@@ -1,28 +1,30 @@
 -- Laws of text in a buffer, of decimal numbers, and of reading them. Assumes nothing.
 use mathlib.Core.Path.{◌≡◌, ◌∙◌, refl, ap, sym}
 use mathlib.Core.List.{List, [], ◌∷◌, ◌++◌, append_assoc}
+use mathlib.Core.Logic.{◌⊎◌, inl, inr}
 use mathlib.Core.Bool.{Bool, true, false, cond, ◌&&◌}
 use Prim.Native.Nat.{ℕ, zero, suc, ◌+◌, ◌-◌, ◌*◌, ◌/◌, ◌%◌, ◌^◌, ◌<◌, ◌≤◌}
 use native.Mathlib.Nat.{add-zero, one-le-pow, pow-succ', pow-le-pow_right}
 use native.Mathlib.Numerals.{add-one}
 use native.Mathlib.Omega.{arith}
-use lib.Dec.{leb, ltb, lit<}
+use lib.Dec.{eqb, leb, ltb, lit<}
 use lib.ListN.{length, take, drop, length-append, take-append-drop, get_or, drop_of_length-le}
-use lib.Seq.{paste, length-paste, take-length, length-take-le, take_at, drop_at, drop-drop, drop-cons}
-use borrow.Author.Tests.{ne_eqb, le-leb, lt-leb, lt-ltb, le-ltb, leb-true, leb-false}
+use lib.Seq.{length-take-le, take_at, drop_at, drop-drop, drop-cons}
+use borrow.Rule.Slice.PartMut.{put_mid, same_len_mid, mid_len, Post-is}
+use borrow.Author.Tests.{le-leb, lt-leb, lt-ltb, le-ltb, leb-true, leb-false}
 use Rattle.text.specs.Counts.{IsPrefixLen}
 use Rattle.text.specs.Digits.{hex_digit_ascii, last_digits, IsDigitCount}
 use Rattle.text.specs.Text.{digits_of, decimal, over, Put, number, none, read_from, read_number}
 
--- a copy of a whole text
-pub pasted : (out : List ℕ) (at : ℕ) (s : List ℕ) (i : ℕ) {out' : List ℕ} → at + length s ≤ length out → i ≡ length s → out' ≡ paste out at s i
-    → Put out at s out' (at + i)
-pasted out at s i room e f =
-    let all : paste out at s i ≡ over out at s = rw (e, take-length s, append_assoc (take at out) s (drop (at + length s) out)) in
+-- a part that was lent, and came back as the text
+pub copied : (out : List ℕ) (at : ℕ) (s : List ℕ) {part : List ℕ} → at + length s ≤ length out → part ≡ s
+    → Put out at s (put_mid at (at + length s - at) out part) (at + length s)
+copied out at s {part} room e =
+    let all : put_mid at (at + length s - at) out part ≡ over out at s = rw (e, Post-is at (at + length s) out (omega arith)) in
     record {
-      bytes = f ∙ all;
-      ends = ap (at +◌) e;
-      size = ap length f ∙ length-paste out at s i (omega arith) (omega arith);
+      bytes = all;
+      ends = refl;
+      size = same_len_mid at (at + length s - at) out part (ap length e ∙ sym (mid_len at (at + length s) out room ∙ (omega arith)));
     }
 
 -- no text
@@ -113,11 +115,15 @@ module _ (s : List ℕ) (v i : ℕ) (h : i < length s) where
   unfolding read_from
   opened = rw (drop-cons s i 0 h)
 
-  pub low_byte : here < 48 → read_from v (drop i s) ≡ none
+  low_byte : here < 48 → read_from v (drop i s) ≡ none
   low_byte e = opened ∙ rw (lt-leb 48 here e)
 
-  pub high_byte : 57 < here → read_from v (drop i s) ≡ none
+  high_byte : 57 < here → read_from v (drop i s) ≡ none
   high_byte e = opened ∙ rw (le-leb 48 here (omega arith), lt-leb here 57 e)
+
+  pub no_digit : (here < 48) ⊎ (57 < here) → read_from v (drop i s) ≡ none
+  no_digit (inl e) = low_byte e
+  no_digit (inr e) = high_byte e
 
   module _ (low : 48 ≤ here) (high : here ≤ 57) where
     pub too_long : 1000000000 ≤ v → read_from v (drop i s) ≡ none
@@ -130,10 +136,10 @@ pub no_more : (s : List ℕ) (v i : ℕ) → length s ≤ i → read_from v (dro
 unfolding read_from
 no_more s v i h = rw (drop_of_length-le s {i = i} h)
 
-pub no-digits : (s : List ℕ) → length s ≡ 0 → read_number s ≡ none
+pub no-digits : (s : List ℕ) → eqb (length s) 0 ≡ true → read_number s ≡ none
 unfolding read_number
 no-digits s e = rw e
 
-pub some-digits : (s : List ℕ) → (length s ≡ 0 → ⊥) → read_from 0 s ≡ read_number s
+pub some-digits : (s : List ℕ) → eqb (length s) 0 ≡ false → read_from 0 s ≡ read_number s
 unfolding read_number
-some-digits s e = rw (ne_eqb (length s) 0 e)
+some-digits s e = rw e

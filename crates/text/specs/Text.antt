@@ -1,9 +1,7 @@
 -- Text as bytes: ASCII, decimal numbers, and the line of a refusal. Assumes nothing.
-use Rattle.std.specs.Prelude.{◌≡◌, List, [], ◌∷◌, ◌++◌, cond, ◌&&◌, ℕ, zero, suc, ◌+◌, ◌-◌, ◌*◌, ◌/◌, ◌%◌, eqb, leb, ltb, length, take, drop}
+use Rattle.std.specs.Prelude.{◌≡◌, List, [], ◌∷◌, ◌++◌, cond, ◌&&◌, ℕ, zero, suc, ◌+◌, ◌-◌, ◌*◌, ◌/◌, ◌%◌, eqb, leb, ltb, length, take, drop, Option, Some, None}
 use Prim.Native.Char.{code}
 use Prim.Native.String.{String, [] as end, ◌∷◌ as ◌then◌}
-use Rattle.text.specs.declared.Numeral.{Numeral}
-use Rattle.text.specs.declared.Numeral.TheVariants.{Number, Not}
 
 -- the bytes of a text
 unfoldable pub ascii : String → List ℕ
@@ -45,7 +43,7 @@ read_from v (b ∷ s) = cond (leb 48 b && (leb b 57 && ltb v 1000000000)) (read_
 unfoldable pub read_number : List ℕ → Reading
 read_number s = cond (eqb (length s) 0) none (read_from 0 s)
 
--- the values of every case of a `Numeral`
-abbrev pub numeral_of : Numeral → Reading
-numeral_of (Number n) = number n
-numeral_of Not = none
+-- the number that is answered, or that none is
+abbrev pub numeral_of : Option ℕ → Reading
+numeral_of (Some n) = number n
+numeral_of None = none

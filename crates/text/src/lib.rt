@@ -8,24 +8,14 @@ ghost use Rattle.text.specs.Text.{decimal, refused_line, Put, numeral_of, read_n
 
 use scope::Refusal;
 
-// What a text says as a number.
-#[derive(Clone, Copy)]
-pub enum Numeral {
-    Number(usize),
-    Not,
-}
-
 // The bytes s from the place on; the place behind them.
 pub fn put(out: &mut [u8], at: usize, s: &[u8]) -> usize
     requires { at + length s.now ≤ length out.old }
     ensures { Put out.old at s.now out.new result }
 {
-    let mut i = 0;
-    while i < s.len() {
-        out[at + i] = s[i];
-        i += 1;
-    }
-    at + i
+    let end = at + s.len();
+    out[at..end].copy_from_slice(s);
+    end
 }
 
 // A number in base ten.
@@ -52,27 +42,21 @@ pub fn refused(out: &mut [u8], at: usize, f: Refusal) -> usize
 }
 
 // The number that a text of digits says.
-pub fn value(s: &[u8]) -> Numeral
+pub fn value(s: &[u8]) -> Option<usize>
     ensures { numeral_of result ≡ read_number s.now }
 {
-    if s.len() == 0 {
-        return Numeral::Not;
+    if s.is_empty() {
+        return None;
     }
     let mut v = 0;
-    let mut i = 0;
-    while i < s.len() {
-        let b = s[i];
-        if b < 48 {
-            return Numeral::Not;
-        }
-        if b > 57 {
-            return Numeral::Not;
+    for &b in s {
+        if !b.is_ascii_digit() {
+            return None;
         }
         if v >= 1000000000 {
-            return Numeral::Not;
+            return None;
         }
         v = 10 * v + (b - 48) as usize;
-        i += 1;
     }
-    Numeral::Number(v)
+    Some(v)
 }

@@ -86,7 +86,8 @@ module _ (t s v : List ℕ) (n : ℕ) where
       rw (add-one, list_from_more, zero-add, ← e) (truths-more kleene s rs x) in
       let low = at_most a q in
       record {
-        levels = levels_more (set v (2 * n) y) (2 * n + 1) (2 - y) (omega (arith, length-set v (2 * n) y)) (levels_more v (2 * n) y (omega arith) f.levels low) (omega arith);
+        levels = levels_more (set v (2 * n) y) (2 * n + 1) (2 - y) (omega (arith, length-set v (2 * n) y))
+            (levels_more v (2 * n) y (omega arith) f.levels low) (omega arith);
         says = rw more (says_more truths a v n y truths_size q room f.says);
       }
 

@@ -41,7 +41,8 @@ left_of_two Unknown = refl
 left_of_two Yes = refl
 
 -- JOINS at two levels
-pub join_is : (kind x y : ℕ) → 2 < kind → kind < 7 → x ≤ 2 → y ≤ 2 → get_or (get_or join_rows (kind - 3) []) (3 * x + y) 0 ≡ level (joined kleene kind (truth_of x ∷ truth_of y ∷ []))
+pub join_is : (kind x y : ℕ) → 2 < kind → kind < 7 → x ≤ 2 → y ≤ 2
+    → get_or (get_or join_rows (kind - 3) []) (3 * x + y) 0 ≡ level (joined kleene kind (truth_of x ∷ truth_of y ∷ []))
 join_is kind x y low high h k =
     let row : 3 + (kind - 3) ≡ kind = omega arith in
     let first : (3 * x + y) / 3 ≡ x = omega arith in

@@ -101,14 +101,16 @@ module _ {P : Type 0} where
   say_lits (l ∷ ls) a = more (say_lit l a) (say_lits ls a)
 
   module _ (s f : List ℕ) (point : (p : ℕ) → p < 1024 → Says P (point_truth (get_or s p 0)) (eqb (get_or f p 0) 1)) where
-    say-node : {u : List Truth} {v : List Bool} (x : Node) → (x.kind ≡ 2 → x.a < 1024) → AllSay P u v → Says P (node_truth kleene s u x) (node_truth classical f v x)
+    say-node : {u : List Truth} {v : List Bool} (x : Node) → (x.kind ≡ 2 → x.a < 1024) → AllSay P u v
+        → Says P (node_truth kleene s u x) (node_truth classical f v x)
     unfolding node_truth
     say-node x h a =
         says-cond (eqb x.kind 1) (λ e. is-yes)
         (λ e. says-cond (eqb x.kind 2) (λ k. point x.a (h (eqb-true x.kind 2 k)))
         (λ e. says-joined x.kind (say_lits (operands x) a)))
 
-    say-truths : (rs : List Node) {u : List Truth} {v : List Bool} → Points rs → AllSay P u v → AllSay P (truths_from kleene s u rs) (truths_from classical f v rs)
+    say-truths : (rs : List Node) {u : List Truth} {v : List Bool} → Points rs → AllSay P u v
+        → AllSay P (truths_from kleene s u rs) (truths_from classical f v rs)
     unfolding truths_from
     say-truths [] h a = a
     say-truths (x ∷ rs) h a = say-truths rs (λ i l. h (suc i) (omega arith)) (say_more a (say-node x (h 0 (omega arith)) a))

@@ -88,7 +88,8 @@ module _ {A : Type 0} (L : Logic A) where
   lit-take v n l h = simp (get_or-take n v (l / 2) L.none h)
 
   -- so the truths of the first nodes give it
-  pub lit_prefix : (s : List ℕ) (rs : List Node) (k l : ℕ) → k ≤ length rs → l / 2 < k → lit_truth L (truths_from L s [] rs) l ≡ lit_truth L (truths_from L s [] (take k rs)) l
+  pub lit_prefix : (s : List ℕ) (rs : List Node) (k l : ℕ) → k ≤ length rs → l / 2 < k
+      → lit_truth L (truths_from L s [] rs) l ≡ lit_truth L (truths_from L s [] (take k rs)) l
   lit_prefix s rs k l h i =
       sym (lit-take (truths_from L s [] rs) k l i)
       ∙ ap (λ (v : List A). lit_truth L v l) (rw zero-add at (truths-prefix s rs [] k h))

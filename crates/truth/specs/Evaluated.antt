@@ -1,20 +1,18 @@
 -- What evaluate answers, and which nodes it can take. Assumes nothing.
-use Rattle.std.specs.Prelude.{◌≡◌, List, [], ◌∷◌, ℕ, zero, suc, ◌*◌, ◌/◌, ◌%◌, ◌<◌, ◌≤◌, true, ltb, length, get_or}
+use Rattle.std.specs.Prelude.{◌≡◌, List, [], ◌∷◌, ℕ, zero, suc, ◌*◌, ◌/◌, ◌%◌, ◌<◌, ◌≤◌, true, ltb, length, get_or, Result}
 use Rattle.scope.specs.declared.Node.{Node}
+use Rattle.scope.specs.declared.Refusal.{Refusal}
 use Rattle.scope.specs.declared.Truth.{Truth}
 use Rattle.scope.specs.declared.Truth.TheVariants.{Yes, No, Unknown}
-use Rattle.scope.specs.Outcome.{Outcome, answer, refused, fine}
+use Rattle.scope.specs.Outcome.{Outcome, fine, outcome_by}
 use Rattle.scope.specs.Block.{records_in}
 use Rattle.scope.specs.Table.{tables, operands, every, node_at, table_test, list_from}
 use Rattle.scope.specs.Truth.{lit_truth, joined, node_truth, truths_from}
 use Rattle.scope.specs.Kleene.{kleene}
-use Rattle.truth.specs.declared.Evaluated.{Evaluated}
-use Rattle.truth.specs.declared.Evaluated.TheVariants.{Told, Refused}
 
--- the number and the values of every case of an `Evaluated`
-abbrev pub evaluated_of : Evaluated → Outcome Truth
-evaluated_of (Told v) = answer v
-evaluated_of (Refused r) = refused r.number r.place
+-- the number and the values of every answer of evaluate
+abbrev pub evaluated_of : Result Truth Refusal → Outcome Truth
+evaluated_of = outcome_by (λ v. v)
 
 -- truths as levels: so a negation is what is left of 2
 unfoldable pub level : Truth → ℕ

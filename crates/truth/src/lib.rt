@@ -9,15 +9,7 @@ ghost use Rattle.scope.specs.Kleene.{point_truth, kleene};
 ghost use Rattle.scope.specs.Calls.{settings_test, evaluate};
 ghost use Rattle.truth.specs.Evaluated.{evaluated_of, level, truth_of, join_rows, Levels, Low, NodeLevel, Evaluable, Filled};
 
-use scope::{Node, Refusal, Truth, Verdict};
-use table::Counted;
-
-// What evaluate answers.
-#[derive(Clone, Copy)]
-pub enum Evaluated {
-    Told(Truth),
-    Refused(Refusal),
-}
+use scope::{Node, Refusal, Truth};
 
 // How kinds 3 to 6 join two levels x and y: a row for each kind, in it the level at 3 x + y.
 const JOINS: [[u8; 9]; 4] = [
@@ -101,38 +93,34 @@ fn all_low(s: &[u8]) -> bool
     ensures { result ≡ true → (p : ℕ) → p < 1024 → get_or s.now p 0 < 3 }
 {
     let mut low = true;
-    let mut p = 0;
-    while p < 1024 {
-        low = low & (s[p] < 3);
-        p += 1;
+    for p in 0..1024 {
+        low &= s[p] < 3;
     }
     low
 }
 
 // Rows 21 and 22.
-fn settings_verdict(s: &[u8]) -> Verdict
+fn settings_verdict(s: &[u8]) -> Result<(), Refusal>
     ensures { verdict_of result ≡ settings_test s.now }
 {
     if s.len() < 1024 {
-        return Verdict::Refused(Refusal {
+        return Err(Refusal {
             number: 21,
             place: 0,
         });
     }
     if all_low(s) {
-        return Verdict::Fine;
+        return Ok(());
     }
-    let mut p = 0;
-    while p < 1024 {
+    for p in 0..1024 {
         if 2 < s[p] {
-            return Verdict::Refused(Refusal {
+            return Err(Refusal {
                 number: 22,
                 place: p,
             });
         }
-        p += 1;
     }
-    Verdict::Fine
+    Ok(())
 }
 
 // The levels of the literals of the first nodes of block j, so many, where those of the blocks before are known.
@@ -143,16 +131,13 @@ fn block_levels(joins: &[[u8; 9]; 4], t: &[u8], s: &[u8], v: &mut [u8], j: usize
     ensures { Filled t.now s.now (63 * j + count) v.new }
 {
     let from = 512 * j + 4;
-    let mut i = 0;
-    while i < count {
+    for i in 0..count {
         let at = from + 8 * i;
-        let end = at + 8;
-        let x = record::fields(&t[at..end]);
+        let x = record::fields(&t[at..at + 8]);
         let r = node_level(joins, s, v, x);
         let l = 2 * (63 * j + i);
         v[l] = r;
         v[l + 1] = 2 - r;
-        i += 1;
     }
 }
 
@@ -163,37 +148,25 @@ fn node_levels(t: &[u8], s: &[u8], v: &mut [u8], nodes: usize)
 {
     let joins = &JOINS;
     let full = nodes / 63;
-    let mut j = 0;
-    while j < full {
+    for j in 0..full {
         block_levels(joins, t, s, v, j, 63);
-        j += 1;
     }
     block_levels(joins, t, s, v, full, nodes % 63);
 }
 
 // The truth of a literal under a setting.
-pub fn evaluate(t: &[u8], literal: usize, s: &[u8]) -> Evaluated
+pub fn evaluate(t: &[u8], literal: usize, s: &[u8]) -> Result<Truth, Refusal>
     ensures { evaluated_of result ≡ evaluate t.now literal s.now }
 {
-    let c = table::count(t);
-    match c {
-        Counted::Refused(r) => Evaluated::Refused(r),
-        Counted::Nodes(nodes) => {
-            if 2 * nodes <= literal {
-                return Evaluated::Refused(Refusal {
-                    number: 20,
-                    place: 0,
-                });
-            }
-            let w = settings_verdict(s);
-            match w {
-                Verdict::Refused(r) => Evaluated::Refused(r),
-                Verdict::Fine => {
-                    let mut v = [0u8; 4032];
-                    node_levels(t, s, &mut v, literal / 2 + 1);
-                    Evaluated::Told(told(v[literal]))
-                }
-            }
-        }
+    let nodes = table::count(t)?;
+    if 2 * nodes <= literal {
+        return Err(Refusal {
+            number: 20,
+            place: 0,
+        });
     }
+    settings_verdict(s)?;
+    let mut v = [0u8; 4032];
+    node_levels(t, s, &mut v, literal / 2 + 1);
+    Ok(told(v[literal]))
 }

@@ -2,7 +2,7 @@
 use mathlib.Core.Path.{◌≡◌, sym, ap, ◌∙◌}
 use mathlib.Core.Bool.{Bool, true, false, cond}
 use mathlib.Core.List.{List}
-use Prim.Native.Nat.{ℕ, ◌+◌, ◌-◌, ◌*◌, ◌/◌, ◌%◌, ◌^◌, ◌<◌, ◌≤◌}
+use Prim.Native.Nat.{ℕ, ◌-◌, ◌*◌, ◌/◌, ◌%◌, ◌^◌, ◌<◌, ◌≤◌}
 use native.Mathlib.Nat.{one-mul, zero-mul, sub-zero}
 use native.Mathlib.Omega.{arith}
 use native.Mathlib.Decide.{ℕ_discrete, dec_lt}
@@ -12,7 +12,6 @@ use lib.Seq.{get_or-set_same, get_or-set_other}
 use lib.Pow.{shl_exact}
 use lib.Bits.{bit_or}
 use mir.Val.{bool_byte}
-use borrow.Author.Count.{below_more}
 use borrow.Author.Tests.{ne_eqb, lt-ltb, le-ltb}
 use Rattle.units.specs.Units.{positions, blocks, words, bit, member, some_in, Units, Empty, Putted}
 use Rattle.units.proofs.Bits.{Turned, turned_none, clear_bit, bit-none, or_bit}
@@ -152,10 +151,6 @@ module _ (m : List ℕ) (q : ℕ) (U : Units m) (hq : q < positions) where
         changed x _ 0 word-leaves.1 (sum-leaves x).1
 
 -- ---- no position
-
--- a loop that stores 0 at each index
-pub more : (m : List ℕ) (i : ℕ) → i < length m → ((j : ℕ) → j < i → get_or m j 0 ≡ 0) → (j : ℕ) → j < i + 1 → get_or (set m i 0) j 0 ≡ 0
-more m i h e = below_more _ i (λ j k. get_or-set_other m i j 0 0 (λ q. omega (arith, q)) ∙ e j k) (get_or-set_same m i 0 0 h)
 
 pub cleared : (m : List ℕ) → length m ≡ words → ((i : ℕ) → i < words → get_or m i 0 ≡ 0) → Units m × Empty m
 unfolding member

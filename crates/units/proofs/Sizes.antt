@@ -11,7 +11,8 @@ unfoldable pub size_below : List ℕ → ℕ → ℕ
 size_below m zero = 0
 size_below m (suc k) = member m k + size_below m k
 
-size_same : (m m' : List ℕ) (q k : ℕ) → k ≤ q → k ≤ positions → ((j : ℕ) → j < positions → (j ≡ q → ⊥) → member m' j ≡ member m j) → size_below m' k ≡ size_below m k
+size_same : (m m' : List ℕ) (q k : ℕ) → k ≤ q → k ≤ positions → ((j : ℕ) → j < positions → (j ≡ q → ⊥) → member m' j ≡ member m j)
+    → size_below m' k ≡ size_below m k
 unfolding size_below
 size_same m m' q zero b i f = refl
 size_same m m' q (suc k) b i f = rw (f k (omega (arith, i)) (λ e. omega (arith, e, b)), size_same m m' q k (omega (arith, b)) (omega (arith, i)) f)

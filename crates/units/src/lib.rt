@@ -59,10 +59,8 @@ pub fn clear(m: &mut [u64])
     requires { length m.old ≡ words }
     ensures { Units m.new × Empty m.new }
 {
-    let mut i = 0;
-    while i < WORDS {
+    for i in 0..WORDS {
         m[i] = 0;
-        i += 1;
     }
 }
 

@@ -1,6 +1,7 @@
 -- Where the call ends: at the first row's refusal, or with what the questions came to. Assumes nothing.
 use mathlib.Core.Path.{◌≡◌, refl, sym, ap, ◌∙◌}
 use mathlib.Core.List.{List, ◌++◌}
+use Rattle.std.specs.Prelude.{Result, Err}
 use Prim.Native.Nat.{ℕ, ◌*◌, ◌<◌}
 use native.Mathlib.Omega.{arith}
 use lib.ListN.{length, take, drop}
@@ -22,18 +23,16 @@ use Rattle.granting.specs.declared.Grant.{Grant}
 use Rattle.questions.specs.Indices.{picked}
 use Rattle.questions.specs.Asking.{asks, answered}
 use Rattle.questions.proofs.Indices.{rising_below, picked_all}
-use Rattle.wishing.specs.Wish.{queries, Wished as Result, question, wished}
+use Rattle.wishing.specs.Wish.{queries, Wished, question, wished}
 use Rattle.wishing.specs.Call.{lists_row, wishes_asked, Granted, grant, granted_after}
 use Rattle.wishing.proofs.Spends.{Query, queries_fit, spend_same, stands}
 use Rattle.wishing.proofs.Calls.{made, none-granted, answers, within, stopped, not_sooner, larger, enough, wishes-met, wishes-most}
 use Rattle.wishes.specs.Wishes.{wished_of, grant_of, settings_by, Posed, Answered, Wishes}
-use Rattle.wishes.specs.declared.Wished.{Wished}
-use Rattle.wishes.specs.declared.Wished.TheVariants.{Refused}
 use Rattle.wishes.proofs.Lists.{rows_met}
 
 -- ---- the contract, where its first three fields hold
 
-module _ (t goals wishes : List ℕ) (m : ℕ) (s w : List ℕ) (all : Bytes t) (r : Wished) {s' : List ℕ}
+module _ (t goals wishes : List ℕ) (m : ℕ) (s w : List ℕ) (all : Bytes t) (r : Result Grant Refusal) {s' : List ℕ}
     (said : wished_of r ≡ (grant t goals wishes m s w >>= λ d. answer (grant_of d.wished))) (bytes : s' ≡ granted_after s (grant t goals wishes m s w)) where
   -- what was granted is what the definition grants
   granted_as : {g : Grant} → wished_of r ≡ answer g → (d : Granted) × (grant t goals wishes m s w ≡ answer d) × (grant_of d.wished ≡ g)
@@ -72,9 +71,9 @@ module _ (t goals wishes : List ℕ) (m : ℕ) (s w : List ℕ) (all : Bytes t) 
 -- ---- where the call ends
 
 module _ (t goals wishes : List ℕ) (m : ℕ) (s w : List ℕ) (all : Bytes t) where
-  pub refuses : (f : Refusal) → wishes_asked t goals wishes (length s) (length w) ≡ refused f.number f.place → Wishes t goals wishes m s w s w (Refused f)
+  pub refuses : (f : Refusal) → wishes_asked t goals wishes (length s) (length w) ≡ refused f.number f.place → Wishes t goals wishes m s w s w (Err f)
   unfolding grant
-  refuses f q = wishes_told t goals wishes m s w all (Refused f) (rw q) (rw q) (λ number place e. refl)
+  refuses f q = wishes_told t goals wishes m s w all (Err f) (rw q) (rw q) (λ number place e. refl)
 
   module _ {x : List ℕ} {n : ℕ} (p : Reached (lists_row goals wishes) t (goals ++ wishes) 1024 (length s) (length w) x n) where
     pub roomy : Room x n s w
@@ -149,7 +148,7 @@ module _ (t goals wishes : List ℕ) (m : ℕ) (s w : List ℕ) (all : Bytes t) 
     set_in impossible e = refl
     set_in unfinished e = refl
 
-    pub ends : {s' w' : List ℕ} (r : Wished) → Answered x n goals wishes m s s' r → Wishes t goals wishes m s w s' w' r
+    pub ends : {s' w' : List ℕ} (r : Result Grant Refusal) → Answered x n goals wishes m s s' r → Wishes t goals wishes m s w s' w' r
     unfolding grant
     ends {s'} r h =
         wishes_told t goals wishes m s w all r
@@ -157,10 +156,10 @@ module _ (t goals wishes : List ℕ) (m : ℕ) (s w : List ℕ) (all : Bytes t) 
         (h.settings ∙ set_in (asks (index_node x) n goals) refl ∙ rw (wished-in, p.answered) (written (wished (answered p.nodes) goals wishes m (answered p.nodes goals))))
         (λ number place e. refused_no (sym e ∙ p.answered))
       where
-        numbers : (o : Outcome Result) → (o >>= λ d. answer (grant_of d)) ≡ ((o >>= made t goals wishes s w p.nodes) >>= λ d. answer (grant_of d.wished))
+        numbers : (o : Outcome Wished) → (o >>= λ d. answer (grant_of d)) ≡ ((o >>= made t goals wishes s w p.nodes) >>= λ d. answer (grant_of d.wished))
         numbers (answer d) = refl
         numbers (refused number place) = refl
 
-        written : (o : Outcome Result) → settings_by p.nodes s o ≡ granted_after s (o >>= made t goals wishes s w p.nodes)
+        written : (o : Outcome Wished) → settings_by p.nodes s o ≡ granted_after s (o >>= made t goals wishes s w p.nodes)
         written (answer d) = refl
         written (refused number place) = refl

@@ -2,6 +2,7 @@
 use mathlib.Core.Path.{◌≡◌, ap, ◌∙◌}
 use mathlib.Core.List.{List, ◌++◌}
 use mathlib.Core.Bool.{Bool, true, false, cond}
+use Rattle.std.specs.Prelude.{Ok, Err}
 use Prim.Native.Nat.{ℕ}
 use lib.Dec.{eqb}
 use lib.ListN.{length, drop}
@@ -18,7 +19,6 @@ use Rattle.searching.specs.Search.{Solved}
 use Rattle.granting.specs.declared.Grant.{Grant}
 use Rattle.granting.specs.Visits.{Gathered, Grants}
 use Rattle.wishes.specs.Wishes.{Stands, Posed, Answered}
-use Rattle.wishes.specs.declared.Wished.TheVariants.{Granted as Given, Refused}
 
 -- ---- what stands
 
@@ -43,7 +43,7 @@ walkable n goals wishes list w p y = record {
 -- ---- the answers
 
 module _ (x : List ℕ) (n : ℕ) (goals wishes : List ℕ) (m : ℕ) (s : List ℕ) where
-  pub alone_impossible : (w : List ℕ) → Solved (index_node x) n goals w Closed → Answered x n goals wishes m s s (Refused (record { number = 67; place = 0 }))
+  pub alone_impossible : (w : List ℕ) → Solved (index_node x) n goals w Closed → Answered x n goals wishes m s s (Err (record { number = 67; place = 0 }))
   alone_impossible w h = record { answered = rw (← h.answered); settings = rw (← h.answered) }
 
   module _ (w : List ℕ) (h : Solved (index_node x) n goals w Model) where
@@ -60,7 +60,7 @@ module _ (x : List ℕ) (n : ℕ) (goals wishes : List ℕ) (m : ℕ) (s : List 
       standing-set false G = ap (setting_of rs G ++◌) beyond
 
       pub granted-by : (list : List ℕ) → Posed n goals wishes list → (w₂ s₂ : List ℕ) (r : Grant) → Grants x n (length goals) wishes list m w₂ r
-          → Stands (index_node x) n r.met (g_of w₂) s₁ s₂ → Answered x n goals wishes m s s₂ (Given r)
+          → Stands (index_node x) n r.met (g_of w₂) s₁ s₂ → Answered x n goals wishes m s s₂ (Ok r)
       granted-by list p w₂ s₂ r g z =
           let d = rw p.first at (g.wished (g_of w)) in
           record {

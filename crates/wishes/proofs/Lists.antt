@@ -1,17 +1,20 @@
 -- The two lists: their rows, and how they are gathered in one. Assumes nothing.
 use mathlib.Core.Path.{◌≡◌, refl, sym, ap, ◌∙◌}
-use mathlib.Core.List.{List, [], ◌∷◌, ◌++◌, append_assoc, append-nil}
+use mathlib.Core.Logic.{◌⊎◌}
+use mathlib.Core.List.{List, ◌++◌}
+use Rattle.std.specs.Prelude.{Result}
 use Prim.Native.Nat.{ℕ, ◌+◌, ◌-◌, ◌<◌, ◌≤◌}
-use native.Mathlib.Nat.{add-zero, zero-add}
-use native.Mathlib.Numerals.{add-one}
+use native.Mathlib.Nat.{zero-add}
 use native.Mathlib.Omega.{arith}
 use lib.Dec.{leb}
-use lib.ListN.{length, get_or, take, set, length-set, length-append}
-use lib.Seq.{length-take-le, take-length, take-suc, take-suc-set, take-take, take-append_seam}
+use lib.ListN.{length, take, length-append}
+use lib.Seq.{length-take-le, take-take, take-append_seam}
+use Rattle.std.proofs.lemmas.Slice.{take-put_mid}
+use borrow.Rule.Slice.PartMut.{put_mid}
 use borrow.Author.Tests.{leb-true}
+use Rattle.scope.specs.declared.Refusal.{Refusal}
 use Rattle.scope.specs.Outcome.{Outcome, answer, refused, fine, require}
 use Rattle.scope.proofs.Tests.{required, then_first, then_next}
-use Rattle.table.specs.declared.Counted.{Counted}
 use Rattle.calculus.specs.Decide.{list_row}
 use Rattle.calculus.proofs.Asked.{list_met}
 use Rattle.asking.specs.Within.{Within}
@@ -34,41 +37,15 @@ module _ (goals wishes : List ℕ) where
 
 -- ---- a copy
 
--- the first i are copied
-pub record Copying (from list₀ : List ℕ) (at : ℕ) (list : List ℕ) (i : ℕ) : Type 0 where
-  pub size : length list ≡ length list₀
-  pub few : i ≤ length from
-  pub done : take (at + i) list ≡ take at list₀ ++ take i from
-
-module _ (from list₀ : List ℕ) (at : ℕ) (room : at + length from ≤ length list₀) where
-  pub copy_starts : Copying from list₀ at list₀ 0
-  copy_starts = record { size = refl; few = omega arith; done = rw (add-zero at) (sym (append-nil (take at list₀))) }
-
-  module _ (list : List ℕ) (i : ℕ) (p : Copying from list₀ at list i) where
-    pub copy_goes : i < length from → Copying from list₀ at (set list (at + i) (get_or from i 0)) (i + 1)
-    copy_goes h =
-        let next : at + (i + 1) ≡ (at + i) + 1 = omega arith in
-        record {
-          size = length-set list (at + i) (get_or from i 0) ∙ p.size;
-          few = omega arith;
-          done = rw (next, add-one (at + i), add-one i)
-              (take-suc-set list (at + i) (get_or from i 0) (omega (arith, p.size)) ∙ ap (◌++ get_or from i 0 ∷ []) p.done
-              ∙ append_assoc (take at list₀) (take i from) (get_or from i 0 ∷ []) ∙ ap (take at list₀ ++◌) (sym (take-suc from i 0 h)));
-        }
-
-    pub copy-ends : length from ≤ i → Copied from list₀ at list
-    copy-ends h =
-        let e : i ≡ length from = omega (arith, p.few) in
-        (rw e at p.done) ∙ ap (take at list₀ ++◌) (take-length from)
+pub copied : {from part : List ℕ} (list : List ℕ) (at : ℕ) → at + length from ≤ length list → part ≡ from
+    → Copied from list at (put_mid at (at + length from - at) list part)
+copied {from} {part} list at room e = rw e (take-put_mid at (at + length from - at) list from (at + length from) refl (omega arith))
 
 -- ---- both lists
 
 module _ (goals wishes : List ℕ) where
-  pub gathers_none : (list : List ℕ) → (64 < length goals) → Gathers goals wishes list 0
-  gathers_none list h = record { few = omega arith; both = λ e. absurd (omega (arith, (rows_met goals wishes e).0)) }
-
-  pub gathers_few : (list : List ℕ) → (16 < length wishes) → Gathers goals wishes list 0
-  gathers_few list h = record { few = omega arith; both = λ e. absurd (omega (arith, (rows_met goals wishes e).1)) }
+  pub gathers_none : (list : List ℕ) → (64 < length goals) ⊎ ((length goals ≤ 64) × (16 < length wishes)) → Gathers goals wishes list 0
+  gathers_none list h = record { few = omega arith; both = λ e. absurd (omega (arith, h, rows_met goals wishes e)) }
 
   pub gathers_both : (list list₁ list₂ : List ℕ) → length goals + length wishes ≤ length list₂ → Copied goals list 0 list₁ → Copied wishes list₁ (length goals) list₂
       → Gathers goals wishes list₂ (length goals + length wishes)
@@ -80,7 +57,7 @@ module _ (goals wishes : List ℕ) where
       let size : r ≡ length goals + length wishes = sym (length-take-le r list few) ∙ ap length e ∙ length-append goals wishes in
       sym (take-take (length goals) r list (omega arith)) ∙ ap (take (length goals)) e ∙ take-append_seam goals wishes
 
-  pub asked-both : (t : List ℕ) (points area : ℕ) (list x : List ℕ) (r : ℕ) (c : Counted) → Gathers goals wishes list r
+  pub asked-both : (t : List ℕ) (points area : ℕ) (list x : List ℕ) (r : ℕ) (c : Result ℕ Refusal) → Gathers goals wishes list r
       → Within (lists_row goals wishes) t (take (r - 0) list) 1024 points area x c → WishesAsk t goals wishes points area list x c
   asked-both t points area list x r c g a = record { asks = go (lists_row goals wishes) refl; gathered = λ e. gathered-goals list r g.few (g.both e) }
     where

@@ -1,30 +1,27 @@
 -- What the call does: the answer of the definition `grant`, its settings, and what the answer means. Assumes nothing.
-use Rattle.std.specs.Prelude.{◌≡◌, ◌⊎◌, true, cond, List, ◌++◌, ℕ, suc, ◌+◌, ◌^◌, ◌<◌, ◌≤◌, eqb, length, take, drop}
+use Rattle.std.specs.Prelude.{◌≡◌, ◌⊎◌, true, cond, List, ◌++◌, ℕ, suc, ◌+◌, ◌^◌, ◌<◌, ◌≤◌, eqb, length, take, drop, Result}
 use Rattle.scope.specs.declared.Node.{Node}
-use Rattle.scope.specs.Outcome.{Outcome, answer, refused, fine, ◌>>=◌}
+use Rattle.scope.specs.declared.Refusal.{Refusal}
+use Rattle.scope.specs.Outcome.{Outcome, answer, refused, fine, outcome_by, ◌>>=◌}
 use Rattle.scope.specs.Table.{list_from, decode}
 use Rattle.scope.specs.Truth.{truth}
 use Rattle.scope.specs.Kleene.{Fills}
 use Rattle.calculus.specs.Order.{setting_of}
 use Rattle.calculus.specs.Model.{All, question_size, Goals, Below}
 use Rattle.calculus.specs.Decide.{Unsatisfiable, ◌⇔◌}
-use Rattle.table.specs.declared.Counted.{Counted}
 use Rattle.index.specs.Index.{index_node}
 use Rattle.asking.specs.Within.{Within}
 use Rattle.questions.specs.Asking.{asks}
 use Rattle.granting.specs.declared.Grant.{Grant}
-use Rattle.wishing.specs.Wish.{Wished as Result, wished, count}
+use Rattle.wishing.specs.Wish.{Wished, wished, count}
 use Rattle.wishing.specs.Call.{most_wishes, lists_row, wishes_asked, Granted, grant, granted_after}
-use Rattle.wishes.specs.declared.Wished.{Wished}
-use Rattle.wishes.specs.declared.Wished.TheVariants.{Granted as Given, Refused}
 
--- the number and the values of every case of a `Wished`
-abbrev pub wished_of : Wished → Outcome Grant
-wished_of (Given g) = answer g
-wished_of (Refused r) = refused r.number r.place
+-- the number and the values of every case of the call's answer
+abbrev pub wished_of : Result Grant Refusal → Outcome Grant
+wished_of = outcome_by (λ g. g)
 
 -- the wishes met, the bound and the questions put
-abbrev pub grant_of : Result → Grant
+abbrev pub grant_of : Wished → Grant
 grant_of d = record { met = d.k; bound = d.u; questions = d.questions }
 
 -- a list with another behind its first `at` literals
@@ -37,7 +34,7 @@ pub record Gathers (goals wishes list' : List ℕ) (r : ℕ) : Type 0 where
   pub both : lists_row goals wishes ≡ fine → take r list' ≡ goals ++ wishes
 
 -- rows 10 to 17, 62, 66, 20, 21 and 23; where none refuses, the list begins with the goals
-pub record WishesAsk (t goals wishes : List ℕ) (points area : ℕ) (list' x : List ℕ) (r : Counted) : Type 0 where
+pub record WishesAsk (t goals wishes : List ℕ) (points area : ℕ) (list' x : List ℕ) (r : Result ℕ Refusal) : Type 0 where
   pub asks : Within (lists_row goals wishes) t (goals ++ wishes) 1024 points area x r
   pub gathered : lists_row goals wishes ≡ fine → take (length goals) list' ≡ goals
 
@@ -55,18 +52,18 @@ pub record Posed (n : ℕ) (goals wishes list : List ℕ) : Type 0 where
   pub room : length goals + length wishes ≤ question_size
 
 -- the settings bytes after an outcome: those of what stands; a refusal changes none
-abbrev pub settings_by : List Node → List ℕ → Outcome Result → List ℕ
+abbrev pub settings_by : List Node → List ℕ → Outcome Wished → List ℕ
 settings_by rs s (answer d) = setting_of rs d.standing ++ drop 1024 s
 settings_by rs s (refused number place) = s
 
 -- the goals alone, then the questions, over an index of n nodes
-pub record Answered (x : List ℕ) (n : ℕ) (goals wishes : List ℕ) (m : ℕ) (s s' : List ℕ) (r : Wished) : Type 0 where
+pub record Answered (x : List ℕ) (n : ℕ) (goals wishes : List ℕ) (m : ℕ) (s s' : List ℕ) (r : Result Grant Refusal) : Type 0 where
   pub answered : wished_of r ≡ (wished (asks (index_node x) n) goals wishes m (asks (index_node x) n goals) >>= λ d. answer (grant_of d))
   pub settings : s' ≡ settings_by (list_from (index_node x) 0 n) s (wished (asks (index_node x) n) goals wishes m (asks (index_node x) n goals))
 
 -- The call, of the table t, lists of goals and of wishes, an allowance of m questions, and the settings s and the work area w, which it
 -- leaves as s' and w'
-pub record Wishes (t goals wishes : List ℕ) (m : ℕ) (s w s' w' : List ℕ) (r : Wished) : Type 0 where
+pub record Wishes (t goals wishes : List ℕ) (m : ℕ) (s w s' w' : List ℕ) (r : Result Grant Refusal) : Type 0 where
   -- the answer is that of the questions in their order, or the first row's that refuses
   pub answered : wished_of r ≡ (grant t goals wishes m s w >>= λ d. answer (grant_of d.wished))
   -- the settings bytes: 'its setting is the first answer', 'The first possible question replaces the setting'; a refusal leaves them

@@ -14,34 +14,21 @@ ghost use Rattle.wishing.specs.Call.{lists_row};
 ghost use Rattle.wishes.specs.Wishes.{Copied, Gathers, WishesAsk, Stands, Posed, Answered, Wishes};
 
 use granting::Grant;
-use scope::{Refusal, Verdict};
+use scope::Refusal;
 use searching::Found;
-use table::Counted;
-
-// What the call answers.
-#[derive(Clone, Copy)]
-pub enum Wished {
-    Granted(Grant),
-    Refused(Refusal),
-}
 
 // Row 62 of the goals, then row 66 of the wishes.
-fn list_rows(goals: &[u16], wishes: &[u16]) -> Verdict
+fn list_rows(goals: &[u16], wishes: &[u16]) -> Result<(), Refusal>
     ensures { verdict_of result ≡ lists_row goals.now wishes.now }
 {
-    let v = asking::list_row(goals);
-    match v {
-        Verdict::Refused(f) => Verdict::Refused(f),
-        Verdict::Fine => {
-            if 16 < wishes.len() {
-                return Verdict::Refused(Refusal {
-                    number: 66,
-                    place: 0,
-                });
-            }
-            Verdict::Fine
-        }
+    asking::list_row(goals)?;
+    if 16 < wishes.len() {
+        return Err(Refusal {
+            number: 66,
+            place: 0,
+        });
     }
+    Ok(())
 }
 
 // Copies literals behind the first `at` of a list.
@@ -49,11 +36,7 @@ fn copy(from: &[u16], list: &mut [u16], at: usize)
     requires { at + length from.now ≤ length list.old }
     ensures { Copied from.now list.old at list.new }
 {
-    let mut i = 0;
-    while i < from.len() {
-        list[at + i] = from[i];
-        i += 1;
-    }
+    list[at..at + from.len()].copy_from_slice(from);
 }
 
 // The goals and behind them the wishes, where the rows on them let them pass; how many there are.
@@ -61,10 +44,7 @@ fn gather(goals: &[u16], wishes: &[u16], list: &mut [u16]) -> usize
     requires { length list.old ≡ question_size }
     ensures { Gathers goals.now wishes.now list.new result }
 {
-    if 64 < goals.len() {
-        return 0;
-    }
-    if 16 < wishes.len() {
+    if 64 < goals.len() || 16 < wishes.len() {
         return 0;
     }
     copy(goals, list, 0);
@@ -82,7 +62,7 @@ fn ask(
     area: usize,
     list: &mut [u16],
     x: &mut [u16],
-) -> Counted
+) -> Result<usize, Refusal>
     requires list_len { length list.old ≡ question_size }
     requires zeros { Zeros x.old }
     ensures { WishesAsk t.now goals.now wishes.now points area list.new x.new result }
@@ -113,7 +93,7 @@ fn questions(
     allowance: usize,
     settings: &mut [u8],
     work: &mut [u16],
-) -> Wished
+) -> Result<Grant, Refusal>
     requires indexed { Indexed x.now n }
     requires posed { Posed n goals.now wishes.now list.old }
     requires room { Room x.now n settings.old work.old }
@@ -123,7 +103,7 @@ fn questions(
     let mut rests = [0u64; 4036];
     let found = searching::solve(x, n, goals, work, &mut rests);
     match found {
-        Found::Closed => Wished::Refused(Refusal {
+        Found::Closed => Err(Refusal {
             number: 67,
             place: 0,
         }),
@@ -132,7 +112,7 @@ fn questions(
             let g = goals.len();
             let r = granting::spend(x, n, g, wishes, list, work, &mut rests, allowance);
             stand(x, n, work, settings, r.met);
-            Wished::Granted(r)
+            Ok(r)
         }
     }
 }
@@ -145,12 +125,12 @@ pub fn grant(
     allowance: usize,
     settings: &mut [u8],
     work: &mut [u16],
-) -> Wished
+) -> Result<Grant, Refusal>
     ensures { Wishes t.now goals.now wishes.now allowance settings.old work.old settings.new work.new result }
 {
     let mut list = [0u16; 80];
     let mut x = [0u16; 22626];
-    let a = ask(
+    let n = ask(
         t,
         goals,
         wishes,
@@ -158,9 +138,6 @@ pub fn grant(
         work.len(),
         &mut list,
         &mut x,
-    );
-    match a {
-        Counted::Refused(f) => Wished::Refused(f),
-        Counted::Nodes(n) => questions(&x, n, goals, wishes, &mut list, allowance, settings, work),
-    }
+    )?;
+    questions(&x, n, goals, wishes, &mut list, allowance, settings, work)
 }

@@ -1,24 +1,11 @@
 -- Laws of a copy into a list. Assumes nothing.
 use mathlib.Core.Path.{◌≡◌, ap}
 use mathlib.Core.List.{List, ◌++◌, append_assoc}
-use Prim.Native.Nat.{ℕ, zero, suc, ◌+◌, ◌-◌, ◌<◌, ◌≤◌}
+use Prim.Native.Nat.{ℕ, zero, suc, ◌-◌, ◌≤◌}
 use native.Mathlib.Nat.{zero-add, sub-zero, le_of_suc-le-suc, not-suc-le-zero}
-use native.Mathlib.Numerals.{add-one}
 use native.Mathlib.Omega.{arith}
-use lib.ListN.{length, get_or, set, drop, replicate, length-replicate}
-use lib.Seq.{paste, paste-suc, take-length, take-append_seam, drop-append-add, drop-append-le}
-
--- a turn of the loop copies one element more
-pub copy_more : {out : List ℕ} (d : List ℕ) (at : ℕ) (s : List ℕ) (i : ℕ) → out ≡ paste d at s i → at + i < length d → i < length s
-    → set out (at + i) (get_or s i 0) ≡ paste d at s (i + 1)
-copy_more d at s i e hd hs = rw (e, add-one) (paste-suc d at s i 0 hd hs)
-
--- .. and past the last turn all are copied
-pub copy_done : {out : List ℕ} (d : List ℕ) (at : ℕ) (s : List ℕ) (i : ℕ) → out ≡ paste d at s i → i ≤ length s → length s ≤ i
-    → out ≡ paste d at s (length s)
-copy_done d at s i e h k =
-    let q : i ≡ length s = omega arith in
-    rw (← q) e
+use lib.ListN.{length, drop, replicate, length-replicate}
+use lib.Seq.{paste, take-length, take-append_seam, drop-append-add, drop-append-le}
 
 -- a copy to the start
 pub copy_front : (d : List ℕ) {s t : List ℕ} {n : ℕ} → s ≡ t → length s ≡ n → paste d 0 s (length s) ≡ t ++ drop n d

@@ -15,14 +15,14 @@ overflow_add-k c = omega (arith, c.requires.count, c.if-work-k.false)
 pub base-end-requires : goal.base-end-requires
 base-end-requires c = (c.requires.size, omega (arith, c.requires.count, c.if-work-k.false))
 
-pub base-s-requires : goal.base-s-requires
-base-s-requires c = (c.requires.size, omega (arith, c.requires.count, c.if-work-k.false))
+pub base-start-requires : goal.base-start-requires
+base-start-requires c = (c.requires.size, omega (arith, c.requires.count, c.if-work-k.false))
 
 pub loop-s-init : goal.loop-s-init
 loop-s-init c = let w = c.args.work.now in
     let k = c.args.k in (
       omega (arith, c.base-end.ensures, c.requires.ends k (omega (arith, c.if-work-k.false))),
-      empty_starts w k (omega (arith, c.if-work-k.false)) c.base-s.ensures
+      empty_starts w k (omega (arith, c.if-work-k.false)) c.base-start.ensures
           c.base-end.ensures,
     )
 
@@ -34,16 +34,13 @@ returns-then-strike_in-ne-NOTES c = let w = c.args.work.now in
     let k = c.args.k in
     empty-falls w k c.loop-s.s c.base-end.result c.loop-s.invariant.1 c.loop-s-test.true c.strike_in.ensures c.if-strike_in-ne-NOTES.true
 
-pub overflow_add-s : goal.overflow_add-s
-overflow_add-s c = omega (arith, c.loop-s.invariant.0, c.loop-s-test.true)
-
-pub loop-s-smaller : goal.loop-s-smaller
-loop-s-smaller c = omega (arith, c.loop-s-test.true)
-
 pub loop-s-preserved : goal.loop-s-preserved
 loop-s-preserved c = let w = c.args.work.now in
-    let k = c.args.k in
-    (c.loop-s.invariant.0, empty-later w k c.loop-s.s c.base-end.result c.loop-s.invariant.1 c.loop-s-test.true c.strike_in.ensures c.if-strike_in-ne-NOTES.false)
+    let k = c.args.k in (
+      c.loop-s.invariant.0,
+      empty-later w k c.loop-s.s c.base-end.result c.loop-s.invariant.1 c.loop-s-test.true c.strike_in.ensures
+          c.if-strike_in-ne-NOTES.false,
+    )
 
 pub returns : goal.returns
 returns c = let w = c.args.work.now in

@@ -8,7 +8,12 @@ returns-then-strike_in-ne0 c = true_struck c.args.work.now c.args.s c.strike_in.
 
 pub value-requires : goal.value-requires
 value-requires c = record {
-  area_size_in_bounds = (c.requires.area_size_in_bounds.0, c.requires.area_size_in_bounds.1, omega (arith, c.literal_in.ensures, c.requires.area_size_in_bounds.3));
+  area_size_in_bounds = (
+    c.requires.area_size_in_bounds.0,
+    c.requires.area_size_in_bounds.1,
+    omega
+        (arith, c.literal_in.ensures, c.requires.area_size_in_bounds.3),
+  );
   vals = c.requires.vals;
 }
 

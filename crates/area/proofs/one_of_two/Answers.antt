@@ -2,17 +2,17 @@
 use Rattle.area.proofs.Remains.{two-first, two_second, two-both, two-whole, two_none}
 use Rattle.area.proofs.one_of_two.Goals as goal
 
-pub returns-then-second-eq-NOTES : goal.returns-then-second-eq-NOTES
-returns-then-second-eq-NOTES c = two-first c.args.work.now c.args.s c.strike_in-first.ensures c.strike_in-second.ensures c.if-first-eq0.true c.if-second-eq-NOTES.true
+pub returns-in-0-eq8192 : goal.returns-in-0-eq8192
+returns-in-0-eq8192 c = two-first c.args.work.now c.args.s c.strike_in-first.ensures c.strike_in-second.ensures c.in-0-eq8192.is-0 c.in-0-eq8192.is-1
 
-pub returns-then-first-eq0 : goal.returns-then-first-eq0
-returns-then-first-eq0 c = two-both c.args.work.now c.args.s c.strike_in-first.ensures c.strike_in-second.ensures c.if-first-eq0.true c.if-second-eq-NOTES.false
+pub returns-in-8192-eq0 : goal.returns-in-8192-eq0
+returns-in-8192-eq0 c = two_second c.args.work.now c.args.s c.strike_in-first.ensures c.strike_in-second.ensures c.in-8192-eq0.is-0 c.in-8192-eq0.is-1
 
-pub returns-then-first-ne-NOTES : goal.returns-then-first-ne-NOTES
-returns-then-first-ne-NOTES c = two-whole c.args.work.now c.args.s c.strike_in-first.ensures c.strike_in-second.ensures c.if-first-eq0.false c.if-first-ne-NOTES.true
+pub returns-in_default : goal.returns-in_default
+returns-in_default c = two-both c.args.work.now c.args.s c.strike_in-first.ensures c.strike_in-second.ensures c.in_default.is-0 c.in_default.is-1.1
 
-pub returns-then-second-eq0 : goal.returns-then-second-eq0
-returns-then-second-eq0 c = two_second c.args.work.now c.args.s c.strike_in-first.ensures c.strike_in-second.ensures c.if-first-ne-NOTES.false c.if-second-eq0.true
+pub returns-in_default-2 : goal.returns-in_default-2
+returns-in_default-2 c = two_none c.args.work.now c.args.s c.strike_in-first.ensures c.strike_in-second.ensures c.in_default.is-0 c.in_default.is-1.1
 
-pub returns : goal.returns
-returns c = two_none c.args.work.now c.args.s c.strike_in-first.ensures c.strike_in-second.ensures c.if-first-ne-NOTES.false c.if-second-eq0.false
+pub returns-in_default-3 : goal.returns-in_default-3
+returns-in_default-3 c = two-whole c.args.work.now c.args.s c.strike_in-first.ensures c.strike_in-second.ensures c.in_default.is-0.0.1 c.in_default.is-0.1

@@ -13,35 +13,35 @@ base-start-requires c = (c.requires.0.size, omega (arith, c.requires.0.count, c.
 pub overflow_add-k : goal.overflow_add-k
 overflow_add-k c = omega (arith, c.requires.0.count, c.requires.1)
 
-pub base-s-requires : goal.base-s-requires
-base-s-requires c = (c.requires.0.size, omega (arith, c.requires.0.count, c.requires.1))
+pub base-end-requires : goal.base-end-requires
+base-end-requires c = (c.requires.0.size, omega (arith, c.requires.0.count, c.requires.1))
 
 pub loop-s-init : goal.loop-s-init
 loop-s-init c = let w = c.args.work.now in
     let k = c.args.k in
     let H = c.requires.1 in (
-      omega (arith, c.base-start.ensures, c.base-s.ensures, c.requires.0.ends k H),
-      omega (arith, c.base-s.ensures),
+      omega (arith, c.base-start.ensures, c.base-end.ensures, c.requires.0.ends k H),
+      omega (arith, c.base-end.ensures),
       (c.requires.0.ends k H).1,
       sym
-          (ap left_of (free_none w c.base-s.result (base_at w (c.args.k + 1)) (omega (arith, c.base-s.ensures)))),
+          (ap left_of (free_none w c.base-end.result (base_at w (c.args.k + 1)) (omega (arith, c.base-end.ensures)))),
     )
-
-pub overflow_sub-s : goal.overflow_sub-s
-overflow_sub-s c = omega (arith, c.loop-s-test.true)
 
 pub strike_in-requires : goal.strike_in-requires
 strike_in-requires c = (c.requires.0.size, omega (arith, c.loop-s.invariant, c.loop-s-test.true))
 
 pub counted-left-requires : goal.counted-left-requires
 counted-left-requires c = let w = c.args.work.now in (
-  omega
-      (arith, c.loop-s.invariant, c.loop-s-test.true, ap (λ (x : Left). x.count) c.loop-s.invariant.3, free_most w c.loop-s.s ((base_at w (c.args.k + 1)) - c.loop-s.s)),
+  omega (
+    arith,
+    c.loop-s.invariant,
+    c.loop-s-test.true,
+    ap (λ (x : Left). x.count) c.loop-s.invariant.3,
+    free_most w c.loop-s.s
+        ((base_at w (c.args.k + 1)) - c.loop-s.s),
+  ),
   omega (arith, c.loop-s.invariant, c.loop-s-test.true),
 )
-
-pub loop-s-smaller : goal.loop-s-smaller
-loop-s-smaller c = omega (arith, c.loop-s-test.true)
 
 pub loop-s-preserved : goal.loop-s-preserved
 loop-s-preserved c = let w = c.args.work.now in (

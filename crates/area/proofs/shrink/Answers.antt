@@ -1,4 +1,5 @@
--- `area::shrink` meets its contract. The loop's invariant: the literals held are the first ones, and no fewer than are to stay. The measure is how many are held. Assumes nothing.
+-- `area::shrink` meets its contract. The loop's invariant: the literals held are the first ones, and no fewer than are to stay. The
+-- measure is how many are held. Assumes nothing.
 use native.Mathlib.Omega.{arith}
 use Rattle.area.proofs.Stores.{shrink_starts, shrink_goes, shrink_ends}
 use Rattle.area.proofs.shrink.Goals as goal
@@ -11,7 +12,12 @@ bounds-work-28469 c = omega (arith, c.loop-work.invariant.1.size, c.requires.are
 
 pub pop-requires : goal.pop-requires
 pop-requires c = record {
-  area_size_in_bounds = (omega (arith, c.loop-work.invariant.1.size, c.requires.area_size_in_bounds.0), c.requires.area_size_in_bounds.1, omega (arith, c.loop-work-test.true));
+  area_size_in_bounds = (
+    omega (arith, c.loop-work.invariant.1.size, c.requires.area_size_in_bounds.0),
+    c.requires.area_size_in_bounds.1,
+    omega
+        (arith, c.loop-work-test.true),
+  );
   trail = c.loop-work.invariant.1.trail;
 }
 

@@ -6,6 +6,3 @@ use Rattle.area.proofs.stands.Given as goal
 
 abbrev pub invariant-loop-s : goal.invariant-loop-s
 invariant-loop-s l = (l.end ≤ most_slots) × (stands_in l.work l.k ≡ not (whole_in l.work l.s (l.end - l.s)))
-
-abbrev pub decreases-loop-s : goal.decreases-loop-s
-decreases-loop-s l = l.end - l.s

@@ -8,7 +8,11 @@ pub bounds-work-m : goal.bounds-work-m
 bounds-work-m c = simp length-set (omega arith)
 
 pub overflow_add-work-4 : goal.overflow_add-work-4
-overflow_add-work-4 c = omega (arith, struck_fits c.args.work.now c.args.m c.args.kind c.requires.area_size_in_bounds.0 c.requires.area_size_in_bounds.1 c.requires.area_size_in_bounds.2 c.requires.notes_value.0 c.requires.notes_value.1 c.requires.area_size_in_bounds.3)
+overflow_add-work-4 c = omega (
+  arith,
+  struck_fits c.args.work.now c.args.m c.args.kind c.requires.area_size_in_bounds.0 c.requires.area_size_in_bounds.1
+      c.requires.area_size_in_bounds.2 c.requires.notes_value.0 c.requires.notes_value.1 c.requires.area_size_in_bounds.3,
+)
 
 pub bounds-work-m-2 : goal.bounds-work-m-2
 bounds-work-m-2 c = simp length-set (omega arith)
@@ -17,4 +21,5 @@ pub bounds-work-2-2 : goal.bounds-work-2-2
 bounds-work-2-2 c = simp length-set (omega arith)
 
 pub returns : goal.returns
-returns c = is_struck c.args.work.now c.args.m c.args.kind c.requires.area_size_in_bounds.0 c.requires.area_size_in_bounds.1 c.requires.area_size_in_bounds.2 c.requires.notes_value.0 c.requires.notes_value.1
+returns c = is_struck c.args.work.now c.args.m c.args.kind c.requires.area_size_in_bounds.0 c.requires.area_size_in_bounds.1 c.requires.area_size_in_bounds.2
+    c.requires.notes_value.0 c.requires.notes_value.1

@@ -13,35 +13,33 @@ overflow_add-k c = omega (arith, c.requires.ranged.0.count, c.requires.ranged.1)
 pub base-end-requires : goal.base-end-requires
 base-end-requires c = (c.requires.ranged.0.size, omega (arith, c.requires.ranged.0.count, c.requires.ranged.1))
 
-pub base-s-requires : goal.base-s-requires
-base-s-requires c = (c.requires.ranged.0.size, omega (arith, c.requires.ranged.0.count, c.requires.ranged.1))
+pub base-start-requires : goal.base-start-requires
+base-start-requires c = (c.requires.ranged.0.size, omega (arith, c.requires.ranged.0.count, c.requires.ranged.1))
 
 pub loop-s-init : goal.loop-s-init
 loop-s-init c = let w = c.args.work.now in
     let k = c.args.k in (
       omega (arith, c.base-end.ensures, c.requires.ranged.0.ends k c.requires.ranged.1),
       sym
-          (ap (λ (x : ℕ). true_from w x (c.base-end.result - x)) c.base-s.ensures ∙ ap (λ (x : ℕ). true_from w (base_at w k) (x - base_at w k)) c.base-end.ensures),
+          (ap (λ (x : ℕ). true_from w x (c.base-end.result - x)) c.base-start.ensures
+          ∙ ap (λ (x : ℕ). true_from w (base_at w k) (x - base_at w k)) c.base-end.ensures),
     )
 
 pub is_true-requires : goal.is_true-requires
 is_true-requires c = record {
-  area_size_in_bounds = (c.requires.ranged.0.size, c.requires.ranged.2, omega (arith, c.loop-s.invariant.0, c.loop-s-test.true), c.requires.vals.1 c.loop-s.s (omega (arith, c.loop-s-test.true, c.base-end.ensures)));
+  area_size_in_bounds = (
+    c.requires.ranged.0.size,
+    c.requires.ranged.2,
+    omega (arith, c.loop-s.invariant.0, c.loop-s-test.true),
+    c.requires.vals.1 c.loop-s.s
+        (omega (arith, c.loop-s-test.true, c.base-end.ensures)),
+  );
   vals = c.requires.vals.0;
 }
-
-pub overflow_add-result : goal.overflow_add-result
-overflow_add-result c = omega (arith, c.loop-s.invariant.0, c.loop-s-test.true)
 
 pub returns-then-is_true : goal.returns-then-is_true
 returns-then-is_true c = let w = c.args.work.now in
     true_found w c.loop-s.s c.base-end.result _ c.loop-s.invariant.1 c.loop-s-test.true c.is_true.ensures c.if-is_true.true
-
-pub overflow_add-s : goal.overflow_add-s
-overflow_add-s c = omega (arith, c.loop-s.invariant.0, c.loop-s-test.true)
-
-pub loop-s-smaller : goal.loop-s-smaller
-loop-s-smaller c = omega (arith, c.loop-s-test.true)
 
 pub loop-s-preserved : goal.loop-s-preserved
 loop-s-preserved c = let w = c.args.work.now in

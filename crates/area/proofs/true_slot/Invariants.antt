@@ -5,6 +5,3 @@ use Rattle.area.proofs.true_slot.Given as goal
 
 abbrev pub invariant-loop-s : goal.invariant-loop-s
 invariant-loop-s l = (l.end ≤ most_slots) × (true_from l.work (base_at l.work l.k) (length_at l.work l.k) ≡ true_from l.work l.s (l.end - l.s))
-
-abbrev pub decreases-loop-s : goal.decreases-loop-s
-decreases-loop-s l = l.end - l.s

@@ -13,9 +13,11 @@ returns-then-e-eq0 c = let w = c.args.work.now in
 pub returns-then-e-l : goal.returns-then-e-l
 returns-then-e-l c = let w = c.args.work.now in
     let l = c.args.l in
-    side-true (trail_at w (2017 + c.args.l / 2)) (c.args.l % 2) (value_of (g_of w) l) c.if-e-eq0.false c.if-e-l.true (c.requires.vals l c.requires.area_size_in_bounds.2)
+    side-true (trail_at w (2017 + c.args.l / 2)) (c.args.l % 2) (value_of (g_of w) l) c.if-e-eq0.false c.if-e-l.true
+    (c.requires.vals l c.requires.area_size_in_bounds.2)
 
 pub returns-else-e-l : goal.returns-else-e-l
 returns-else-e-l c = let w = c.args.work.now in
     let l = c.args.l in
-    side-false (trail_at w (2017 + c.args.l / 2)) (c.args.l % 2) (value_of (g_of w) l) c.if-e-eq0.false c.if-e-l.false (c.requires.vals l c.requires.area_size_in_bounds.2)
+    side-false (trail_at w (2017 + c.args.l / 2)) (c.args.l % 2) (value_of (g_of w) l) c.if-e-eq0.false c.if-e-l.false
+    (c.requires.vals l c.requires.area_size_in_bounds.2)

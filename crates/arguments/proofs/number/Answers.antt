@@ -7,7 +7,11 @@ use Rattle.text.specs.Text.{read_number}
 use Rattle.arguments.proofs.number.Goals as goal
 
 pub returns-in-Ok : goal.returns-in-Ok
-returns-in-Ok g c = record { text = take c.in-Ok.n c.arg.new.buf; short = omega (arith, length-take c.in-Ok.n c.arg.new.buf, c.arg.auto.buf, c.in-Ok.ensures.bound); says = c.value.ensures }
+returns-in-Ok g c = record {
+  text = take c.in-Ok.n c.arg.new.buf;
+  short = omega (arith, length-take c.in-Ok.n c.arg.new.buf, c.arg.auto.buf, c.in-Ok.ensures.bound);
+  says = c.value.ensures;
+}
 
 pub returns-in-Err : goal.returns-in-Err
 unfolding read_number

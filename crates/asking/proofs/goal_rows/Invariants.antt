@@ -7,6 +7,3 @@ use Rattle.asking.proofs.goal_rows.Given as goal
 
 abbrev pub invariant-loop-i : goal.invariant-loop-i
 invariant-loop-i l = (l.i ≤ length l.goals) × (first (goal_row l.nodes l.goals) l.i (length l.goals - l.i) ≡ goals_test l.nodes l.goals)
-
-abbrev pub decreases-loop-i : goal.decreases-loop-i
-decreases-loop-i l = length l.goals - l.i

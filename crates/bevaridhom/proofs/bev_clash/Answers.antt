@@ -1,6 +1,7 @@
--- `bevaridhom::bev_clash` meets its contract: the answer of `clashing::clash`, field by field. Assumes nothing.
+-- `bevaridhom::bev_clash` meets its contract: the answer of `clashing::clash`, whatever case it is. Assumes nothing.
+use mathlib.Core.Path.{refl}
 use Rattle.bevaridhom.proofs.Hosts.{told-clash}
 use Rattle.bevaridhom.proofs.bev_clash.Goals as goal
 
 pub returns : goal.returns
-returns c = told-clash _ _ _ _ c.clash-c.ensures
+returns c = rw c.from.ensures (told-clash _ _ _ _ _ c.clash.ensures refl)

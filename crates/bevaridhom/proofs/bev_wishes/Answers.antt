@@ -1,9 +1,7 @@
--- `bevaridhom::bev_wishes` meets its contract: the answer of `wishes::grant`, case by case, and its bytes. Assumes nothing.
+-- `bevaridhom::bev_wishes` meets its contract: the answer of `wishes::grant`, whatever case it is. Assumes nothing.
+use mathlib.Core.Path.{refl}
 use Rattle.bevaridhom.proofs.Hosts.{told_wishes}
 use Rattle.bevaridhom.proofs.bev_wishes.Goals as goal
 
-pub returns-in-Granted : goal.returns-in-Granted
-returns-in-Granted c = told_wishes _ _ _ _ _ _ _ _ _ c.grant-c.ensures c.in-Granted.is
-
-pub returns-in-Refused : goal.returns-in-Refused
-returns-in-Refused c = told_wishes _ _ _ _ _ _ _ _ _ c.grant-c.ensures c.in-Refused.is
+pub returns : goal.returns
+returns c = rw c.from.ensures (told_wishes _ _ _ _ _ _ _ _ _ c.grant.ensures refl)

@@ -1,5 +1,5 @@
 -- `block::padding_ok` meets its contract. The loop's invariant: the bytes from i on decide as those from the start do.
--- The measure is what is left up to byte 510. Assumes nothing.
+-- Assumes nothing.
 use mathlib.Core.Path.{◌∙◌, sym, refl}
 use Prim.Native.Nat.{◌-◌}
 use borrow.Author.Rules.{rules}

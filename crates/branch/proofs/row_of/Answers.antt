@@ -17,10 +17,6 @@ pub overflow_add-result : goal.overflow_add-result
 unfolding index_node
 overflow_add-result c = omega (arith, (c.requires.indexed.table.kinds (c.args.l / 2) (omega arith)).1)
 
-pub overflow_cast-result : goal.overflow_cast-result
-unfolding index_node
-overflow_cast-result c = omega (arith, (c.requires.indexed.table.kinds (c.args.l / 2) (omega arith)).1)
-
 pub returns : goal.returns
 unfolding index_node
 returns c = (refl, omega (arith, (c.requires.indexed.table.kinds (c.args.l / 2) (omega arith)).1))

@@ -8,4 +8,8 @@ use Rattle.checking.proofs.admit.Goals as goal
 
 pub admit-requires : goal.admit-requires
 admit-requires c = let x = c.args.x.now in
-    record { size = length-take-le chain_cells (drop 0 x) (omega (arith, c.requires.0)); zeros = λ i h. get_or-take chain_cells (drop 0 x) i 0 h ∙ c.requires.1 i h }
+    record {
+      size = length-take-le chain_cells (drop 0 x) (omega (arith, c.requires.0));
+      zeros = λ i h. get_or-take chain_cells (drop 0 x) i 0 h
+          ∙ c.requires.1 i h;
+    }

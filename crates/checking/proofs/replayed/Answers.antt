@@ -9,11 +9,11 @@ judged-requires c = record {
   indexed = c.requires.indexed;
   goals = c.requires.goals;
   area_size_in_bounds = c.requires.area_size_in_bounds;
-  by_index = steps_within _ (sym c.count-o.ensures ∙ ap opened_of c.in-Steps.is);
+  by_index = steps_within _ (sym c.count.ensures ∙ ap opened_of c.in_ok-count.was);
 }
 
-pub returns-in-Refused : goal.returns-in-Refused
-returns-in-Refused c = form_refused _ _ _ _ _ _ (sym c.count-o.ensures ∙ ap opened_of c.in-Refused.is)
+pub returns-in_err-count : goal.returns-in_err-count
+returns-in_err-count c = form_refused _ _ _ _ _ _ (sym c.count.ensures ∙ ap opened_of c.in_err-count.was) c.from_residual.ensures.1
 
-pub returns-in-Steps : goal.returns-in-Steps
-returns-in-Steps c = steps_end _ (sym c.count-o.ensures ∙ ap opened_of c.in-Steps.is) c.judged.ensures
+pub returns : goal.returns
+returns c = steps_end _ (sym c.count.ensures ∙ ap opened_of c.in_ok-count.was) c.judged.ensures

@@ -1,5 +1,6 @@
 -- `clashing::argue` meets its contract: 63 where the search of all goals finds a model, else the walk. Assumes nothing.
-use mathlib.Core.Path.{◌∙◌}
+use mathlib.Core.Path.{ap, ◌∙◌}
+use Rattle.std.specs.Prelude.{Ok}
 use Rattle.rests.proofs.Held.{sets_blank}
 use Rattle.clashing.proofs.Turns.{together, argued_model, argued_closed}
 use Rattle.clashing.proofs.argue.Goals as goal
@@ -20,7 +21,7 @@ narrow-requires c = record {
 }
 
 pub returns-in-Model : goal.returns-in-Model
-returns-in-Model c = c.refuse.ensures ∙ argued_model c.solve-found.ensures.solved c.in-Model.is
+returns-in-Model c = argued_model c.solve-found.ensures.solved c.in-Model.is
 
 pub returns-in-Closed : goal.returns-in-Closed
-returns-in-Closed c = c.narrow.ensures ∙ argued_closed c.solve-found.ensures.solved c.in-Closed.is
+returns-in-Closed c = ap Ok c.narrow.ensures ∙ argued_closed c.solve-found.ensures.solved c.in-Closed.is

@@ -1,14 +1,12 @@
 -- `clashing::narrow` meets its contract: before each turn, what is left of the walk gives what all of it does. Assumes nothing.
 use mathlib.Core.Path.{refl, sym, ap, ◌∙◌}
-use mathlib.Core.List.{List}
-use Prim.Native.Nat.{ℕ, ◌+◌, ◌<◌, ◌≤◌}
+use Prim.Native.Nat.{◌+◌, ◌<◌, ◌≤◌}
 use native.Mathlib.Omega.{arith}
 use lib.ListN.{length}
-use Rattle.scope.specs.Outcome.{answer}
 use Rattle.calculus.specs.Model.{most_goals}
 use Rattle.index.specs.Index.{index_node}
 use Rattle.questions.specs.Asking.{asks}
-use Rattle.clashing.specs.Clashes.{clashed_of}
+use Rattle.clashing.specs.Clashes.{counted_kept}
 use Rattle.clashing.proofs.Turns.{narrowing_none, ends-in, asking, tested, turn-passes, turn-waits, turn-room, turn-keeps, turn-none}
 use borrow.Author.Rules.{rules}
 use Rattle.clashing.proofs.narrow.Goals as goal
@@ -125,4 +123,4 @@ pub shape_of-work : goal.shape_of-work
 shape_of-work c = c.loop-i.invariant.0.1
 
 pub returns : goal.returns
-returns c = c.give.ensures ∙ ap (λ (is : List ℕ). clashed_of (answer is)) (turn-none (omega arith) c.loop-i.invariant.1.0)
+returns c = c.give.ensures ∙ ap counted_kept (turn-none (omega arith) c.loop-i.invariant.1.0)

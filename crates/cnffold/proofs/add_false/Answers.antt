@@ -5,11 +5,13 @@ use Rattle.cnffold.proofs.Built.{grows_as, grows_stops, grows_false}
 use Rattle.cnffold.proofs.Folds.{false-is}
 use Rattle.cnffold.proofs.add_false.Goals as goal
 
-pub returns-in_default : goal.returns-in_default
-returns-in_default c = grows_as (λ buf q. false-is c.args.keys.now c.args.nodes buf) (grows_stops c.add_true-a.ensures (λ buf u. answer (at u (opposite u.literal))) c.in_default.is)
+pub returns-in_err-l : goal.returns-in_err-l
+returns-in_err-l c = grows_as
+    (λ buf q. false-is c.args.nodes.now buf)
+    (grows_stops c.add_true.ensures (λ buf u. answer (at u (opposite u.literal))) c.in_err-l.was c.from_residual.ensures.1)
 
 pub opposite-requires : goal.opposite-requires
-opposite-requires c = c.add_true-a.ensures.low _ c.in-At.is
+opposite-requires c = c.add_true.ensures.low _ c.in_ok-l.was
 
 pub returns : goal.returns
-returns c = grows_false c.args.keys.now c.args.nodes c.add_true-a.ensures c.in-At.is c.opposite.ensures
+returns c = grows_false c.args.nodes.now c.add_true.ensures c.in_ok-l.was c.opposite.ensures

@@ -1,45 +1,67 @@
 -- `cnffold::add_pair` meets its contract: rows 15 and 16, then the node of the number. Assumes nothing.
-use mathlib.Core.Path.{refl}
-use Rattle.growing.specs.Growing.{key_of}
+use mathlib.Core.Path.{◌≡◌, refl}
+use Prim.Native.Nat.{ℕ, ◌<◌}
+use Rattle.scope.specs.Outcome.{answer}
+use Rattle.scope.specs.Table.{node_bytes, read_record}
+use Rattle.scope.specs.Calls.{normalized}
+use Rattle.growing.specs.Growing.{node_in, key_of}
 use Rattle.cnf.specs.Fold.{node}
+use Rattle.cnffold.specs.declared.Pair.{Pair}
+use Rattle.cnffold.specs.Built.{InOrder}
 use Rattle.cnffold.proofs.Built.{key_reads, grows_put, grows_refused, put_refused}
 use Rattle.cnffold.proofs.Pairs.{key_node, order_low, pair-15, pair-16, pair_reads}
 use native.Mathlib.Omega.{arith}
 use Rattle.cnffold.proofs.add_pair.Goals as goal
+use Rattle.cnffold.proofs.add_pair.Goals.{Else-o}
 
-pub returns-then-nodes-o : goal.returns-then-nodes-o
-returns-then-nodes-o c = let k = c.requires.lt_kind in
-    grows_refused refl (λ buf q. put_refused c.requires.under buf q c.args.kind c.args.a c.args.b (pair-15 c.args.kind k.0 k.1 c.args.a c.args.b c.args.nodes c.in_order-o.ensures c.if-nodes-o.true))
+-- the node of two literals in order
+ordered : (kind : ℕ) {a b : ℕ} {r : Pair} → InOrder a b r → a < 4032 → b < 4032 → node_in (key_of kind r.low r.high) ≡ node kind r.low r.high
+ordered kind {r = r} o h k =
+    let low = order_low o h k in
+    key_node kind r.low r.high (omega (arith, low.0)) (omega (arith, low.1))
+
+-- it reads behind the nodes that there are
+reads : (c : goal.Else-o) → read_record (normalized (node_bytes (node c.args.kind c.args.a c.args.b))) c.args.nodes.now.count ≡ answer (node c.args.kind c.in_order-o.result.low c.in_order-o.result.high)
+reads c = let k = c.requires in
+    rw (← c.count-place.ensures.0) (pair_reads c.args.kind k.0 k.1 c.args.a c.args.b c.count-place.result c.in_order-o.ensures c.if-place-o.false c.if-o.false)
+
+pub returns-then-place-o : goal.returns-then-place-o
+returns-then-place-o c = let k = c.requires in
+    let t = c.count-place.ensures in
+    grows_refused refl refl
+    (λ buf q. put_refused t.1 buf q c.args.kind c.args.a c.args.b
+    (rw (← t.0) (pair-15 c.args.kind k.0 k.1 c.args.a c.args.b c.count-place.result c.in_order-o.ensures c.if-place-o.true)))
 
 pub returns-then-o : goal.returns-then-o
-returns-then-o c = let k = c.requires.lt_kind in
-    grows_refused refl (λ buf q. put_refused c.requires.under buf q c.args.kind c.args.a c.args.b (pair-16 c.args.kind k.0 k.1 c.args.a c.args.b c.args.nodes c.in_order-o.ensures c.if-nodes-o.false c.if-o.true))
+returns-then-o c = let k = c.requires in
+    let t = c.count-place.ensures in
+    grows_refused refl refl
+    (λ buf q. put_refused t.1 buf q c.args.kind c.args.a c.args.b
+    (rw (← t.0) (pair-16 c.args.kind k.0 k.1 c.args.a c.args.b c.count-place.result c.in_order-o.ensures c.if-place-o.false c.if-o.true)))
 
 pub overflow_mul-kind : goal.overflow_mul-kind
-overflow_mul-kind c = omega (arith, c.requires.lt_kind)
+overflow_mul-kind c = omega (arith, c.requires)
 
 pub overflow_mul-o : goal.overflow_mul-o
-overflow_mul-o c = omega (arith, order_low c.in_order-o.ensures c.requires.lt_kind.2 c.requires.lt_kind.3)
+overflow_mul-o c = omega (arith, order_low c.in_order-o.ensures c.requires.2 c.requires.3)
 
 pub overflow_add-o : goal.overflow_add-o
-overflow_add-o c = omega (arith, order_low c.in_order-o.ensures c.requires.lt_kind.2 c.requires.lt_kind.3)
+overflow_add-o c = omega (arith, order_low c.in_order-o.ensures c.requires.2 c.requires.3)
 
 pub overflow_cast-o : goal.overflow_cast-o
-overflow_cast-o c = omega (arith, order_low c.in_order-o.ensures c.requires.lt_kind.2 c.requires.lt_kind.3)
+overflow_cast-o c = omega (arith, order_low c.in_order-o.ensures c.requires.2 c.requires.3)
 
 pub overflow_add-kind : goal.overflow_add-kind
-overflow_add-kind c = omega (arith, order_low c.in_order-o.ensures c.requires.lt_kind.2 c.requires.lt_kind.3, c.requires.lt_kind.1)
+overflow_add-kind c = omega (arith, order_low c.in_order-o.ensures c.requires.2 c.requires.3, c.requires.1)
 
 pub grow-requires : goal.grow-requires
-grow-requires c = let k = c.requires.lt_kind in
+grow-requires c =
     let o = c.in_order-o.result in
-    let low = order_low c.in_order-o.ensures k.2 k.3 in
-    let reads = pair_reads c.args.kind k.0 k.1 c.args.a c.args.b c.args.nodes c.in_order-o.ensures c.if-nodes-o.false c.if-o.false in
-    (c.requires.under, key_reads (key_of c.args.kind o.low o.high) (node c.args.kind c.args.a c.args.b) (node c.args.kind o.low o.high) c.args.nodes (key_node c.args.kind o.low o.high (omega (arith, low.0)) (omega (arith, low.1))) reads)
+    key_reads (key_of c.args.kind o.low o.high) (node c.args.kind c.args.a c.args.b) (node c.args.kind o.low o.high) c.args.nodes.now.count
+    (ordered c.args.kind c.in_order-o.ensures c.requires.2 c.requires.3) (reads (goal.at.grow-requires c).Else-o)
 
 pub returns : goal.returns
-returns c = let k = c.requires.lt_kind in
+returns c =
     let o = c.in_order-o.result in
-    let low = order_low c.in_order-o.ensures k.2 k.3 in
-    let reads = pair_reads c.args.kind k.0 k.1 c.args.a c.args.b c.args.nodes c.in_order-o.ensures c.if-nodes-o.false c.if-o.false in
-    grows_put c.requires.under (key_of c.args.kind o.low o.high) c.args.kind c.args.a c.args.b (node c.args.kind o.low o.high) (key_node c.args.kind o.low o.high (omega (arith, low.0)) (omega (arith, low.1))) reads c.grow.ensures
+    grows_put c.grow.ensures.0 (key_of c.args.kind o.low o.high) c.args.kind c.args.a c.args.b (node c.args.kind o.low o.high)
+    (ordered c.args.kind c.in_order-o.ensures c.requires.2 c.requires.3) (reads (goal.at.returns c).Else-o) c.grow.ensures.1

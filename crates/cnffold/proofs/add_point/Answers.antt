@@ -7,7 +7,9 @@ use Rattle.cnffold.proofs.Pairs.{point_node}
 use Rattle.cnffold.proofs.add_point.Goals as goal
 
 pub grow-requires : goal.grow-requires
-grow-requires c = let p = c.args.p in (c.requires.0, key_reads (33554432 + p) (node 2 p 0) (node 2 p 0) c.args.nodes (point_node p c.requires.1) (point_reads p c.args.nodes c.requires.1))
+grow-requires c = let p = c.args.p in
+    key_reads (33554432 + p) (node 2 p 0) (node 2 p 0) c.args.nodes.now.count (point_node p c.requires) (point_reads p c.args.nodes.now.count c.requires)
 
 pub returns : goal.returns
-returns c = let p = c.args.p in grows_put c.requires.0 (33554432 + p) 2 p 0 (node 2 p 0) (point_node p c.requires.1) (point_reads p c.args.nodes c.requires.1) c.grow.ensures
+returns c = let p = c.args.p in
+    grows_put c.grow.ensures.0 (33554432 + p) 2 p 0 (node 2 p 0) (point_node p c.requires) (point_reads p c.args.nodes.now.count c.requires) c.grow.ensures.1

@@ -7,7 +7,9 @@ use native.Mathlib.Omega.{arith}
 use Rattle.cnffold.proofs.add_true.Goals as goal
 
 pub grow-requires : goal.grow-requires
-grow-requires c = (c.requires, key_reads 16777216 (node 1 0 0) (node 1 0 0) c.args.nodes (key_node 1 0 0 (omega arith) (omega arith)) (true-reads c.args.nodes))
+grow-requires c =
+    key_reads 16777216 (node 1 0 0) (node 1 0 0) c.args.nodes.now.count (key_node 1 0 0 (omega arith) (omega arith)) (true-reads c.args.nodes.now.count)
 
 pub returns : goal.returns
-returns c = grows_put c.requires 16777216 1 0 0 (node 1 0 0) (key_node 1 0 0 (omega arith) (omega arith)) (true-reads c.args.nodes) c.grow.ensures
+returns c =
+    grows_put c.grow.ensures.0 16777216 1 0 0 (node 1 0 0) (key_node 1 0 0 (omega arith) (omega arith)) (true-reads c.args.nodes.now.count) c.grow.ensures.1

@@ -1,25 +1,22 @@
 -- `cnffold::and_join` meets its contract: each return is a case of the join. Assumes nothing.
-use mathlib.Core.Path.{◌∙◌, sym}
+use mathlib.Core.Path.{◌∙◌, sym, refl}
 use Rattle.cnffold.proofs.Built.{grows_as, grows_answer}
 use Rattle.cnffold.proofs.Folds.{and_same, and-opposite, and-put}
 use native.Mathlib.Omega.{arith}
 use Rattle.cnffold.proofs.and_join.Goals as goal
 
 pub returns-then-goal-literal : goal.returns-then-goal-literal
-returns-then-goal-literal c = grows_answer c.requires.goal_bound.1 c.requires.under (λ buf q. and_same c.args.goal c.args.literal c.args.keys.now c.args.nodes buf c.if-goal-literal.true)
+returns-then-goal-literal c = grows_answer c.requires.1 refl (λ buf q. and_same c.args.goal c.args.literal c.args.nodes.now buf c.if-goal-literal.true)
 
 pub returns-then-goal-opposite : goal.returns-then-goal-opposite
 returns-then-goal-opposite c = grows_as
-    (λ buf q. sym (and-opposite c.args.goal c.args.literal c.args.keys.now c.args.nodes buf c.if-goal-literal.false (c.if-goal-opposite.true ∙ c.opposite.ensures)))
+    (λ buf q. sym (and-opposite c.args.goal c.args.literal c.args.nodes.now buf c.if-goal-literal.false (c.if-goal-opposite.true ∙ c.opposite.ensures)))
     c.add_false.ensures
 
 pub add_pair-requires : goal.add_pair-requires
-add_pair-requires c = record {
-  under = c.requires.under;
-  lt_kind = (omega arith, omega arith, c.requires.goal_bound.0, c.requires.goal_bound.1);
-}
+add_pair-requires c = (omega arith, omega arith, c.requires.0, c.requires.1)
 
 pub returns : goal.returns
 returns c = grows_as
-    (λ buf q. sym (and-put c.args.goal c.args.literal c.args.keys.now c.args.nodes buf c.if-goal-literal.false (λ z. c.if-goal-opposite.false (z ∙ sym c.opposite.ensures))))
+    (λ buf q. sym (and-put c.args.goal c.args.literal c.args.nodes.now buf c.if-goal-literal.false (λ z. c.if-goal-opposite.false (z ∙ sym c.opposite.ensures))))
     c.add_pair.ensures

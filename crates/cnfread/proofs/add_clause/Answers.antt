@@ -5,18 +5,8 @@ use Rattle.cnffold.proofs.Built.{grows_as}
 use Rattle.cnfread.proofs.Joining.{folded-true, folded_or}
 use Rattle.cnfread.proofs.add_clause.Goals as goal
 
-pub add_true-requires : goal.add_true-requires
-add_true-requires c = c.requires.0
-
 pub returns-then-both : goal.returns-then-both
-returns-then-both c = grows_as (λ buf q. folded-true (state 0 c.args.keys.now c.args.nodes buf) (take c.args.count c.args.held.now) c.if-both.true) c.add_true.ensures
-
-pub or_clause-requires : goal.or_clause-requires
-or_clause-requires c = let w = c.requires in
-    record {
-      under = w.0;
-      small = w.1;
-    }
+returns-then-both c = grows_as (λ buf q. folded-true (state 0 c.args.nodes.now buf) (take c.args.count c.args.held.now) c.if-both.true) c.add_true.ensures
 
 pub returns : goal.returns
-returns c = grows_as (λ buf q. folded_or (state 0 c.args.keys.now c.args.nodes buf) (take c.args.count c.args.held.now) c.if-both.false) c.or_clause.ensures
+returns c = grows_as (λ buf q. folded_or (state 0 c.args.nodes.now buf) (take c.args.count c.args.held.now) c.if-both.false) c.or_clause.ensures

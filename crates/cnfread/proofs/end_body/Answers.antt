@@ -1,14 +1,12 @@
 -- `cnfread::end_body` meets its contract: TRUE, or the goal so far. Assumes nothing.
+use mathlib.Core.Path.{refl}
 use Rattle.growing.specs.Growing.{state}
 use Rattle.cnffold.proofs.Built.{grows_as, grows_answer}
 use Rattle.cnfread.proofs.Joining.{ended-none, ended_some}
 use Rattle.cnfread.proofs.end_body.Goals as goal
 
-pub add_true-requires : goal.add_true-requires
-add_true-requires c = c.requires.0
-
 pub returns-then-none : goal.returns-then-none
-returns-then-none c = grows_as (λ buf q. ended-none (state c.args.goal c.args.keys.now c.args.nodes buf) c.if-none.true) c.add_true.ensures
+returns-then-none c = grows_as (λ buf q. ended-none (state c.args.goal c.args.nodes.now buf) c.if-none.true) c.add_true.ensures
 
 pub returns : goal.returns
-returns c = grows_answer c.requires.1 c.requires.0 (λ buf q. ended_some (state c.args.goal c.args.keys.now c.args.nodes buf) c.if-none.false)
+returns c = grows_answer c.requires refl (λ buf q. ended_some (state c.args.goal c.args.nodes.now buf) c.if-none.false)

@@ -1,57 +1,50 @@
 -- `cnfread::fold_body` meets its contract: k clauses have been joined. Assumes nothing.
-use mathlib.Core.Path.{refl}
-use Rattle.cnfread.proofs.Joining.{folds_unread, folding_none, folding_bad, folding-other, folding-all, folding-refused, folding-next}
+use mathlib.Core.Path.{ap, refl}
+use Rattle.std.specs.Prelude.{Ok}
+use Rattle.cnfread.proofs.Joining.{handed, folds_unread, folding_none, folding_bad, folding-other, folding-all, folding-refused, folding-next}
 use native.Mathlib.Omega.{arith}
-use borrow.Author.Rules.{rules}
 use Rattle.cnfread.proofs.fold_body.Goals as goal
 
-pub loop-keys-init : goal.loop-keys-init
-loop-keys-init c = (folding_none c.requires.at_in_bounds.0 c.requires.under.0 c.requires.under.1, c.requires.at_in_bounds.2, refl, refl, refl, refl, refl)
+pub loop-c-init : goal.loop-c-init
+loop-c-init c = (folding_none c.requires.at_in_bounds.0 c.requires.lt_literal, c.requires.at_in_bounds.2)
 
-pub gather-g-requires : goal.gather-g-requires
-gather-g-requires c = (c.loop-keys.invariant.0.within, c.requires.at_in_bounds.1, c.loop-keys.invariant.1)
+pub gather-requires : goal.gather-requires
+gather-requires c = (c.loop-c.invariant.0.within, c.requires.at_in_bounds.1, c.loop-c.invariant.1)
 
-pub returns-in-Malformed : goal.returns-in-Malformed
-returns-in-Malformed c = folds_unread (folding_bad c.loop-keys.invariant.0 c.args.clauses (c.gather-g.ensures.bad c.in-Malformed.is))
+pub returns-in_err-c : goal.returns-in_err-c
+returns-in_err-c c = folds_unread
+    (handed c.from_residual.ensures.1) c.loop-c.invariant.0.room_is (folding_bad c.loop-c.invariant.0 c.args.clauses (c.gather.ensures.bad _ c.in_err-c.was))
 
 pub returns-then-k-clauses : goal.returns-then-k-clauses
-returns-then-k-clauses c = folds_unread (folding-other c.loop-keys.invariant.0 c.args.clauses (c.gather-g.ensures.ended c.in-Done.is) c.if-k-clauses.true)
+returns-then-k-clauses c = folds_unread refl c.loop-c.invariant.0.room_is
+    (folding-other c.loop-c.invariant.0 c.args.clauses (c.in_ok-c.ensures.ended (ap Ok c.in_default.is)) c.if-k-clauses.true)
 
-pub end_body-a-requires : goal.end_body-a-requires
-end_body-a-requires c = let f = c.loop-keys.invariant.0 in (f.under, f.low)
-
-pub returns-in-Done : goal.returns-in-Done
-returns-in-Done c = folding-all c.loop-keys.invariant.0 c.args.clauses (c.gather-g.ensures.ended c.in-Done.is) c.if-k-clauses.false c.end_body-a.ensures
-
-pub clear-requires : goal.clear-requires
-clear-requires c = (c.gather-g.ensures.clause _ c.in-Clause.is).keeps
-
-pub join_clause-a-requires : goal.join_clause-a-requires
-join_clause-a-requires c = let f = c.loop-keys.invariant.0 in
-    let r = c.gather-g.ensures.clause _ c.in-Clause.is in
-    (f.under, r.keeps.small, f.low)
+pub end_body-requires : goal.end_body-requires
+end_body-requires c = c.loop-c.invariant.0.low
 
 pub returns-in_default : goal.returns-in_default
-returns-in_default c = let r = c.gather-g.ensures.clause _ c.in-Clause.is in
-    folding-refused c.loop-keys.invariant.0 r c.join_clause-a.ensures c.args.clauses c.in_default.is
+returns-in_default c = folding-all c.loop-c.invariant.0 c.args.clauses (c.in_ok-c.ensures.ended (ap Ok c.in_default.is)) c.if-k-clauses.false c.end_body.ensures
+
+pub clear-requires : goal.clear-requires
+clear-requires c = (c.in_ok-c.ensures.clause c.in-Some.c (ap Ok c.in-Some.is)).keeps
+
+pub join_clause-requires : goal.join_clause-requires
+join_clause-requires c = let r = c.in_ok-c.ensures.clause c.in-Some.c (ap Ok c.in-Some.is) in
+    (r.keeps.small, c.loop-c.invariant.0.low)
+
+pub returns-in_err-goal : goal.returns-in_err-goal
+returns-in_err-goal c = let r = c.in_ok-c.ensures.clause c.in-Some.c (ap Ok c.in-Some.is) in
+    folding-refused c.loop-c.invariant.0 r c.join_clause.ensures c.args.clauses c.in_err-goal.was c.from_residual-in_err-goal.ensures.1
 
 pub overflow_add-k : goal.overflow_add-k
-overflow_add-k c = let f = c.loop-keys.invariant.0 in
-    let r = c.gather-g.ensures.clause _ c.in-Clause.is in
+overflow_add-k c = let f = c.loop-c.invariant.0 in
+    let r = c.in_ok-c.ensures.clause c.in-Some.c (ap Ok c.in-Some.is) in
     omega (arith, c.well_formed, f.slow, r.later, r.within)
 
-pub loop-keys-smaller : goal.loop-keys-smaller
-loop-keys-smaller c = let r = c.gather-g.ensures.clause _ c.in-Clause.is in
+pub loop-c-smaller : goal.loop-c-smaller
+loop-c-smaller c = let r = c.in_ok-c.ensures.clause c.in-Some.c (ap Ok c.in-Some.is) in
     omega (arith, r.later, r.within)
 
-pub loop-keys-preserved : goal.loop-keys-preserved
-loop-keys-preserved c = let v = c.loop-keys.invariant in
-    let r = c.gather-g.ensures.clause _ c.in-Clause.is in (
-      folding-next v.0 r c.join_clause-a.ensures c.in-At.is,
-      c.clear.ensures,
-      search rules,
-      search rules,
-      search rules,
-      search rules,
-      search rules,
-    )
+pub loop-c-preserved : goal.loop-c-preserved
+loop-c-preserved c = let r = c.in_ok-c.ensures.clause c.in-Some.c (ap Ok c.in-Some.is) in
+    (folding-next c.loop-c.invariant.0 r c.join_clause.ensures c.in_ok-goal.was, c.clear.ensures)

@@ -2,28 +2,23 @@
 use mathlib.Core.Path.{◌∙◌}
 use lib.ListN.{take}
 use Rattle.growing.specs.Growing.{state}
-use Rattle.cnffold.proofs.Built.{grows_as, grows_next, grows_stops}
+use Rattle.cnffold.proofs.Built.{grows_as, grows_in, grows_next, grows_stops}
 use Rattle.cnfread.specs.Clauses.{joined}
 use Rattle.cnfread.proofs.Joining.{joined-first, joined_other}
 use Rattle.cnfread.proofs.join_clause.Goals as goal
 
-pub add_clause-a-requires : goal.add_clause-a-requires
-add_clause-a-requires c = (c.requires.0, c.requires.1)
+pub returns-in_err-literal : goal.returns-in_err-literal
+returns-in_err-literal c = grows_stops c.add_clause.ensures (λ buf. joined c.args.first c.args.goal) c.in_err-literal.was c.from_residual.ensures.1
 
 pub returns-then-first : goal.returns-then-first
-returns-then-first c = grows_as (λ buf q. joined-first c.args.both (state 0 c.args.keys.now c.args.nodes buf) (take c.args.count c.args.held.now) c.args.goal c.if-first.true) c.add_clause-a.ensures
-
-pub returns-in_default : goal.returns-in_default
-returns-in_default c = grows_stops c.add_clause-a.ensures (λ buf. joined c.args.first c.args.goal) c.in_default.is
+returns-then-first c = grows_as
+    (λ buf q. joined-first c.args.both (state 0 c.args.nodes.now buf) (take c.args.count c.args.held.now) c.args.goal c.if-first.true)
+    c.in_ok-literal.ensures
 
 pub and_join-requires : goal.and_join-requires
-and_join-requires c = let g = c.add_clause-a.ensures in
-    let told = c.in-At.is in
-    record {
-      under = g.under _ told;
-      goal_bound = (c.requires.2, g.low _ told);
-    }
+and_join-requires c = (c.requires.1, c.add_clause.ensures.low _ c.in_ok-literal.was)
 
 pub returns : goal.returns
-returns c = let g = c.add_clause-a.ensures in
-    grows_as (λ buf q. grows_next g (joined c.args.first c.args.goal) c.in-At.is buf q ∙ joined_other c.args.goal _ c.if-first.false) c.and_join.ensures
+returns c = grows_as
+    (λ buf q. grows_next c.add_clause.ensures (joined c.args.first c.args.goal) c.in_ok-literal.was buf q ∙ joined_other c.args.goal _ c.if-first.false)
+    (grows_in c.add_clause.ensures.room_is c.and_join.ensures)

@@ -1,31 +1,33 @@
 -- `cnftext::comments_end` meets its contract: what is left has the same text behind its comments. Assumes nothing.
-use mathlib.Core.Path.{◌∙◌, sym, refl}
+use mathlib.Core.Path.{◌≡◌, ◌∙◌, ap, sym, refl}
+use Prim.Native.Nat.{ℕ}
+use lib.ListN.{length, drop}
+use native.Mathlib.Omega.{arith}
 use Rattle.cnftext.proofs.Parts.{comment_byte, comment_starts, no_comment, comments_done}
-use borrow.Author.Rules.{rules}
 use Rattle.cnftext.proofs.comments_end.Goals as goal
 use Rattle.cnftext.proofs.comments_end.Goals.{then-inside, else-inside+else-b-ne99}
 
 pub loop-i-init : goal.loop-i-init
-loop-i-init c = (search rules, refl)
+loop-i-init c = refl
 
 pub returns-then-b-ne99 : goal.returns-then-b-ne99
-returns-then-b-ne99 c = let inv = c.loop-i.invariant in
-    record {
-      within = inv.0;
-      behind = sym inv.1 ∙ no_comment _ _ c.loop-i-test.true c.if-inside.false c.if-b-ne99.true;
-    }
+returns-then-b-ne99 c = record {
+  within = omega arith;
+  behind = sym c.loop-i.invariant ∙ no_comment _ _ c.loop-i-test.true c.if-inside.false c.if-b-ne99.true;
+}
 
 pub loop-i-preserved : goal.loop-i-preserved
 loop-i-preserved c =
-    let inv = c.loop-i.invariant in
-    let h = c.loop-i-test.true in (
-      search rules,
-      elim c.if-inside.branch [
-        | then-inside w ↦ comment_byte _ _ h w.if-inside.true w.inside-is ∙ inv.1
-        | else-inside+else-b-ne99 w ↦ comment_starts _ _ h w.if-inside.false w.if-b-ne99.false w.inside-is ∙ inv.1
-      ],
-    )
+    let h = c.loop-i-test.true in
+    elim c.if-inside.branch [
+      | then-inside w ↦ comment_byte _ _ h w.if-inside.true w.inside-is ∙ c.loop-i.invariant
+      | else-inside+else-b-ne99 w ↦ comment_starts _ _ h w.if-inside.false w.if-b-ne99.false w.inside-is ∙ c.loop-i.invariant
+    ]
 
 pub returns : goal.returns
-returns c = let inv = c.loop-i.invariant in
-    record { within = inv.0; behind = sym inv.1 ∙ comments_done _ _ c.loop-i-test.false _ }
+returns c =
+    let end : c.loop-i.i ≡ length c.args.text.now = omega (arith, c.loop-i.auto) in
+    record {
+      within = omega arith;
+      behind = sym c.loop-i.invariant ∙ comments_done _ _ c.loop-i-test.false _ ∙ ap (λ (i : ℕ). drop i c.args.text.now) end;
+    }

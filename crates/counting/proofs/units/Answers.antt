@@ -1,7 +1,6 @@
 -- `counting::units` meets its contract: before each turn the search and the count go on as from the start, and the unit picked is the next
 -- move. The measure is the number of undecided nodes. Assumes nothing.
-use mathlib.Core.Path.{refl, ap, ◌∙◌}
-use Prim.Native.Nat.{◌-◌}
+use mathlib.Core.Path.{refl, ap}
 use native.Mathlib.Omega.{arith}
 use lib.ListN.{length}
 use Rattle.calculus.specs.declared.Move.TheVariants.{Unit as Single}
@@ -13,52 +12,32 @@ use Rattle.counting.proofs.units.Goals as goal
 pub loop-u-init : goal.loop-u-init
 loop-u-init c = (counting_starts c.requires.holds c.requires.s_le_cap, c.requires.picks)
 
-pub unit_move-requires : goal.unit_move-requires
-unit_move-requires c = let i = c.loop-u.invariant in
-    record {
-      indexed = c.requires.indexed;
-      goals = c.requires.goals;
-      holds = i.0.run.holds;
-      picked = i.1 c.if-u.true;
-    }
-
-pub size_in-size-requires : goal.size_in-size-requires
-size_in-size-requires c = let v = c.unit_move.ensures.moved in
-    record {
-      indexed = c.requires.indexed;
-      ready = (v.holds_on.ready, v.holds_on.numbered);
-      placed = placed_there v.kept;
-      free_bound = omega arith;
-    }
-
-pub capped-count-requires : goal.capped-count-requires
-capped-count-requires c = c.loop-u.invariant.0.low
-
-pub join-u-requires : goal.join-u-requires
-join-u-requires c = record {
-  indexed = c.requires.indexed;
-  goals = c.requires.goals;
-  holds = c.unit_move.ensures.moved.holds_on;
-  picked = c.unit_move.ensures.picked_2;
-}
+pub size_in-size-requires-clause-placed : goal.size_in-size-requires-clause-placed
+size_in-size-requires-clause-placed c = let v = c.unit_move.ensures.moved in
+    placed_there v.kept
 
 pub loop-u-smaller-then-u : goal.loop-u-smaller-then-u
-loop-u-smaller-then-u c = let r = counting_looked c.loop-u.invariant.0 c.unit_move.ensures.moved.holds_on c.unit_move.ensures.moved.list c.unit_move.auto.work in
+loop-u-smaller-then-u c = let r = counting_looked c.loop-u.invariant.0 c.unit_move.ensures.moved.holds_on c.unit_move.ensures.moved.list
+    c.unit_move.auto.work in
     let e = looked r.run.holds c.unit_move.ensures.moved.is c.unit_move.ensures.moved.list refl in
-    omega (arith, run_room r.run c.requires.indexed.table c.requires.goals.below e, ap length c.join-u.ensures.work_after, ap length c.unit_move.ensures.moved.list)
+    omega (
+      arith,
+      run_room r.run c.requires.indexed.table c.requires.goals.below e,
+      ap length c.join-u.ensures.work_after,
+      ap length
+          c.unit_move.ensures.moved.list,
+    )
 
 pub loop-u-preserved-then-u : goal.loop-u-preserved-then-u
-loop-u-preserved-then-u c = let r = counting_looked c.loop-u.invariant.0 c.unit_move.ensures.moved.holds_on c.unit_move.ensures.moved.list c.unit_move.auto.work in
-    let e = looked r.run.holds c.unit_move.ensures.moved.is c.unit_move.ensures.moved.list (ap (Single c.unit_move.result.number) c.unit_move.ensures.literal_value) in
-    let z = sized_on c.unit_move.ensures.moved.kept c.size_in-size.ensures in
-    (counting-unit r c.requires.indexed.table c.requires.goals.below e z c.capped-count.ensures c.join-u.ensures.holds_2 c.join-u.ensures.work_after c.join-u.auto.work c.join-u.auto.masks, c.join-u.ensures.leads.picks)
-
-pub next_move-m-requires : goal.next_move-m-requires
-next_move-m-requires c = record {
-  indexed = c.requires.indexed;
-  goals = c.requires.goals;
-  holds = c.loop-u.invariant.0.run.holds;
-}
+loop-u-preserved-then-u c = let r = counting_looked c.loop-u.invariant.0 c.unit_move.ensures.moved.holds_on c.unit_move.ensures.moved.list
+    c.unit_move.auto.work in
+    let e = looked r.run.holds c.unit_move.ensures.moved.is c.unit_move.ensures.moved.list
+    (ap (Single c.unit_move.result.number) c.unit_move.ensures.literal_value) in
+    let z = sized_on c.unit_move.ensures.moved.kept c.size_in-size.ensures in (
+      counting-unit r c.requires.indexed.table c.requires.goals.below e z c.capped-count.ensures c.join-u.ensures.holds_2 c.join-u.ensures.work_after
+          c.join-u.auto.work c.join-u.auto.masks,
+      c.join-u.ensures.leads.picks,
+    )
 
 pub size_in-size-requires-in-Conflict : goal.size_in-size-requires-in-Conflict
 size_in-size-requires-in-Conflict c = let k = rw c.in-Conflict.is at c.next_move-m.ensures.kept in
@@ -69,20 +48,9 @@ size_in-size-requires-in-Conflict c = let k = rw c.in-Conflict.is at c.next_move
       free_bound = omega arith;
     }
 
-pub overflow_add-size : goal.overflow_add-size
-overflow_add-size c = omega (arith, c.size_in-size-in-Conflict.ensures.low)
-
-pub capped-count-requires-in-Conflict : goal.capped-count-requires-in-Conflict
-capped-count-requires-in-Conflict c = c.loop-u.invariant.0.low
-
-pub shape_of-work-in-Conflict : goal.shape_of-work-in-Conflict
-shape_of-work-in-Conflict c = c.next_move-m.auto.work ∙ c.loop-u.invariant.0.run.size
-
-pub shape_of-masks-in-Conflict : goal.shape_of-masks-in-Conflict
-shape_of-masks-in-Conflict c = c.loop-u.invariant.0.run.sets
-
 pub returns-in-Conflict : goal.returns-in-Conflict
-returns-in-Conflict c = let r = counting_looked c.loop-u.invariant.0 c.next_move-m.ensures.holds_2 c.next_move-m.ensures.work_unchanged c.next_move-m.auto.work in
+returns-in-Conflict c = let r = counting_looked c.loop-u.invariant.0 c.next_move-m.ensures.holds_2 c.next_move-m.ensures.work_unchanged
+    c.next_move-m.auto.work in
     let e = looked r.run.holds c.next_move-m.ensures.value c.next_move-m.ensures.work_unchanged c.in-Conflict.is in
     let k = rw c.in-Conflict.is at c.next_move-m.ensures.kept in
     counting_conflict r e (sized_on k c.size_in-size-in-Conflict.ensures) c.capped-count-in-Conflict.ensures
@@ -96,9 +64,6 @@ size_in-size-requires-in-Unit c = let k = rw c.in-Unit.is at c.next_move-m.ensur
       free_bound = omega arith;
     }
 
-pub capped-count-requires-in-Unit : goal.capped-count-requires-in-Unit
-capped-count-requires-in-Unit c = c.loop-u.invariant.0.low
-
 pub assume-requires : goal.assume-requires
 assume-requires c = let r = counting_looked c.loop-u.invariant.0 c.next_move-m.ensures.holds_2 c.next_move-m.ensures.work_unchanged c.next_move-m.auto.work in
     let e = looked r.run.holds c.next_move-m.ensures.value c.next_move-m.ensures.work_unchanged c.in-Unit.is in
@@ -109,40 +74,30 @@ assume-requires c = let r = counting_looked c.loop-u.invariant.0 c.next_move-m.e
       fresh = run-fresh r.run c.requires.indexed.table c.requires.goals.below e;
     }
 
-pub pick-u-requires : goal.pick-u-requires
-pick-u-requires c = let H = c.assume.ensures.holds_2 in
-    (H.ready.size, H.units)
-
 pub loop-u-smaller : goal.loop-u-smaller
 loop-u-smaller c = let r = counting_looked c.loop-u.invariant.0 c.next_move-m.ensures.holds_2 c.next_move-m.ensures.work_unchanged c.next_move-m.auto.work in
     let e = looked r.run.holds c.next_move-m.ensures.value c.next_move-m.ensures.work_unchanged c.in-Unit.is in
-    omega (arith, run_room r.run c.requires.indexed.table c.requires.goals.below e, ap length c.assume.ensures.work_after, ap length c.next_move-m.ensures.work_unchanged)
+    omega (
+      arith,
+      run_room r.run c.requires.indexed.table c.requires.goals.below e,
+      ap length c.assume.ensures.work_after,
+      ap length
+          c.next_move-m.ensures.work_unchanged,
+    )
 
 pub loop-u-preserved : goal.loop-u-preserved
 loop-u-preserved c = let r = counting_looked c.loop-u.invariant.0 c.next_move-m.ensures.holds_2 c.next_move-m.ensures.work_unchanged c.next_move-m.auto.work in
     let e = looked r.run.holds c.next_move-m.ensures.value c.next_move-m.ensures.work_unchanged c.in-Unit.is in
     let k = rw c.in-Unit.is at c.next_move-m.ensures.kept in
-    let z = sized_on k c.size_in-size-in-Unit.ensures in
-    (counting-unit r c.requires.indexed.table c.requires.goals.below e z c.capped-count-in-Unit.ensures c.assume.ensures.holds_2 c.assume.ensures.work_after c.assume.auto.work c.assume.auto.masks, c.pick-u.ensures.picks)
-
-pub shape_of-work-in-Done : goal.shape_of-work-in-Done
-shape_of-work-in-Done c = c.next_move-m.auto.work ∙ c.loop-u.invariant.0.run.size
-
-pub shape_of-masks-in-Done : goal.shape_of-masks-in-Done
-shape_of-masks-in-Done c = c.loop-u.invariant.0.run.sets
+    let z = sized_on k c.size_in-size-in-Unit.ensures in (
+      counting-unit r c.requires.indexed.table c.requires.goals.below e z c.capped-count-in-Unit.ensures c.assume.ensures.holds_2
+          c.assume.ensures.work_after c.assume.auto.work c.assume.auto.masks,
+      c.pick-u.ensures.picks,
+    )
 
 pub returns-in-Done : goal.returns-in-Done
 returns-in-Done c = let r = counting_looked c.loop-u.invariant.0 c.next_move-m.ensures.holds_2 c.next_move-m.ensures.work_unchanged c.next_move-m.auto.work in
     counting_done r (looked r.run.holds c.next_move-m.ensures.value c.next_move-m.ensures.work_unchanged c.in-Done.is)
-
-pub capped-count-requires-in-Split : goal.capped-count-requires-in-Split
-capped-count-requires-in-Split c = c.loop-u.invariant.0.low
-
-pub shape_of-work-in-Split : goal.shape_of-work-in-Split
-shape_of-work-in-Split c = c.next_move-m.auto.work ∙ c.loop-u.invariant.0.run.size
-
-pub shape_of-masks-in-Split : goal.shape_of-masks-in-Split
-shape_of-masks-in-Split c = c.loop-u.invariant.0.run.sets
 
 pub returns-in-Split : goal.returns-in-Split
 returns-in-Split c = let r = counting_looked c.loop-u.invariant.0 c.next_move-m.ensures.holds_2 c.next_move-m.ensures.work_unchanged c.next_move-m.auto.work in

@@ -9,19 +9,14 @@ use Rattle.state.specs.Work.{g_of}
 use Rattle.emitting.proofs.Steps.{half_false, bit_low}
 use Rattle.emitting.proofs.false_at.Goals as goal
 
-pub value-requires : goal.value-requires
-value-requires c = record {
-  ready = c.requires.ready;
-  n_le_most_nodes = (c.requires.n_le_most_nodes.0, c.requires.n_le_most_nodes.1 c.if-i-len.true);
-}
-
 pub overflow_cast-result : goal.overflow_cast-result
 overflow_cast-result c = let g = g_of c.args.work.now in
     let half = ap (λ (v : ℕ). v / 2) c.value.ensures ∙ half_false (value_of g c.args.l) in
     omega (arith, half, bit_low true g c.args.l)
 
 pub returns-then-i-len : goal.returns-then-i-len
-returns-then-i-len c = rw (lt-ltb c.args.i c.args.len c.if-i-len.true) (ap (λ (v : ℕ). v / 2) c.value.ensures ∙ half_false (value_of (g_of c.args.work.now) c.args.l))
+returns-then-i-len c = rw (lt-ltb c.args.i c.args.len c.if-i-len.true)
+    (ap (λ (v : ℕ). v / 2) c.value.ensures ∙ half_false (value_of (g_of c.args.work.now) c.args.l))
 
 pub returns : goal.returns
 returns c = rw (le-ltb c.args.i c.args.len c.if-i-len.false)

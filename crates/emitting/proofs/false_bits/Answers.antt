@@ -6,23 +6,14 @@ use Rattle.clause.proofs.Lengths.{first_below, second_below, third_below}
 use Rattle.emitting.proofs.Steps.{bit_low, bits_of}
 use Rattle.emitting.proofs.false_bits.Goals as goal
 
-pub false_at-first-requires : goal.false_at-first-requires
-false_at-first-requires c = record {
-  ready = c.requires.ready;
-  n_le_most_nodes = (c.requires.n_le_most_nodes.0, first_below c.args.n c.args.c c.requires.n_le_most_nodes.1);
-}
+pub false_at-first-requires-clause-n_le_most_nodes : goal.false_at-first-requires-clause-n_le_most_nodes
+false_at-first-requires-clause-n_le_most_nodes c = (c.requires.n_le_most_nodes.0, first_below c.args.n c.args.c c.requires.n_le_most_nodes.1)
 
-pub false_at-second-requires : goal.false_at-second-requires
-false_at-second-requires c = record {
-  ready = c.requires.ready;
-  n_le_most_nodes = (c.requires.n_le_most_nodes.0, second_below c.args.n c.args.c c.requires.n_le_most_nodes.1);
-}
+pub false_at-second-requires-clause-n_le_most_nodes : goal.false_at-second-requires-clause-n_le_most_nodes
+false_at-second-requires-clause-n_le_most_nodes c = (c.requires.n_le_most_nodes.0, second_below c.args.n c.args.c c.requires.n_le_most_nodes.1)
 
-pub false_at-third-requires : goal.false_at-third-requires
-false_at-third-requires c = record {
-  ready = c.requires.ready;
-  n_le_most_nodes = (c.requires.n_le_most_nodes.0, third_below c.args.n c.args.c c.requires.n_le_most_nodes.1);
-}
+pub false_at-third-requires-clause-n_le_most_nodes : goal.false_at-third-requires-clause-n_le_most_nodes
+false_at-third-requires-clause-n_le_most_nodes c = (c.requires.n_le_most_nodes.0, third_below c.args.n c.args.c c.requires.n_le_most_nodes.1)
 
 pub overflow_mul-result : goal.overflow_mul-result
 overflow_mul-result c = let a = c.false_at-first.ensures in

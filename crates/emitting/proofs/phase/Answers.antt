@@ -1,7 +1,6 @@
 -- `emitting::phase` meets its contract: before each turn the steps pushed and those that are due are the search's, and the unit picked is
 -- the next move. The measure is the number of undecided nodes. Assumes nothing.
-use mathlib.Core.Path.{refl, ap, ◌∙◌}
-use Prim.Native.Nat.{◌-◌}
+use mathlib.Core.Path.{refl, ap}
 use lib.ListN.{length}
 use Rattle.calculus.specs.declared.Move.TheVariants.{Unit as Single}
 use Rattle.searching.proofs.Searches.{looked}
@@ -12,17 +11,9 @@ use Rattle.emitting.proofs.phase.Goals as goal
 pub loop-u-init : goal.loop-u-init
 loop-u-init c = (run_starts c.requires.holds c.requires.due, c.requires.picks)
 
-pub unit_move-f-requires : goal.unit_move-f-requires
-unit_move-f-requires c = let i = c.loop-u.invariant in
-    record {
-      indexed = c.requires.indexed;
-      goals = c.requires.goals;
-      holds = i.0.holds;
-      picked = i.1 c.if-u.true;
-    }
-
 pub on_clause-at-requires : goal.on_clause-at-requires
-on_clause-at-requires c = let r = run_looked c.loop-u.invariant.0 c.unit_move-f.ensures.moved.holds_on c.unit_move-f.ensures.moved.list c.unit_move-f.auto.work in
+on_clause-at-requires c = let r = run_looked c.loop-u.invariant.0 c.unit_move-f.ensures.moved.holds_on c.unit_move-f.ensures.moved.list
+    c.unit_move-f.auto.work in
     let e = looked r.holds c.unit_move-f.ensures.moved.is c.unit_move-f.ensures.moved.list refl in
     record {
       forms_value = c.requires.forms_value;
@@ -33,33 +24,31 @@ on_clause-at-requires c = let r = run_looked c.loop-u.invariant.0 c.unit_move-f.
       space = unit-space r c.requires.indexed.table c.requires.goals.below e;
     }
 
-pub join-u-requires : goal.join-u-requires
-join-u-requires c = record {
-  indexed = c.requires.indexed;
-  goals = c.requires.goals;
-  holds = c.unit_move-f.ensures.moved.holds_on;
-  picked = c.unit_move-f.ensures.picked_2;
-}
-
 pub loop-u-smaller-then-u : goal.loop-u-smaller-then-u
-loop-u-smaller-then-u c = let r = run_looked c.loop-u.invariant.0 c.unit_move-f.ensures.moved.holds_on c.unit_move-f.ensures.moved.list c.unit_move-f.auto.work in
+loop-u-smaller-then-u c = let r = run_looked c.loop-u.invariant.0 c.unit_move-f.ensures.moved.holds_on c.unit_move-f.ensures.moved.list
+    c.unit_move-f.auto.work in
     let e = looked r.holds c.unit_move-f.ensures.moved.is c.unit_move-f.ensures.moved.list refl in
-    omega (arith, run_room r c.requires.indexed.table c.requires.goals.below e, ap length c.join-u.ensures.work_after, ap length c.unit_move-f.ensures.moved.list)
+    omega (
+      arith,
+      run_room r c.requires.indexed.table c.requires.goals.below e,
+      ap length c.join-u.ensures.work_after,
+      ap length
+          c.unit_move-f.ensures.moved.list,
+    )
 
 pub loop-u-preserved-then-u : goal.loop-u-preserved-then-u
-loop-u-preserved-then-u c = let r = run_looked c.loop-u.invariant.0 c.unit_move-f.ensures.moved.holds_on c.unit_move-f.ensures.moved.list c.unit_move-f.auto.work in
-    let e = looked r.holds c.unit_move-f.ensures.moved.is c.unit_move-f.ensures.moved.list (ap (Single c.unit_move-f.result.number) c.unit_move-f.ensures.literal_value) in
-    (run-unit r c.requires.indexed.table c.requires.goals.below e c.on_clause-at.ensures c.join-u.ensures.holds_2 c.join-u.ensures.work_after c.join-u.auto.work c.join-u.auto.masks, c.join-u.ensures.leads.picks)
-
-pub next_move-m-requires : goal.next_move-m-requires
-next_move-m-requires c = record {
-  indexed = c.requires.indexed;
-  goals = c.requires.goals;
-  holds = c.loop-u.invariant.0.holds;
-}
+loop-u-preserved-then-u c = let r = run_looked c.loop-u.invariant.0 c.unit_move-f.ensures.moved.holds_on c.unit_move-f.ensures.moved.list
+    c.unit_move-f.auto.work in
+    let e = looked r.holds c.unit_move-f.ensures.moved.is c.unit_move-f.ensures.moved.list
+    (ap (Single c.unit_move-f.result.number) c.unit_move-f.ensures.literal_value) in (
+      run-unit r c.requires.indexed.table c.requires.goals.below e c.on_clause-at.ensures c.join-u.ensures.holds_2 c.join-u.ensures.work_after
+          c.join-u.auto.work c.join-u.auto.masks,
+      c.join-u.ensures.leads.picks,
+    )
 
 pub on_clause-at-requires-in-Conflict : goal.on_clause-at-requires-in-Conflict
-on_clause-at-requires-in-Conflict c = let r = run_looked c.loop-u.invariant.0 c.next_move-m.ensures.holds_2 c.next_move-m.ensures.work_unchanged c.next_move-m.auto.work in
+on_clause-at-requires-in-Conflict c = let r = run_looked c.loop-u.invariant.0 c.next_move-m.ensures.holds_2 c.next_move-m.ensures.work_unchanged
+    c.next_move-m.auto.work in
     let e = looked r.holds c.next_move-m.ensures.value c.next_move-m.ensures.work_unchanged c.in-Conflict.is in
     let k = rw c.in-Conflict.is at c.next_move-m.ensures.kept in
     record {
@@ -71,22 +60,14 @@ on_clause-at-requires-in-Conflict c = let r = run_looked c.loop-u.invariant.0 c.
       space = conflict-space r e;
     }
 
-pub shape_of-work-in-Conflict : goal.shape_of-work-in-Conflict
-shape_of-work-in-Conflict c = c.next_move-m.auto.work ∙ c.loop-u.invariant.0.size
-
-pub shape_of-masks-in-Conflict : goal.shape_of-masks-in-Conflict
-shape_of-masks-in-Conflict c = c.loop-u.invariant.0.sets
-
-pub shape_of-out-in-Conflict : goal.shape_of-out-in-Conflict
-shape_of-out-in-Conflict c = c.on_clause-at-in-Conflict.ensures.size ∙ c.loop-u.invariant.0.pushed.size
-
 pub returns-in-Conflict : goal.returns-in-Conflict
 returns-in-Conflict c = let r = run_looked c.loop-u.invariant.0 c.next_move-m.ensures.holds_2 c.next_move-m.ensures.work_unchanged c.next_move-m.auto.work in
     let e = looked r.holds c.next_move-m.ensures.value c.next_move-m.ensures.work_unchanged c.in-Conflict.is in
     run_conflict r e c.on_clause-at-in-Conflict.ensures
 
 pub on_clause-at-requires-in-Unit : goal.on_clause-at-requires-in-Unit
-on_clause-at-requires-in-Unit c = let r = run_looked c.loop-u.invariant.0 c.next_move-m.ensures.holds_2 c.next_move-m.ensures.work_unchanged c.next_move-m.auto.work in
+on_clause-at-requires-in-Unit c = let r = run_looked c.loop-u.invariant.0 c.next_move-m.ensures.holds_2 c.next_move-m.ensures.work_unchanged
+    c.next_move-m.auto.work in
     let e = looked r.holds c.next_move-m.ensures.value c.next_move-m.ensures.work_unchanged c.in-Unit.is in
     let k = rw c.in-Unit.is at c.next_move-m.ensures.kept in
     record {
@@ -108,28 +89,24 @@ assume-requires c = let r = run_looked c.loop-u.invariant.0 c.next_move-m.ensure
       fresh = run-fresh r c.requires.indexed.table c.requires.goals.below e;
     }
 
-pub pick-u-requires : goal.pick-u-requires
-pick-u-requires c = let H = c.assume.ensures.holds_2 in
-    (H.ready.size, H.units)
-
 pub loop-u-smaller : goal.loop-u-smaller
 loop-u-smaller c = let r = run_looked c.loop-u.invariant.0 c.next_move-m.ensures.holds_2 c.next_move-m.ensures.work_unchanged c.next_move-m.auto.work in
     let e = looked r.holds c.next_move-m.ensures.value c.next_move-m.ensures.work_unchanged c.in-Unit.is in
-    omega (arith, run_room r c.requires.indexed.table c.requires.goals.below e, ap length c.assume.ensures.work_after, ap length c.next_move-m.ensures.work_unchanged)
+    omega (
+      arith,
+      run_room r c.requires.indexed.table c.requires.goals.below e,
+      ap length c.assume.ensures.work_after,
+      ap length
+          c.next_move-m.ensures.work_unchanged,
+    )
 
 pub loop-u-preserved : goal.loop-u-preserved
 loop-u-preserved c = let r = run_looked c.loop-u.invariant.0 c.next_move-m.ensures.holds_2 c.next_move-m.ensures.work_unchanged c.next_move-m.auto.work in
-    let e = looked r.holds c.next_move-m.ensures.value c.next_move-m.ensures.work_unchanged c.in-Unit.is in
-    (run-unit r c.requires.indexed.table c.requires.goals.below e c.on_clause-at-in-Unit.ensures c.assume.ensures.holds_2 c.assume.ensures.work_after c.assume.auto.work c.assume.auto.masks, c.pick-u.ensures.picks)
-
-pub shape_of-work-in-Done : goal.shape_of-work-in-Done
-shape_of-work-in-Done c = c.next_move-m.auto.work ∙ c.loop-u.invariant.0.size
-
-pub shape_of-masks-in-Done : goal.shape_of-masks-in-Done
-shape_of-masks-in-Done c = c.loop-u.invariant.0.sets
-
-pub shape_of-out-in-Done : goal.shape_of-out-in-Done
-shape_of-out-in-Done c = c.loop-u.invariant.0.pushed.size
+    let e = looked r.holds c.next_move-m.ensures.value c.next_move-m.ensures.work_unchanged c.in-Unit.is in (
+      run-unit r c.requires.indexed.table c.requires.goals.below e c.on_clause-at-in-Unit.ensures c.assume.ensures.holds_2 c.assume.ensures.work_after
+          c.assume.auto.work c.assume.auto.masks,
+      c.pick-u.ensures.picks,
+    )
 
 pub returns-in-Done : goal.returns-in-Done
 returns-in-Done c = let r = run_looked c.loop-u.invariant.0 c.next_move-m.ensures.holds_2 c.next_move-m.ensures.work_unchanged c.next_move-m.auto.work in
@@ -139,15 +116,6 @@ pub on_split-at-requires : goal.on_split-at-requires
 on_split-at-requires c = let r = run_looked c.loop-u.invariant.0 c.next_move-m.ensures.holds_2 c.next_move-m.ensures.work_unchanged c.next_move-m.auto.work in
     let e = looked r.holds c.next_move-m.ensures.value c.next_move-m.ensures.work_unchanged c.in-Split.is in
     split-space r c.requires.indexed.table c.requires.goals.below e
-
-pub shape_of-work-in-Split : goal.shape_of-work-in-Split
-shape_of-work-in-Split c = c.next_move-m.auto.work ∙ c.loop-u.invariant.0.size
-
-pub shape_of-masks-in-Split : goal.shape_of-masks-in-Split
-shape_of-masks-in-Split c = c.loop-u.invariant.0.sets
-
-pub shape_of-out-in-Split : goal.shape_of-out-in-Split
-shape_of-out-in-Split c = c.on_split-at.ensures.size ∙ c.loop-u.invariant.0.pushed.size
 
 pub returns-in-Split : goal.returns-in-Split
 returns-in-Split c = let r = run_looked c.loop-u.invariant.0 c.next_move-m.ensures.holds_2 c.next_move-m.ensures.work_unchanged c.next_move-m.auto.work in

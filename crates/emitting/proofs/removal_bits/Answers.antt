@@ -6,21 +6,6 @@ use Rattle.moves.specs.Place.{place_number}
 use Rattle.emitting.proofs.Steps.{removed_is, removed_none}
 use Rattle.emitting.proofs.removal_bits.Goals as goal
 
-pub reason-c-requires : goal.reason-c-requires
-reason-c-requires c = record {
-  templates_value = c.requires.forms_value;
-  indexed = c.requires.indexed;
-  goals = c.requires.goals;
-  ready = c.requires.ready;
-  placed = c.requires.placed;
-}
-
-pub false_bits-requires : goal.false_bits-requires
-false_bits-requires c = record {
-  ready = c.requires.ready.0;
-  n_le_most_nodes = (c.requires.indexed.few, c.reason-c.ensures.below);
-}
-
 pub returns-in-One : goal.returns-in-One
 returns-in-One c = removed_is c.in-One.is c.reason-c.ensures c.false_bits.ensures
 

@@ -9,15 +9,9 @@ pub push_goals-named-requires : goal.push_goals-named-requires
 push_goals-named-requires c = let l = c.letter_of.result in
     names_fit (empty_block l) (empty-length l) c.requires.fits
 
-pub push_steps-done-requires : goal.push_steps-done-requires
-push_steps-done-requires c = let l = c.letter_of.result in
-    record {
-      forms_value = c.requires.forms_value;
-      indexed = c.requires.indexed;
-      goals = c.requires.goals;
-      holds = c.requires.holds;
-      due = named_due (empty_block l) (empty-length l) c.requires.fits c.push_goals-named.ensures;
-    }
+pub push_steps-done-requires-clause-due : goal.push_steps-done-requires-clause-due
+push_steps-done-requires-clause-due c = let l = c.letter_of.result in
+    named_due (empty_block l) (empty-length l) c.requires.fits c.push_goals-named.ensures
 
 pub close-requires : goal.close-requires
 close-requires c = let l = c.letter_of.result in

@@ -1,21 +1,11 @@
 -- `gather::add_move` meets its contract: before each turn the removals of the positions looked at are pushed. The measure is the bits
 -- left. Assumes nothing.
-use Rattle.gather.proofs.Removes.{removing_starts, removing-space, removing-goes, last-space, removing-ends}
+use Rattle.gather.proofs.Removes.{removing-space, removing-goes, last-space, removing-ends}
 use native.Mathlib.Omega.{arith}
-use borrow.Author.Rules.{rules}
 use Rattle.gather.proofs.add_move.Goals as goal
-
-pub loop-left-init : goal.loop-left-init
-loop-left-init c = removing_starts c.args.k c.args.removed c.args.out.now _ c.requires.gathers (search rules)
 
 pub add_removal-at-requires : goal.add_removal-at-requires
 add_removal-at-requires c = removing-space c.loop-left.invariant c.requires (omega (arith, c.loop-left-test.true))
-
-pub overflow_add-i : goal.overflow_add-i
-overflow_add-i c = omega (arith, c.loop-left.invariant.room, c.loop-left-test.true)
-
-pub loop-left-smaller : goal.loop-left-smaller
-loop-left-smaller c = omega (arith, c.loop-left-test.true)
 
 pub loop-left-preserved : goal.loop-left-preserved
 loop-left-preserved c = removing-goes c.loop-left.invariant c.requires (omega (arith, c.loop-left-test.true)) c.add_removal-at.ensures

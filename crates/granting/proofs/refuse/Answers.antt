@@ -2,8 +2,8 @@
 use Rattle.granting.proofs.Laws.{refused_spent, refused_lasts}
 use Rattle.granting.proofs.refuse.Goals as goal
 
-pub returns-then-left-count : goal.returns-then-left-count
-returns-then-left-count c = refused_spent _ _ _ c.args.st _ c.count_of-count.ensures c.if-left-count.true
+pub returns-then-on-count : goal.returns-then-on-count
+returns-then-on-count c = refused_spent _ _ _ c.args.on _ c.count_of-count.ensures c.if-on-count.true
 
 pub returns : goal.returns
-returns c = refused_lasts _ _ _ c.args.st _ c.count_of-count.ensures c.if-left-count.false
+returns c = refused_lasts _ _ _ c.args.on _ c.count_of-count.ensures c.if-on-count.false

@@ -1,27 +1,41 @@
 -- What is granted is that of the definition: the sizes fall, and with those that are left the walk is the whole one. Assumes nothing.
+use mathlib.Core.Path.{◌≡◌, refl}
+use Prim.Native.Nat.{◌+◌, ◌-◌}
 use native.Mathlib.Omega.{arith}
-use Rattle.granting.proofs.Laws.{walked_starts, walked-listed, walked-goes, walked-ends}
+use lib.ListN.{length}
+use Rattle.granting.proofs.Laws.{walked_starts, walked-listed, walked-goes, walked-ends, walked-stops}
 use Rattle.granting.proofs.spend.Goals as goal
 
 pub loop-s-init : goal.loop-s-init
-loop-s-init c = let p = c.requires.gathered in
-    (p.1, walked_starts _ _ _ _ _ _ _ p.0 c.ranges.allowance.fits)
+loop-s-init c =
+    let p = c.requires.gathered in
+    let z : length c.args.wishes.now + 1 - 1 ≡ length c.args.wishes.now = omega arith in
+    (p.1, rw z (walked_starts _ _ _ _ _ _ _ p.0))
 
-pub visit-st-requires : goal.visit-st-requires
-visit-st-requires c = let i = c.loop-s.invariant in
-    let some = c.loop-s-test.true in
+pub visit-requires : goal.visit-requires
+visit-requires c =
+    let i = c.loop-s.invariant in
     record {
       indexed = c.requires.indexed;
-      listed = walked-listed _ _ _ _ _ _ _ c.requires.gathered.0 _ _ _ _ i.1 some;
-      room = (i.1.room, i.0, λ e. absurd (omega arith));
+      listed = walked-listed _ _ _ _ _ _ _ c.requires.gathered.0 _ _ _ _ i.1 (omega arith);
+      room = (omega (arith, i.1.room, c.ranges.allowance.fits), i.0);
     }
 
 pub loop-s-preserved : goal.loop-s-preserved
-loop-s-preserved c = let i = c.loop-s.invariant in (
-  c.visit-st.ensures.sets,
-  walked-goes _ _ _ _ _ _ _ c.requires.gathered.0 _ _ _ _ i.1 _ _ _ c.loop-s-test.true c.visit-st.auto.list c.visit-st.auto.work c.visit-st.ensures.visited,
-)
+loop-s-preserved c =
+    let v = c.visit in
+    let b = c.requires.gathered.0 in (
+      v.ensures.sets,
+      rw c.in-Continue.is at
+          (walked-goes _ _ _ _ _ _ _ b _ _ _ _ c.loop-s.invariant.1 _ _ _ (omega arith) v.auto.list v.auto.work v.ensures.visited),
+    )
+
+pub returns-in-Break : goal.returns-in-Break
+returns-in-Break c =
+    let v = c.visit in
+    let b = c.requires.gathered.0 in
+    walked-stops _ _ _ _ _ _ _ b _ _ _ _
+    (walked-goes _ _ _ _ _ _ _ b _ _ _ _ c.loop-s.invariant.1 _ _ _ (omega arith) v.auto.list v.auto.work v.ensures.visited) _ c.in-Break.is
 
 pub returns : goal.returns
-returns c = let z = c.loop-s-test.false in
-    walked-ends _ _ _ _ _ _ _ c.requires.gathered.0 _ _ _ _ c.loop-s.invariant.1 _ (omega arith) c.finish.ensures
+returns c = walked-ends _ _ _ _ _ _ _ c.requires.gathered.0 _ _ _ _ c.loop-s.invariant.1 _ refl (omega arith)

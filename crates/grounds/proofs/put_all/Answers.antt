@@ -1,15 +1,9 @@
 -- `grounds::put_all` meets its contract, by how many operands the kind has. Assumes nothing.
-use Prim.Native.Nat.{◌+◌, ◌*◌}
+use Prim.Native.Nat.{◌+◌}
 use Rattle.index.specs.Index.{index_node}
 use Rattle.grounds.proofs.Puts.{held_there, slot_there, first_below, second_below, third_below, put-none, put-pair, put-triple}
 use native.Mathlib.Omega.{arith}
 use Rattle.grounds.proofs.put_all.Goals as goal
-
-pub overflow_cast-kind : goal.overflow_cast-kind
-overflow_cast-kind c = omega (arith, c.type_inv.x (4 * c.args.node))
-
-pub overflow_add-kind : goal.overflow_add-kind
-overflow_add-kind c = omega (arith, c.type_inv.x (4 * c.args.node))
 
 pub returns-then-kind-lt-PAIRS : goal.returns-then-kind-lt-PAIRS
 unfolding index_node
@@ -34,7 +28,8 @@ put_three-requires c = (
 
 pub returns-then-kind-lt-THREES : goal.returns-then-kind-lt-THREES
 unfolding index_node
-returns-then-kind-lt-THREES c = put-pair c.requires.indexed c.requires.room c.requires.q_bound.1 c.args.q c.slot-a.ensures c.slot-b.ensures c.if-kind-lt-PAIRS.false c.if-kind-lt-THREES.true
+returns-then-kind-lt-THREES c = put-pair c.requires.indexed c.requires.room c.requires.q_bound.1 c.args.q c.slot-a.ensures c.slot-b.ensures
+    c.if-kind-lt-PAIRS.false c.if-kind-lt-THREES.true
     c.put_three.ensures
 
 pub slot-c-requires : goal.slot-c-requires
@@ -53,5 +48,6 @@ put_four-requires c = (
 
 pub returns : goal.returns
 unfolding index_node
-returns c = put-triple c.requires.indexed c.requires.room c.requires.q_bound.1 c.args.q c.slot-a.ensures c.slot-b.ensures c.if-kind-lt-THREES.false c.slot-c.ensures
+returns c = put-triple c.requires.indexed c.requires.room c.requires.q_bound.1 c.args.q c.slot-a.ensures c.slot-b.ensures c.if-kind-lt-THREES.false
+    c.slot-c.ensures
     c.put_four.ensures

@@ -2,14 +2,9 @@
 use Rattle.grounds.proofs.Grounds.{room, put-held}
 use Rattle.grounds.proofs.put_clause.Goals as goal
 
-pub put_position-requires : goal.put_position-requires
-put_position-requires c = let g = c.requires.grounded in
-    record {
-      indexed = c.requires.indexed;
-      ready = c.requires.ready.0;
-      room = room c.requires.ready.0 c.requires.ready.1 g;
-      q_bound = (g.held, g.column);
-    }
+pub put_position-requires-clause-room : goal.put_position-requires-clause-room
+put_position-requires-clause-room c = let g = c.requires.grounded in
+    room c.requires.ready.0 c.requires.ready.1 g
 
 pub returns : goal.returns
 returns c = put-held c.requires.ready.0 c.requires.ready.1 c.requires.grounded c.requires.indexed.table c.put_position.ensures

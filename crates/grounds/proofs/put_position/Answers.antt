@@ -12,31 +12,15 @@ literal-l-requires c = (c.requires.ready.size, omega (arith, c.requires.q_bound.
 
 pub bounds-x-node : goal.bounds-x-node
 bounds-x-node c = let e = c.literal-l.ensures in
-    let d : c.literal-l.result / 2 < c.args.n = rw e (literal_node c.requires.indexed c.requires.ready c.requires.room c.args.q c.args.j c.requires.q_bound.0) in
+    let d : c.literal-l.result / 2 < c.args.n = rw e (literal_node c.requires.indexed c.requires.ready c.requires.room c.args.q c.args.j
+    c.requires.q_bound.0) in
     omega (arith, d, c.requires.indexed.size, c.requires.indexed.few)
-
-pub overflow_cast-row : goal.overflow_cast-row
-unfolding index_node
-overflow_cast-row c = let e = c.literal-l.ensures in
-    let k : get_or c.args.x.now (4 * (c.literal-l.result / 2)) 0 + 1 < 9 = rw e (literal_kind c.requires.indexed c.requires.ready c.requires.room c.args.q c.args.j c.requires.q_bound.0) in
-    omega (arith, k)
-
-pub overflow_mul-row-2 : goal.overflow_mul-row-2
-unfolding index_node
-overflow_mul-row-2 c = let e = c.literal-l.ensures in
-    let k : get_or c.args.x.now (4 * (c.literal-l.result / 2)) 0 + 1 < 9 = rw e (literal_kind c.requires.indexed c.requires.ready c.requires.room c.args.q c.args.j c.requires.q_bound.0) in
-    omega (arith, k)
-
-pub overflow_add-row : goal.overflow_add-row
-unfolding index_node
-overflow_add-row c = let e = c.literal-l.ensures in
-    let k : get_or c.args.x.now (4 * (c.literal-l.result / 2)) 0 + 1 < 9 = rw e (literal_kind c.requires.indexed c.requires.ready c.requires.room c.args.q c.args.j c.requires.q_bound.0) in
-    omega (arith, k)
 
 pub overflow_shr-row : goal.overflow_shr-row
 unfolding index_node
 overflow_shr-row c = let e = c.literal-l.ensures in
-    let k : get_or c.args.x.now (4 * (c.literal-l.result / 2)) 0 + 1 < 9 = rw e (literal_kind c.requires.indexed c.requires.ready c.requires.room c.args.q c.args.j c.requires.q_bound.0) in
+    let k : get_or c.args.x.now (4 * (c.literal-l.result / 2)) 0 + 1 < 9 = rw e
+    (literal_kind c.requires.indexed c.requires.ready c.requires.room c.args.q c.args.j c.requires.q_bound.0) in
     omega (arith, k)
 
 pub overflow_add-j : goal.overflow_add-j
@@ -44,30 +28,54 @@ overflow_add-j c = omega (arith, column_few c.requires.indexed c.requires.ready 
 
 pub overflow_add-node : goal.overflow_add-node
 overflow_add-node c = let e = c.literal-l.ensures in
-    let d : c.literal-l.result / 2 < c.args.n = rw e (literal_node c.requires.indexed c.requires.ready c.requires.room c.args.q c.args.j c.requires.q_bound.0) in
-    omega (arith, d, c.requires.indexed.few, column_few c.requires.indexed c.requires.ready c.requires.room c.args.q c.args.j c.requires.q_bound.0 c.requires.q_bound.1)
+    let d : c.literal-l.result / 2 < c.args.n = rw e (literal_node c.requires.indexed c.requires.ready c.requires.room c.args.q c.args.j
+    c.requires.q_bound.0) in
+    omega (
+      arith,
+      d,
+      c.requires.indexed.few,
+      column_few c.requires.indexed c.requires.ready c.requires.room c.args.q c.args.j c.requires.q_bound.0
+          c.requires.q_bound.1,
+    )
 
 pub offset_bounds-x-node-then-row-eq1 : goal.offset_bounds-x-node-then-row-eq1
 offset_bounds-x-node-then-row-eq1 c = let e = c.literal-l.ensures in
-    let d : c.literal-l.result / 2 < c.args.n = rw e (literal_node c.requires.indexed c.requires.ready c.requires.room c.args.q c.args.j c.requires.q_bound.0) in
-    omega (arith, d, c.requires.indexed.few, column_few c.requires.indexed c.requires.ready c.requires.room c.args.q c.args.j c.requires.q_bound.0 c.requires.q_bound.1)
+    let d : c.literal-l.result / 2 < c.args.n = rw e (literal_node c.requires.indexed c.requires.ready c.requires.room c.args.q c.args.j
+    c.requires.q_bound.0) in
+    omega (
+      arith,
+      d,
+      c.requires.indexed.few,
+      column_few c.requires.indexed c.requires.ready c.requires.room c.args.q c.args.j c.requires.q_bound.0
+          c.requires.q_bound.1,
+    )
 
 pub bounds-x-node-then-row-eq1 : goal.bounds-x-node-then-row-eq1
 bounds-x-node-then-row-eq1 c = let e = c.literal-l.ensures in
-    let d : c.literal-l.result / 2 < c.args.n = rw e (literal_node c.requires.indexed c.requires.ready c.requires.room c.args.q c.args.j c.requires.q_bound.0) in
-    omega (arith, d, c.requires.indexed.size, c.requires.indexed.few, column_few c.requires.indexed c.requires.ready c.requires.room c.args.q c.args.j c.requires.q_bound.0 c.requires.q_bound.1)
+    let d : c.literal-l.result / 2 < c.args.n = rw e (literal_node c.requires.indexed c.requires.ready c.requires.room c.args.q c.args.j
+    c.requires.q_bound.0) in
+    omega (
+      arith,
+      d,
+      c.requires.indexed.size,
+      c.requires.indexed.few,
+      column_few c.requires.indexed c.requires.ready c.requires.room c.args.q c.args.j
+          c.requires.q_bound.0 c.requires.q_bound.1,
+    )
 
 pub slot-a-requires : goal.slot-a-requires
 unfolding index_node
 slot-a-requires c = let e = c.literal-l.ensures in
-    let low = single-low c.requires.indexed c.requires.ready c.requires.room c.args.q c.args.j c.requires.q_bound.0 (rw e at c.if-row-eq1.true) c.requires.q_bound.1 in
+    let low = single-low c.requires.indexed c.requires.ready c.requires.room c.args.q c.args.j c.requires.q_bound.0 (rw e at c.if-row-eq1.true)
+    c.requires.q_bound.1 in
     let node = literal_node c.requires.indexed c.requires.ready c.requires.room c.args.q c.args.j c.requires.q_bound.0 in
     (c.requires.ready.size, c.requires.indexed.few, rw e (cell_below c.requires.indexed _ node c.args.j low))
 
 pub put_both-requires : goal.put_both-requires
 unfolding index_node
 put_both-requires c = let e = c.literal-l.ensures in
-    let low = single-low c.requires.indexed c.requires.ready c.requires.room c.args.q c.args.j c.requires.q_bound.0 (rw e at c.if-row-eq1.true) c.requires.q_bound.1 in
+    let low = single-low c.requires.indexed c.requires.ready c.requires.room c.args.q c.args.j c.requires.q_bound.0 (rw e at c.if-row-eq1.true)
+    c.requires.q_bound.1 in
     let node = literal_node c.requires.indexed c.requires.ready c.requires.room c.args.q c.args.j c.requires.q_bound.0 in (
       c.requires.room.there,
       slot_there c.requires.room c.requires.ready (cell_below c.requires.indexed _ node c.args.j low) (rw e at c.slot-a.ensures),
@@ -80,16 +88,12 @@ returns-then-row-eq1 c = let e = c.literal-l.ensures in
     put-single c.requires.indexed c.requires.ready c.requires.room c.args.q c.args.j c.requires.q_bound.0 (rw e at c.if-row-eq1.true) c.requires.q_bound.1
     (rw e at c.slot-a.ensures) c.put_both.ensures
 
-pub put_all-requires : goal.put_all-requires
-put_all-requires c = let e = c.literal-l.ensures in
-    record {
-      indexed = c.requires.indexed;
-      ready = c.requires.ready;
-      room = c.requires.room;
-      q_bound = (c.requires.q_bound.0, rw e (literal_node c.requires.indexed c.requires.ready c.requires.room c.args.q c.args.j c.requires.q_bound.0));
-    }
+pub put_all-requires-clause-q_bound : goal.put_all-requires-clause-q_bound
+put_all-requires-clause-q_bound c = let e = c.literal-l.ensures in
+    (c.requires.q_bound.0, rw e (literal_node c.requires.indexed c.requires.ready c.requires.room c.args.q c.args.j c.requires.q_bound.0))
 
 pub returns : goal.returns
 unfolding index_node
 returns c = let e = c.literal-l.ensures in
-    put_others c.requires.indexed c.requires.ready c.requires.room c.args.q c.args.j c.requires.q_bound.0 (rw e at c.if-row-eq1.false) (rw e at c.put_all.ensures)
+    put_others c.requires.indexed c.requires.ready c.requires.room c.args.q c.args.j c.requires.q_bound.0 (rw e at c.if-row-eq1.false)
+    (rw e at c.put_all.ensures)

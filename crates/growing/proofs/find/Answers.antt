@@ -1,5 +1,7 @@
 -- `growing::find` meets its contract: the walk along the chain of the hash; the links fall, so the measure is the link. Assumes nothing.
+use mathlib.Core.Path.{subst}
 use Prim.Native.Nat.{◌-◌}
+use Rattle.growing.specs.Chains.{Finds}
 use Rattle.growing.proofs.Chains.{at_head, at-end, at-node, goes_on}
 use native.Mathlib.Omega.{arith}
 use Rattle.growing.proofs.find.Goals as goal
@@ -17,7 +19,8 @@ pub bounds-keys-s : goal.bounds-keys-s
 bounds-keys-s c = omega (arith, c.loop-s.invariant.low, c.loop-s-test.true, c.requires.0.size, c.requires.0.most)
 
 pub returns-then-keys-s : goal.returns-then-keys-s
-returns-then-keys-s c = at-node c.loop-s.invariant c.loop-s-test.true c.if-keys-s.true
+returns-then-keys-s c =
+    subst (Finds c.args.keys.now c.args.n c.args.k) (omega (arith, c.loop-s-test.true)) (at-node c.loop-s.invariant c.loop-s-test.true c.if-keys-s.true)
 
 pub bounds-next-s : goal.bounds-next-s
 bounds-next-s c = omega (arith, c.loop-s.invariant.low, c.loop-s-test.true, c.requires.0.links, c.requires.0.most)

@@ -1,4 +1,3 @@
-use Prim.Native.Nat.{◌-◌}
 use Rattle.growing.proofs.Chains.{Left}
 use Rattle.growing.proofs.find.Given as goal
 

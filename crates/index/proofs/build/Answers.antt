@@ -2,12 +2,6 @@
 use Rattle.index.proofs.Wholes.{loaded_early, built}
 use Rattle.index.proofs.build.Goals as goal
 
-pub load-requires : goal.load-requires
-load-requires c = record {
-  nodes_le_most_nodes = (c.requires.nodes_le_most_nodes.0, c.requires.nodes_le_most_nodes.1);
-  x_len = c.requires.x_len;
-}
-
 pub link-requires : goal.link-requires
 link-requires c = let l = c.load.ensures in
     record {
@@ -15,11 +9,6 @@ link-requires c = let l = c.load.ensures in
       blank = l.counts;
     }
 
-pub copy_codes-requires : goal.copy_codes-requires
-copy_codes-requires c = c.link.ensures.size
-
-pub copy_classes-requires : goal.copy_classes-requires
-copy_classes-requires c = c.copy_codes.ensures.size
-
 pub returns : goal.returns
-returns c = built c.args.nodes _ _ _ _ c.requires.nodes_le_most_nodes.0 c.link.ensures c.copy_codes.ensures c.copy_classes.ensures c.args.t.now c.load.ensures
+returns c = built c.args.nodes _ _ _ _ c.requires.nodes_le_most_nodes.0 c.link.ensures c.copy_tables.ensures.1 c.copy_tables.ensures.2 c.args.t.now
+    c.load.ensures

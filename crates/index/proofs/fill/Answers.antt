@@ -1,8 +1,6 @@
 -- `index::fill` meets its contract. The loop's invariant: the edges from the nodes below p stand at their places, and p is next in the chain.
 -- Assumes nothing.
-use mathlib.Core.Path.{refl, sym, ◌∙◌}
-use Prim.Native.Nat.{◌+◌, ◌-◌}
-use Rattle.index.specs.Index.{first_at}
+use mathlib.Core.Path.{refl, ◌∙◌}
 use Rattle.index.proofs.Chains.{fills_none, fills-room, fills-next, fills-more, fills_same, fills_all}
 use native.Mathlib.Omega.{arith}
 use Rattle.index.proofs.fill.Goals as goal
@@ -10,18 +8,6 @@ use Rattle.index.proofs.fill.Goals as goal
 pub loop-p-init : goal.loop-p-init
 loop-p-init c = let q = c.requires.1 in
     ((q.0, q.1, fills_none c.requires.0 q.1 q.2), λ i h. refl)
-
-pub bounds-x-p : goal.bounds-x-p
-bounds-x-p c = omega (arith, c.loop-p.invariant.0.2.filled.size, c.loop-p-test.true, c.requires.0)
-
-pub overflow_cast-next : goal.overflow_cast-next
-overflow_cast-next c = omega (arith, c.type_inv.x (first_at + c.loop-p.p))
-
-pub bounds-x-p-in-loop-p : goal.bounds-x-p-in-loop-p
-bounds-x-p-in-loop-p c = omega (arith, c.loop-p.invariant.0.2.filled.size, c.loop-p-test.true, c.requires.0)
-
-pub bounds-x-p-in-loop-p-2 : goal.bounds-x-p-in-loop-p-2
-bounds-x-p-in-loop-p-2 c = omega (arith, c.loop-p.invariant.0.2.filled.size, c.loop-p-test.true, c.requires.0)
 
 pub put_node-requires : goal.put_node-requires
 put_node-requires c = let i = c.loop-p.invariant.0 in
@@ -37,9 +23,6 @@ loop-p-preserved c = let few = c.requires.0 in
     let h = c.loop-p-test.true in
     let e = c.put_node.ensures in
     ((i.0, i.1, rw e (fills-more few i.1 h i.2)), λ k b. rw e (fills_same few i.1 h i.2 k b ∙ c.loop-p.invariant.1 k b))
-
-pub shape_of-x : goal.shape_of-x
-shape_of-x c = c.loop-p.invariant.0.2.filled.size ∙ sym c.requires.1.2.size
 
 pub returns : goal.returns
 returns c = let i = c.loop-p.invariant in

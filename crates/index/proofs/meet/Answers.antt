@@ -1,21 +1,29 @@
 -- `index::meet` meets its contract: as many marks, and as many edges counted, as the kind has operands. Assumes nothing.
-use mathlib.Core.Path.{ap, ◌∙◌}
+use mathlib.Core.Path.{◌≡◌, ap, ◌∙◌}
 use mathlib.Core.List.{List}
-use Prim.Native.Nat.{ℕ, ◌+◌, ◌*◌, ◌/◌}
-use lib.ListN.{get_or}
-use Rattle.index.specs.Index.{mid_at, end_at, index_node}
-use Rattle.index.specs.Built.{raised}
+use Prim.Native.Nat.{ℕ}
+use Rattle.scope.specs.Table.{operands}
+use Rattle.index.specs.Index.{index_node}
+use Rattle.index.specs.Built.{count_node, Room}
+use Rattle.index.specs.Marks.{mark_all}
 use Rattle.index.proofs.Rooms.{count_none, count-first, count-second, counted-two, count-three-first, count-three-second, count-three-third, counted-all}
 use Rattle.index.proofs.Marks.{marks_none, marks_two, marks_three, first_low, second-low, third-low}
-use native.Mathlib.Omega.{arith}
 use borrow.Author.Rules.{rules}
+use Rattle.index.proofs.meet.Goals.{Then-kind-lt-THREES, After-mark-3}
 use Rattle.index.proofs.meet.Goals as goal
 
-pub overflow_cast-kind : goal.overflow_cast-kind
-overflow_cast-kind c = omega (arith, c.type_inv.x (4 * c.args.p))
+-- once the operands' nodes are marked: all are, and there is room for the edges
+two : (c : Then-kind-lt-THREES) → c.mark-2.new.x ≡ mark_all c.args.x.now (operands (index_node c.args.x.now c.args.p))
+two c = marks_two c.args.x.now c.args.p c.if-kind-lt-PAIRS.false c.if-kind-lt-THREES.true c.mark.ensures c.mark-2.ensures
 
-pub overflow_add-kind : goal.overflow_add-kind
-overflow_add-kind c = omega (arith, c.type_inv.x (4 * c.args.p))
+three : (c : After-mark-3) → c.mark-3.new.x ≡ mark_all c.args.x.now (operands (index_node c.args.x.now c.args.p))
+three c = marks_three c.args.x.now c.args.p c.if-kind-lt-THREES.false c.mark.ensures c.mark-2.ensures c.mark-3.ensures
+
+room_two : (c : Then-kind-lt-THREES) → Room c.args.p (index_node c.args.x.now c.args.p) c.mark-2.new.x
+room_two c = rw (two c) c.requires.room
+
+room_three : (c : After-mark-3) → Room c.args.p (index_node c.args.x.now c.args.p) c.mark-3.new.x
+room_three c = rw (three c) c.requires.room
 
 pub returns-then-kind-lt-PAIRS : goal.returns-then-kind-lt-PAIRS
 unfolding index_node
@@ -27,45 +35,42 @@ mark-requires c = (c.requires.x_len.0, first_low _ _ c.requires.x_len.2 c.if-kin
 pub mark-requires-2 : goal.mark-requires-2
 mark-requires-2 c = (search rules, second-low _ _ c.requires.x_len.2 c.if-kind-lt-PAIRS.false)
 
-pub count_pair-requires : goal.count_pair-requires
-unfolding index_node
-count_pair-requires c = let e = marks_two c.args.x.now c.args.p c.if-kind-lt-PAIRS.false c.if-kind-lt-THREES.true c.mark.ensures c.mark-2.ensures in
-    rw e (count-first c.requires.room c.if-kind-lt-PAIRS.false c.if-kind-lt-THREES.true)
-
-pub count_pair-requires-then-kind-lt-THREES : goal.count_pair-requires-then-kind-lt-THREES
-unfolding index_node
-count_pair-requires-then-kind-lt-THREES c = let a = get_or c.args.x.now (4 * c.args.p + 1) 0 in
-    let e = marks_two c.args.x.now c.args.p c.if-kind-lt-PAIRS.false c.if-kind-lt-THREES.true c.mark.ensures c.mark-2.ensures in
-    count-second c.requires.room c.if-kind-lt-PAIRS.false c.if-kind-lt-THREES.true (c.count_pair.ensures ∙ ap (λ (c : List ℕ). raised c (mid_at + a / 2) 2) e)
-
-pub returns-then-kind-lt-THREES : goal.returns-then-kind-lt-THREES
-unfolding index_node
-returns-then-kind-lt-THREES c = let a = get_or c.args.x.now (4 * c.args.p + 1) 0 in
-    let e = marks_two c.args.x.now c.args.p c.if-kind-lt-PAIRS.false c.if-kind-lt-THREES.true c.mark.ensures c.mark-2.ensures in
-    counted-two c.requires.room c.if-kind-lt-PAIRS.false c.if-kind-lt-THREES.true (c.count_pair.ensures ∙ ap (λ (c : List ℕ). raised c (mid_at + a / 2) 2) e) c.count_pair-then-kind-lt-THREES.ensures
-
 pub mark-requires-3 : goal.mark-requires-3
 mark-requires-3 c = (search rules, third-low _ _ c.requires.x_len.2 c.if-kind-lt-THREES.false)
 
-pub count_three-requires : goal.count_three-requires
+pub raise-requires : goal.raise-requires
 unfolding index_node
-count_three-requires c = let e = marks_three c.args.x.now c.args.p c.if-kind-lt-THREES.false c.mark.ensures c.mark-2.ensures c.mark-3.ensures in
-    rw e (count-three-first c.requires.room c.if-kind-lt-THREES.false)
+raise-requires c = let r = room_two (goal.at.raise-requires c).Then-kind-lt-THREES in
+    count-first r c.if-kind-lt-PAIRS.false c.if-kind-lt-THREES.true
 
-pub count_three-requires-2 : goal.count_three-requires-2
+pub raise-requires-then-kind-lt-THREES : goal.raise-requires-then-kind-lt-THREES
 unfolding index_node
-count_three-requires-2 c = let a = get_or c.args.x.now (4 * c.args.p + 1) 0 in
-    let e = marks_three c.args.x.now c.args.p c.if-kind-lt-THREES.false c.mark.ensures c.mark-2.ensures c.mark-3.ensures in
-    count-three-second c.requires.room c.if-kind-lt-THREES.false (c.count_three.ensures ∙ ap (λ (c : List ℕ). raised c (end_at + a / 2) 1) e)
+raise-requires-then-kind-lt-THREES c = let r = room_two (goal.at.raise-requires-then-kind-lt-THREES c).Then-kind-lt-THREES in
+    count-second r c.if-kind-lt-PAIRS.false c.if-kind-lt-THREES.true c.raise.ensures.0
 
-pub count_three-requires-3 : goal.count_three-requires-3
+pub returns-then-kind-lt-THREES : goal.returns-then-kind-lt-THREES
 unfolding index_node
-count_three-requires-3 c = let a = get_or c.args.x.now (4 * c.args.p + 1) 0 in
-    let e = marks_three c.args.x.now c.args.p c.if-kind-lt-THREES.false c.mark.ensures c.mark-2.ensures c.mark-3.ensures in
-    count-three-third c.requires.room c.if-kind-lt-THREES.false (c.count_three.ensures ∙ ap (λ (c : List ℕ). raised c (end_at + a / 2) 1) e) c.count_three-2.ensures
+returns-then-kind-lt-THREES c = let a = (goal.at.returns-then-kind-lt-THREES c).Then-kind-lt-THREES in
+    counted-two (room_two a) c.if-kind-lt-PAIRS.false c.if-kind-lt-THREES.true c.raise.ensures.0 c.raise-then-kind-lt-THREES.ensures.0
+    ∙ ap (λ (x : List ℕ). count_node x (index_node c.args.x.now c.args.p)) (two a)
+
+pub raise-requires-2 : goal.raise-requires-2
+unfolding index_node
+raise-requires-2 c = let r = room_three (goal.at.raise-requires-2 c).After-mark-3 in
+    count-three-first r c.if-kind-lt-THREES.false
+
+pub raise-requires-3 : goal.raise-requires-3
+unfolding index_node
+raise-requires-3 c = let r = room_three (goal.at.raise-requires-3 c).After-mark-3 in
+    count-three-second r c.if-kind-lt-THREES.false c.raise-2.ensures.0
+
+pub raise-requires-4 : goal.raise-requires-4
+unfolding index_node
+raise-requires-4 c = let r = room_three (goal.at.raise-requires-4 c).After-mark-3 in
+    count-three-third r c.if-kind-lt-THREES.false c.raise-2.ensures.0 c.raise-3.ensures.0
 
 pub returns : goal.returns
 unfolding index_node
-returns c = let a = get_or c.args.x.now (4 * c.args.p + 1) 0 in
-    let e = marks_three c.args.x.now c.args.p c.if-kind-lt-THREES.false c.mark.ensures c.mark-2.ensures c.mark-3.ensures in
-    counted-all c.requires.room c.if-kind-lt-THREES.false (c.count_three.ensures ∙ ap (λ (c : List ℕ). raised c (end_at + a / 2) 1) e) c.count_three-2.ensures c.count_three-3.ensures
+returns c = let a = (goal.at.returns c).After-mark-3 in
+    counted-all (room_three a) c.if-kind-lt-THREES.false c.raise-2.ensures.0 c.raise-3.ensures.0 c.raise-4.ensures.0
+    ∙ ap (λ (x : List ℕ). count_node x (index_node c.args.x.now c.args.p)) (three a)

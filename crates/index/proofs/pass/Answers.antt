@@ -9,8 +9,12 @@ use borrow.Author.Rules.{rules}
 use Rattle.index.proofs.pass.Goals as goal
 
 pub place_node-r-requires : goal.place_node-r-requires
-place_node-r-requires c = let x = c.args.x.now in
-    (c.requires.p_lt_most_nodes.3, c.requires.p_lt_most_nodes.0, omega (arith, c.requires.fits.0.0, sum_next (λ i. mid_of x i + end_of x i) c.args.p), c.requires.fits.0.1)
+place_node-r-requires c = let x = c.args.x.now in (
+  c.requires.p_lt_most_nodes.3,
+  c.requires.p_lt_most_nodes.0,
+  omega (arith, c.requires.fits.0.0, sum_next (λ i. mid_of x i + end_of x i) c.args.p),
+  c.requires.fits.0.1,
+)
 
 pub meet-requires : goal.meet-requires
 meet-requires c = let t = c.args.t.now in

@@ -1,9 +1,6 @@
-use Prim.Native.Nat.{◌-◌}
-use Rattle.index.specs.Marks.{Over}
+-- The invariant of the loop of `index::pass_over`: no node from p on is marked.
+use Rattle.index.specs.Marks.{Unmarked}
 use Rattle.index.proofs.pass_over.Given as goal
 
-abbrev pub invariant-loop-e : goal.invariant-loop-e
-invariant-loop-e l = Over l.base l.end l.x l.e
-
-abbrev pub decreases-loop-e : goal.decreases-loop-e
-decreases-loop-e l = l.e
+abbrev pub invariant-loop-p : goal.invariant-loop-p
+invariant-loop-p l = Unmarked l.p l.end l.x

@@ -1,5 +1,5 @@
 use mathlib.Core.Path.{◌≡◌}
-use Prim.Native.Nat.{ℕ, ◌-◌, ◌≤◌}
+use Prim.Native.Nat.{ℕ}
 use Rattle.scope.specs.declared.Node.{Node}
 use Rattle.index.specs.Index.{first_at}
 use Rattle.index.specs.Built.{Same, Early, start_of}
@@ -7,7 +7,4 @@ use Rattle.index.proofs.Wholes.{Place}
 use Rattle.index.proofs.place.Given as goal
 
 abbrev pub invariant-loop-m : goal.invariant-loop-m
-invariant-loop-m l = (l.m ≤ l.n) × ((t : ℕ → Node) × Early t l.n × Place t l.n l.m l.x × (l.start ≡ start_of t l.n l.m)) × Same first_at l.initial.x l.x
-
-abbrev pub decreases-loop-m : goal.decreases-loop-m
-decreases-loop-m l = l.n - l.m
+invariant-loop-m l = ((t : ℕ → Node) × Early t l.n × Place t l.n l.m l.x × (l.start ≡ start_of t l.n l.m)) × Same first_at l.initial.x l.x

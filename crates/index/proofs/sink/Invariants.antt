@@ -1,12 +1,8 @@
 use mathlib.Core.Path.{◌≡◌}
-use Prim.Native.Nat.{◌-◌, ◌≤◌}
-use lib.ListN.{length}
-use Rattle.index.specs.Index.{index_size}
+use Prim.Native.Nat.{min, ◌*◌}
 use Rattle.index.specs.Marks.{sunk, top, Fits, Flagged}
 use Rattle.index.proofs.sink.Given as goal
 
-abbrev pub invariant-loop-end : goal.invariant-loop-end
-invariant-loop-end l = (l.end ≤ l.n) × (length l.x ≡ index_size) × (sunk l.t l.x l.d l.end ≡ sunk l.t l.initial.x (top l.n) l.n) × Fits l.end l.d l.x × Flagged l.end l.x
-
-abbrev pub decreases-loop-end : goal.decreases-loop-end
-decreases-loop-end l = l.end
+abbrev pub invariant-loop-j : goal.invariant-loop-j
+invariant-loop-j l = let p = min l.n (63 * l.j) in
+    (sunk l.t l.x l.d p ≡ sunk l.t l.initial.x (top l.n) l.n) × Fits p l.d l.x × Flagged p l.x

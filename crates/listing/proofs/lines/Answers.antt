@@ -1,4 +1,4 @@
--- `listing::lines` meets its contract: the lines so far stand behind one another. The measure is how many are left. Assumes nothing.
+-- `listing::lines` meets its contract: the lines so far stand behind one another. Assumes nothing.
 use mathlib.Core.Path.{◌≡◌, ◌∙◌, refl}
 use native.Mathlib.Numerals.{add-one}
 use native.Mathlib.Omega.{arith}

@@ -1,6 +1,6 @@
 use mathlib.Core.Path.{◌≡◌}
 use mathlib.Core.List.{List}
-use Prim.Native.Nat.{◌+◌, ◌-◌, ◌*◌, ◌≤◌}
+use Prim.Native.Nat.{◌+◌, ◌*◌, ◌≤◌}
 use lib.ListN.{length}
 use Rattle.scope.specs.declared.Node.{Node}
 use Rattle.text.specs.Text.{Put}
@@ -11,6 +11,3 @@ use Rattle.listing.proofs.lines.Given as goal
 abbrev pub invariant-loop-m : goal.invariant-loop-m
 invariant-loop-m g l = (l.m ≤ l.nodes) × (l.start ≤ l.end) × (l.end ≤ l.start + most_line * l.m) × (length l.out ≡ length l.initial.out) × (length l.work ≡ length l.initial.work)
     × ((rs : List Node) → Same l.x l.nodes rs → Put l.initial.out l.start (node_lines rs l.m) l.out l.end)
-
-abbrev pub decreases-loop-m : goal.decreases-loop-m
-decreases-loop-m g l = l.nodes - l.m

@@ -1,12 +1,10 @@
 use mathlib.Core.Path.{◌≡◌}
-use Prim.Native.Nat.{◌+◌, ◌*◌, ◌-◌, ◌≤◌}
+use Prim.Native.Nat.{◌+◌, ◌*◌, ◌-◌}
 use Rattle.scope.specs.Table.{node_at, list_from}
 use Rattle.scope.specs.Calls.{index_of}
 use Rattle.lookup.proofs.find_in.Given as goal
 
 abbrev pub invariant-loop-i : goal.invariant-loop-i
-invariant-loop-i l = (l.i ≤ l.count)
-    × (63 * l.j + l.i + index_of l.x (list_from (node_at l.t) (63 * l.j + l.i) (63 * l.j + l.count - (63 * l.j + l.i))) ≡ 63 * l.j + index_of l.x (list_from (node_at l.t) (63 * l.j) l.count))
-
-abbrev pub decreases-loop-i : goal.decreases-loop-i
-decreases-loop-i l = l.count - l.i
+invariant-loop-i l =
+    63 * l.j + l.i + index_of l.x (list_from (node_at l.t) (63 * l.j + l.i) (63 * l.j + l.count - (63 * l.j + l.i)))
+    ≡ 63 * l.j + index_of l.x (list_from (node_at l.t) (63 * l.j) l.count)

@@ -9,9 +9,6 @@ overflow_add-q c = omega (arith, on_few c.conflict_clause-j.ensures, c.requires.
 pub keep-requires : goal.keep-requires
 keep-requires c = (c.requires.holds.ready.size, omega (arith, on_few c.conflict_clause-j.ensures, c.requires.q_value.1))
 
-pub overflow_cast-result : goal.overflow_cast-result
-overflow_cast-result c = omega (arith, on_few c.conflict_clause-j.ensures)
-
 pub overflow_add-result : goal.overflow_add-result
 overflow_add-result c = let o = c.conflict_clause-j.ensures in
     let b = base_low c.requires.indexed.few c.requires.goals c.requires.holds c.args.q (omega (arith, o.held)) in

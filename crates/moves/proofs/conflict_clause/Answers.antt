@@ -1,14 +1,6 @@
 -- `moves::conflict_clause` meets its contract. Assumes nothing.
-use Rattle.moves.proofs.Moves.{conflict-low, conflict-on}
+use Rattle.moves.proofs.Moves.{conflict-on}
 use Rattle.moves.proofs.conflict_clause.Goals as goal
-
-pub code_at-code-requires : goal.code_at-code-requires
-code_at-code-requires c = let q = c.requires.q_value in
-    record {
-      indexed = c.requires.indexed;
-      ready = c.requires.holds.ready;
-      q_bound = conflict-low c.requires.indexed.few c.requires.goals c.requires.holds q.0 q.1;
-    }
 
 pub returns : goal.returns
 returns c = let q = c.requires.q_value in

@@ -1,6 +1,6 @@
 use mathlib.Core.Path.{◌≡◌}
 use mathlib.Core.Bool.{true}
-use Prim.Native.Nat.{ℕ, ◌-◌, ◌<◌, ◌≤◌}
+use Prim.Native.Nat.{ℕ, ◌<◌, ◌≤◌}
 use Rattle.calculus.specs.Order.{some}
 use Rattle.index.specs.Index.{index_node}
 use Rattle.clause.specs.Coded.{is_open}
@@ -9,7 +9,4 @@ use Rattle.state.specs.Holds.{states_at}
 use Rattle.moves.proofs.open_from.Given as goal
 
 abbrev pub invariant-loop-q : goal.invariant-loop-q
-invariant-loop-q l = (cursor_of l.work ≤ l.q) × (l.q ≤ tail l.work 0) × ((p : ℕ) → p < l.q → cursor_of l.work ≤ p → some is_open (states_at (index_node l.x) (g_of l.work) (tail l.work) p) ≡ true → ⊥)
-
-abbrev pub decreases-loop-q : goal.decreases-loop-q
-decreases-loop-q l = tail l.work 0 - l.q
+invariant-loop-q l = (p : ℕ) → p < l.q → cursor_of l.work ≤ p → some is_open (states_at (index_node l.x) (g_of l.work) (tail l.work) p) ≡ true → ⊥

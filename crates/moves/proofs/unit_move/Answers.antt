@@ -1,7 +1,6 @@
 -- `moves::unit_move` meets its contract. Assumes nothing.
-use mathlib.Core.Path.{refl}
 use Rattle.state.proofs.Areas.{count_most}
-use Rattle.moves.proofs.Moves.{base_low, unit-low, unit-position, picked_on}
+use Rattle.moves.proofs.Moves.{base_low, unit-low, unit-position}
 use Prim.Native.Nat.{◌/◌}
 use native.Mathlib.Omega.{arith}
 use Rattle.moves.proofs.unit_move.Goals as goal
@@ -16,12 +15,8 @@ overflow_add-result c = let p = c.requires.picked in
     let b = unit-low c.requires.indexed.few c.requires.goals c.requires.holds p.free p.waiting p.first in
     omega (arith, c.base-base.ensures, base_low c.requires.indexed.few c.requires.goals c.requires.holds (c.args.u / 65536) (omega (arith, b)))
 
-pub returns : goal.returns
-returns c = let p = c.requires.picked in
+pub returns-clause-moved : goal.returns-clause-moved
+returns-clause-moved c = let p = c.requires.picked in
     let z = c.keep.ensures in
     let k = p.kept in
-    record {
-      moved = unit-position c.requires.indexed.few c.requires.goals c.requires.holds p.free p.waiting p.first (omega (arith, k)) (omega (arith, k)) z c.base-base.ensures;
-      literal_value = refl;
-      picked_2 = picked_on z p;
-    }
+    unit-position c.requires.indexed.few c.requires.goals c.requires.holds p.free p.waiting p.first (omega (arith, k)) (omega (arith, k)) z c.base-base.ensures

@@ -4,15 +4,8 @@ use Rattle.rules.specs.Steps.{step_at}
 use Rattle.naming.proofs.Heads.{at_more, at-missing, at-whole}
 use Rattle.naming.proofs.head.Goals as goal
 
-pub shared-i-requires : goal.shared-i-requires
-shared-i-requires c = c.requires
-
-pub is_name-requires : goal.is_name-requires
-is_name-requires c = c.requires
-
 pub returns-then-is_name : goal.returns-then-is_name
-returns-then-is_name c = c.refusal.ensures
-    ∙ at_more c.args.version (step_at c.args.d.now) c.args.goals.now c.args.count _ c.shared-i.ensures
+returns-then-is_name c = at_more c.args.version (step_at c.args.d.now) c.args.goals.now c.args.count _ c.shared-i.ensures
     (sym c.is_name.ensures ∙ c.if-is_name.true)
 
 pub returns-then-i-goals : goal.returns-then-i-goals

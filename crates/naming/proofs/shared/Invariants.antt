@@ -1,12 +1,9 @@
 use mathlib.Core.Path.{◌≡◌}
-use Prim.Native.Nat.{◌≤◌, ◌+◌, ◌-◌}
-use lib.ListN.{length, drop}
+use Prim.Native.Nat.{◌+◌, ◌-◌}
+use lib.ListN.{drop}
 use Rattle.rules.specs.Rules.{agreed}
 use Rattle.naming.specs.Named.{names_of}
 use Rattle.naming.proofs.shared.Given as goal
 
 abbrev pub invariant-loop-i : goal.invariant-loop-i
-invariant-loop-i l = (l.i ≤ length l.goals) × (l.i + agreed (names_of l.d l.i (l.count - l.i)) (drop l.i l.goals) ≡ agreed (names_of l.d 0 l.count) l.goals)
-
-abbrev pub decreases-loop-i : goal.decreases-loop-i
-decreases-loop-i l = length l.goals - l.i
+invariant-loop-i l = l.i + agreed (names_of l.d l.i (l.count - l.i)) (drop l.i l.goals) ≡ agreed (names_of l.d 0 l.count) l.goals

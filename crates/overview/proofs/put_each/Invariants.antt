@@ -1,5 +1,4 @@
 use mathlib.Core.Path.{◌≡◌}
-use Prim.Native.Nat.{◌-◌}
 use lib.ListN.{length}
 use Rattle.index.specs.Index.{index_node}
 use Rattle.state.specs.Work.{Ready}
@@ -10,6 +9,3 @@ use Rattle.overview.proofs.put_each.Given as goal
 
 abbrev pub invariant-loop-i : goal.invariant-loop-i
 invariant-loop-i l = ((Ready l.n l.work × Sets l.rests) × (length l.work ≡ length l.initial.work)) × Putting (asks (index_node l.x) l.n) l.goals l.initial.answers l.i l.answers
-
-abbrev pub decreases-loop-i : goal.decreases-loop-i
-decreases-loop-i l = length l.goals - l.i

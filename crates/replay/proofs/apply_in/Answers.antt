@@ -7,18 +7,6 @@ use Rattle.rules.specs.Rules.{apply, apply_two, apply_in}
 use Rattle.replay.proofs.Ruled.{ruled_as}
 use Rattle.replay.proofs.apply_in.Goals as goal
 
-pub apply_step-requires : goal.apply_step-requires
-apply_step-requires c = record {
-  indexed = c.requires.indexed;
-  held = c.requires.held;
-}
-
-pub apply_two-requires : goal.apply_two-requires
-apply_two-requires c = record {
-  indexed = c.requires.indexed;
-  held = c.requires.held;
-}
-
 pub returns-in-One : goal.returns-in-One
 returns-in-One c = let e = expand (index_node c.args.x.now) in
     let n = c.args.n in

@@ -1,9 +1,9 @@
--- `replay::check_run` meets its contract. The loop's invariant: the work area holds some history, and the rest of the run from there is the answer. Assumes nothing.
+-- `replay::check_run` meets its contract. The loop's invariant: the work area holds some history, and the rest of the run from there is
+-- the answer. Assumes nothing.
 use mathlib.Core.Path.{◌≡◌, refl, ◌∙◌}
 use Prim.Native.Nat.{ℕ, zero, suc, ◌+◌, ◌/◌, ◌%◌, ◌<◌, ◌≤◌}
 use native.Mathlib.Decide.{dec_lt}
 use native.Mathlib.Omega.{arith}
-use lib.ListN.{length}
 use Rattle.index.specs.Index.{index_node}
 use Rattle.rules.specs.Steps.{step_at}
 use Rattle.steps.specs.Opened.{place_of}
@@ -29,24 +29,13 @@ place_low : (from count len : ℕ) → from ≤ count → ((k : ℕ) → k < cou
 place_low zero count len h p = omega arith
 place_low (suc k) count len h p = omega (arith, place-next k, p k (omega (arith, h)))
 
-pub begin-requires : goal.begin-requires
-begin-requires c = record {
-  indexed = c.requires.indexed;
-  goals = c.requires.goals;
-  area_size_in_bounds = c.requires.area_size_in_bounds;
-}
-
-pub place-at-requires : goal.place-at-requires
-place-at-requires c = omega (arith, c.well_formed, place_low c.args.from c.args.count (length c.args.d.now) c.requires.from_le_count c.requires.by_index)
-
 pub loop-i-init : goal.loop-i-init
-loop-i-init c = (refl, going_starts c.args.version (index_node c.args.x.now) c.args.n c.args.goals.now (step_at c.args.d.now) c.args.count c.args.from c.requires.from_le_count c.begin.new.work c.begin.ensures.holds c.begin.ensures.work_after, c.place-at.ensures)
-
-pub step_by-s-requires : goal.step_by-s-requires
-step_by-s-requires c = (c.loop-i.invariant.2, c.requires.by_index c.loop-i.i c.loop-i-test.true)
-
-pub shape_of-work-then-s-eq71 : goal.shape_of-work-then-s-eq71
-shape_of-work-then-s-eq71 c = c.loop-i.invariant.0 ∙ c.begin.auto.work
+loop-i-init c = (
+  refl,
+  going_starts c.args.version (index_node c.args.x.now) c.args.n c.args.goals.now
+      (step_at c.args.d.now) c.args.count c.args.from c.requires.from_le_count c.begin.new.work c.begin.ensures.holds c.begin.ensures.work_after,
+  c.place-at.ensures,
+)
 
 pub returns-then-s-eq71 : goal.returns-then-s-eq71
 returns-then-s-eq71 c = let g = c.loop-i.invariant.1 in
@@ -54,31 +43,14 @@ returns-then-s-eq71 c = let g = c.loop-i.invariant.1 in
     ∙ going-late c.args.version (index_node c.args.x.now) c.args.n c.args.goals.now (step_at c.args.d.now) c.args.count g c.loop-i-test.true
     (is_name c.step_by-s.ensures c.if-s-eq71.true)
 
-pub apply_in-r-requires : goal.apply_in-r-requires
-apply_in-r-requires c = let goals = c.args.goals.now in
-    let g = c.loop-i.invariant.1 in
-    record {
-      indexed = c.requires.indexed;
-      held = (goals, g.history, g.holds);
-    }
-
-pub shape_of-work-in-Failed : goal.shape_of-work-in-Failed
-shape_of-work-in-Failed c = c.apply_in-r.auto.work ∙ c.loop-i.invariant.0 ∙ c.begin.auto.work
-
 pub returns-in-Failed : goal.returns-in-Failed
 returns-in-Failed c = let t = index_node c.args.x.now in
     let n = c.args.n in
     let goals = c.args.goals.now in
     let f = step_at c.args.d.now in
     let g = c.loop-i.invariant.1 in
-    let r = step-told c.args.version c.apply_in-r.new.work g.history c.apply_in-r.ensures c.step_by-s.ensures c.in-Failed.is g.holds in
+    let r = step-told c.args.version c.apply_in.new.work g.history c.apply_in.ensures c.step_by-s.ensures c.in-Failed.is g.holds in
     c.refusal-in-Failed.ensures ∙ going-fails c.args.version t n goals f c.args.count g c.loop-i-test.true (no_name c.step_by-s.ensures c.if-s-eq71.false) r
-
-pub overflow_add-i : goal.overflow_add-i
-overflow_add-i c = omega (arith, c.loop-i-test.true)
-
-pub shape_of-work-in-Complete : goal.shape_of-work-in-Complete
-shape_of-work-in-Complete c = c.apply_in-r.auto.work ∙ c.loop-i.invariant.0 ∙ c.begin.auto.work
 
 pub returns-in-Complete : goal.returns-in-Complete
 returns-in-Complete c = let t = index_node c.args.x.now in
@@ -86,17 +58,8 @@ returns-in-Complete c = let t = index_node c.args.x.now in
     let goals = c.args.goals.now in
     let f = step_at c.args.d.now in
     let g = c.loop-i.invariant.1 in
-    let r = step-told c.args.version c.apply_in-r.new.work g.history c.apply_in-r.ensures c.step_by-s.ensures c.in-Complete.is g.holds in
+    let r = step-told c.args.version c.apply_in.new.work g.history c.apply_in.ensures c.step_by-s.ensures c.in-Complete.is g.holds in
     c.completed.ensures ∙ going-completes c.args.version t n goals f c.args.count g c.loop-i-test.true (no_name c.step_by-s.ensures c.if-s-eq71.false) r
-
-pub place_after-at-requires : goal.place_after-at-requires
-place_after-at-requires c = (c.loop-i.invariant.2, omega (arith, c.well_formed, c.requires.by_index c.loop-i.i c.loop-i-test.true))
-
-pub overflow_add-i-in-loop-i : goal.overflow_add-i-in-loop-i
-overflow_add-i-in-loop-i c = omega (arith, c.loop-i-test.true)
-
-pub loop-i-smaller : goal.loop-i-smaller
-loop-i-smaller c = omega (arith, c.loop-i-test.true)
 
 pub loop-i-preserved : goal.loop-i-preserved
 loop-i-preserved c = let t = index_node c.args.x.now in
@@ -104,14 +67,11 @@ loop-i-preserved c = let t = index_node c.args.x.now in
     let goals = c.args.goals.now in
     let f = step_at c.args.d.now in
     let g = c.loop-i.invariant.1 in
-    let r = step-told c.args.version c.apply_in-r.new.work g.history c.apply_in-r.ensures c.step_by-s.ensures c.in-Running.is g.holds in
-    let kept = c.apply_in-r.auto.work ∙ c.loop-i.invariant.0 in
+    let r = step-told c.args.version c.apply_in.new.work g.history c.apply_in.ensures c.step_by-s.ensures c.in-Running.is g.holds in
+    let kept = c.apply_in.auto.work ∙ c.loop-i.invariant.0 in
     let below = c.loop-i-test.true in
     let other = no_name c.step_by-s.ensures c.if-s-eq71.false in
     (kept, going-goes c.args.version t n goals f c.args.count g below other r, c.place_after-at.ensures)
-
-pub shape_of-work : goal.shape_of-work
-shape_of-work c = c.loop-i.invariant.0 ∙ c.begin.auto.work
 
 pub returns : goal.returns
 returns c = let t = index_node c.args.x.now in

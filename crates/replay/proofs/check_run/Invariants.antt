@@ -16,6 +16,3 @@ invariant-loop-i l = (length l.work ≡ length l.initial.work)
     × Going l.version (index_node l.x) l.n l.goals (step_at l.d) l.count
     (run l.version (expand (index_node l.x)) l.goals l.n l.from (list_from (step_at l.d) l.from (l.count - l.from)) (running root [])) l.work l.i
     × (l.at ≡ place_of l.i)
-
-abbrev pub decreases-loop-i : goal.decreases-loop-i
-decreases-loop-i l = l.count - l.i

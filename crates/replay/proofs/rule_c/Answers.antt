@@ -9,7 +9,8 @@ pub emptied-requires : goal.emptied-requires
 emptied-requires c = ranged_of c.requires.indexed.few c.requires.held
 
 pub returns-then-not-emptied : goal.returns-then-not-emptied
-returns-then-not-emptied c = c_refuses (index_node c.args.x.now) c.args.n c.args.work.now c.requires.indexed.few c.args.k (sym c.emptied.ensures ∙ c.if-not-emptied.true)
+returns-then-not-emptied c = c_refuses (index_node c.args.x.now) c.args.n c.args.work.now c.requires.indexed.few c.args.k
+    (sym c.emptied.ensures ∙ c.if-not-emptied.true)
 
 pub returns : goal.returns
 returns c = c_turns (index_node c.args.x.now) c.args.n c.args.work.now c.requires.indexed.few c.args.k c.turn.new.work c.turn.result

@@ -1,39 +1,27 @@
 -- `replay::unit_two` meets its contract. The clause's state is the rule's condition; past it the literal joins. Assumes nothing.
-use native.Mathlib.Omega.{arith}
 use mathlib.Core.Path.{refl, sym, ap, ◌∙◌}
-use Rattle.index.specs.Index.{index_node}
 use Rattle.seen.specs.Seen.{seen_of}
 use Rattle.replay.proofs.Told.{trail_of, ranged_of, slot_literal}
-use Rattle.replay.proofs.Two.{unit-out, unit-fails, unit-ready, unit_runs}
+use Rattle.replay.proofs.Two.{unit-out, unit-fails, unit-ready, unit_runs, not_one}
 use Rattle.replay.proofs.unit_two.Goals as goal
 
-pub overflow_cast-work : goal.overflow_cast-work
-overflow_cast-work c = omega (arith, c.type_inv.work 0)
-
 pub returns-then-work-k : goal.returns-then-work-k
-returns-then-work-k c = let t = index_node c.args.x.now in
-    let n = c.args.n in
-    let w = c.args.work.now in
-    let few = c.requires.indexed.few in
-    let k = c.args.k in
-    unit-out t n w few k c.if-work-k.true
+returns-then-work-k c = unit-out _ _ _ c.requires.indexed.few c.args.k c.if-work-k.true
 
-pub clause_state-state-requires : goal.clause_state-state-requires
-clause_state-state-requires c = let few = c.requires.indexed.few in
-    let H = c.requires.held in
-    let num = c.if-work-k.false in
+pub clause_state-requires : goal.clause_state-requires
+clause_state-requires c = let num = c.if-work-k.false in
     record {
-      ranged = (ranged_of few H, num, few);
-      vals = ((trail_of few H).vals, λ i b. slot_literal few H c.requires.indexed.table c.args.k num i b);
+      ranged = (ranged_of c.requires.indexed.few c.requires.held, num, c.requires.indexed.few);
+      vals = (
+        (trail_of c.requires.indexed.few c.requires.held).vals,
+        λ i b.
+            slot_literal c.requires.indexed.few c.requires.held c.requires.indexed.table c.args.k num i b,
+      );
     }
 
 pub push-requires : goal.push-requires
-push-requires c = let t = index_node c.args.x.now in
-    let n = c.args.n in
-    let w = c.args.work.now in
-    let few = c.requires.indexed.few in
-    let k = c.args.k in
-    let r = unit-ready t n w few k c.if-work-k.false (sym (ap seen_of c.in-One.is) ∙ c.clause_state-state.ensures) refl c.requires.held c.requires.indexed.table in
+push-requires c = let r = unit-ready _ _ _ c.requires.indexed.few c.args.k c.if-work-k.false
+    (sym (ap seen_of c.in-One.is) ∙ c.clause_state.ensures) refl c.requires.held c.requires.indexed.table in
     record {
       indexed = c.requires.indexed;
       area_size_in_bounds = r.0;
@@ -41,34 +29,8 @@ push-requires c = let t = index_node c.args.x.now in
       trail = r.1.1;
     }
 
-pub returns-in-Met : goal.returns-in-Met
-returns-in-Met c = let t = index_node c.args.x.now in
-    let n = c.args.n in
-    let w = c.args.work.now in
-    let few = c.requires.indexed.few in
-    let k = c.args.k in
-    unit-fails t n w few k c.if-work-k.false (sym (ap seen_of c.in-Met.is) ∙ c.clause_state-state.ensures) refl
+pub returns-in_default : goal.returns-in_default
+returns-in_default c = unit-fails _ _ _ c.requires.indexed.few c.args.k c.if-work-k.false c.clause_state.ensures (not_one _ c.in_default.not-One)
 
-pub returns-in-Empty : goal.returns-in-Empty
-returns-in-Empty c = let t = index_node c.args.x.now in
-    let n = c.args.n in
-    let w = c.args.work.now in
-    let few = c.requires.indexed.few in
-    let k = c.args.k in
-    unit-fails t n w few k c.if-work-k.false (sym (ap seen_of c.in-Empty.is) ∙ c.clause_state-state.ensures) refl
-
-pub returns-in-One : goal.returns-in-One
-returns-in-One c = let t = index_node c.args.x.now in
-    let n = c.args.n in
-    let w = c.args.work.now in
-    let few = c.requires.indexed.few in
-    let k = c.args.k in
-    unit_runs t n w few k c.if-work-k.false (sym (ap seen_of c.in-One.is) ∙ c.clause_state-state.ensures) refl c.push.ensures
-
-pub returns-in-Many : goal.returns-in-Many
-returns-in-Many c = let t = index_node c.args.x.now in
-    let n = c.args.n in
-    let w = c.args.work.now in
-    let few = c.requires.indexed.few in
-    let k = c.args.k in
-    unit-fails t n w few k c.if-work-k.false (sym (ap seen_of c.in-Many.is) ∙ c.clause_state-state.ensures) refl
+pub returns : goal.returns
+returns c = unit_runs _ _ _ c.requires.indexed.few c.args.k c.if-work-k.false (sym (ap seen_of c.in-One.is) ∙ c.clause_state.ensures) refl c.push.ensures

@@ -16,7 +16,8 @@ assume-requires c = let g = c.next_move-m.ensures.work_unchanged in
       indexed = c.requires.indexed;
       goals = c.requires.goals;
       holds = s.holds;
-      fresh = joins-fresh s c.requires.indexed.table c.requires.goals.below _ (unit_follows s (ap (move _ _) g ∙ sym c.next_move-m.ensures.value ∙ c.in-Unit.is) c.if-u-l.false);
+      fresh = joins-fresh s c.requires.indexed.table c.requires.goals.below _
+          (unit_follows s (ap (move _ _) g ∙ sym c.next_move-m.ensures.value ∙ c.in-Unit.is) c.if-u-l.false);
     }
 
 pub follow_split-requires : goal.follow_split-requires
@@ -37,7 +38,8 @@ returns-in-Conflict c = let g = c.next_move-m.ensures.work_unchanged in
 pub returns-else-u-l : goal.returns-else-u-l
 returns-else-u-l c = let g = c.next_move-m.ensures.work_unchanged in
     let s = looked c.requires.stands c.next_move-m.ensures.holds_2 g in
-    followed_looked g (went-unit s c.assume.ensures.holds_2 c.assume.ensures.work_after (ap (move _ _) g ∙ sym c.next_move-m.ensures.value ∙ c.in-Unit.is) c.if-u-l.false)
+    followed_looked g (went-unit s c.assume.ensures.holds_2 c.assume.ensures.work_after (ap (move _ _) g ∙ sym c.next_move-m.ensures.value
+    ∙ c.in-Unit.is) c.if-u-l.false)
 
 pub returns-in-Done : goal.returns-in-Done
 returns-in-Done c = let g = c.next_move-m.ensures.work_unchanged in

@@ -17,6 +17,7 @@ assume-requires c = let s = c.requires.stands in
 
 pub returns : goal.returns
 returns c = record {
-  stands_2 = stands-forked c.requires.stands c.assume.ensures.holds_2 c.assume.ensures.work_after c.requires.work_value c.count-held.ensures c.push.auto.opens c.push.ensures;
+  stands_2 = stands-forked c.requires.stands c.assume.ensures.holds_2 c.assume.ensures.work_after c.requires.work_value c.count-held.ensures
+      c.push.auto.opens c.push.ensures;
   work_after = c.assume.ensures.work_after;
 }

@@ -20,7 +20,8 @@ assume-requires c = let g = c.next_move-m.ensures.work_unchanged in
       indexed = c.requires.indexed;
       goals = c.requires.goals;
       holds = s.holds;
-      fresh = joins-fresh s c.requires.indexed.table c.requires.goals.below _ (unit_follows s (ap (move _ _) g ∙ sym c.next_move-m.ensures.value ∙ c.in-Unit.is) refl);
+      fresh = joins-fresh s c.requires.indexed.table c.requires.goals.below _
+          (unit_follows s (ap (move _ _) g ∙ sym c.next_move-m.ensures.value ∙ c.in-Unit.is) refl);
     }
 
 pub fork-requires : goal.fork-requires

@@ -9,71 +9,38 @@ returns-then-k-eq0 c = record {
   ready = c.requires.stands.holds.ready;
 }
 
-pub overflow_cast-held : goal.overflow_cast-held
-overflow_cast-held c = let T = c.requires.indexed.table in
-    let B = c.requires.goals.below in
-    let few = c.requires.indexed.few in
-    omega (arith, stack_low c.requires.stands T B few c.if-k-eq0.false)
-
-pub offset_bounds-opens-k : goal.offset_bounds-opens-k
-offset_bounds-opens-k c = let T = c.requires.indexed.table in
-    let B = c.requires.goals.below in
-    let few = c.requires.indexed.few in
-    omega (arith, stack_low c.requires.stands T B few c.if-k-eq0.false)
-
 pub bounds-opens-k : goal.bounds-opens-k
-bounds-opens-k c = let T = c.requires.indexed.table in
-    let B = c.requires.goals.below in
-    let few = c.requires.indexed.few in
-    omega (arith, stack_low c.requires.stands T B few c.if-k-eq0.false, c.requires.stands.size)
-
-pub overflow_cast-held-2 : goal.overflow_cast-held-2
-overflow_cast-held-2 c = let T = c.requires.indexed.table in
-    let B = c.requires.goals.below in
-    let few = c.requires.indexed.few in
-    omega (arith, place_low c.requires.stands T B few c.if-k-eq0.false)
+bounds-opens-k c = omega (arith, stack_low c.requires.indexed c.requires.goals c.requires.stands c.if-k-eq0.false, c.requires.stands.size)
 
 pub literal-l-requires : goal.literal-l-requires
-literal-l-requires c = let T = c.requires.indexed.table in
-    let B = c.requires.goals.below in
-    let few = c.requires.indexed.few in
-    (c.requires.stands.holds.ready.size, place_low c.requires.stands T B few c.if-k-eq0.false)
+literal-l-requires c = (c.requires.stands.holds.ready.size, place_low c.requires.indexed c.requires.goals c.requires.stands c.if-k-eq0.false)
 
 pub undo_to-requires : goal.undo_to-requires
-undo_to-requires c = let T = c.requires.indexed.table in
-    let B = c.requires.goals.below in
-    let few = c.requires.indexed.few in
-    let z = c.if-k-eq0.false in
+undo_to-requires c = let z = c.if-k-eq0.false in
     record {
       indexed = c.requires.indexed;
       goals = c.requires.goals;
       holds = c.requires.stands.holds;
-      held_in_bounds = place_less c.requires.stands T B few z;
-      splits = place_splits c.requires.stands T B few z;
+      held_in_bounds = place_less c.requires.indexed c.requires.goals c.requires.stands z;
+      splits = place_splits c.requires.indexed c.requires.goals c.requires.stands z;
     }
 
 pub negated-requires : goal.negated-requires
-negated-requires c = let T = c.requires.indexed.table in
-    let B = c.requires.goals.below in
-    let few = c.requires.indexed.few in
-    literal_low c.requires.stands T B few c.if-k-eq0.false c.undo_to.ensures.holds_2 c.undo_to.ensures.work_after c.literal-l.ensures
+negated-requires c = literal_low c.requires.indexed c.requires.goals c.requires.stands c.if-k-eq0.false c.undo_to.ensures.holds_2
+    c.undo_to.ensures.work_after c.literal-l.ensures
 
 pub assume-requires : goal.assume-requires
-assume-requires c = let T = c.requires.indexed.table in
-    let B = c.requires.goals.below in
-    let few = c.requires.indexed.few in
-    record {
-      indexed = c.requires.indexed;
-      goals = c.requires.goals;
-      holds = c.undo_to.ensures.holds_2;
-      fresh = right-fresh c.requires.stands T B few c.if-k-eq0.false c.undo_to.ensures.holds_2 c.undo_to.ensures.work_after c.literal-l.ensures c.negated.ensures;
-    }
+assume-requires c = record {
+  indexed = c.requires.indexed;
+  goals = c.requires.goals;
+  holds = c.undo_to.ensures.holds_2;
+  fresh = right-fresh c.requires.indexed c.requires.goals c.requires.stands c.if-k-eq0.false c.undo_to.ensures.holds_2 c.undo_to.ensures.work_after
+      c.literal-l.ensures c.negated.ensures;
+}
 
 pub returns : goal.returns
-returns c = let T = c.requires.indexed.table in
-    let B = c.requires.goals.below in
-    let few = c.requires.indexed.few in
-    record {
-      made = made-right c.requires.stands T B few c.if-k-eq0.false c.undo_to.ensures.holds_2 c.undo_to.ensures.work_after c.literal-l.ensures c.negated.ensures c.assume.ensures.holds_2 c.assume.ensures.work_after;
-      ready = c.assume.ensures.holds_2.ready;
-    }
+returns c = record {
+  made = made-right c.requires.indexed c.requires.goals c.requires.stands c.if-k-eq0.false c.undo_to.ensures.holds_2 c.undo_to.ensures.work_after
+      c.literal-l.ensures c.negated.ensures c.assume.ensures.holds_2 c.assume.ensures.work_after;
+  ready = c.assume.ensures.holds_2.ready;
+}

@@ -1,13 +1,7 @@
 -- `roomareas::take_up` meets its contract: by the verdict that the area holds. Assumes nothing.
 use native.Mathlib.Omega.{arith}
-use Rattle.roomareas.proofs.Sitting.{taken_closed, taken_found, taken_running}
+use Rattle.roomareas.proofs.Sitting.{taken_over, taken_running}
 use Rattle.roomareas.proofs.take_up.Goals as goal
-
-pub returns-then-v-eq0 : goal.returns-then-v-eq0
-returns-then-v-eq0 c = taken_closed _ c.if-v-eq0.true
-
-pub returns-then-v-eq1 : goal.returns-then-v-eq1
-returns-then-v-eq1 c = taken_found _ c.if-v-eq1.true
 
 pub resume-requires : goal.resume-requires
 resume-requires c = record {
@@ -16,5 +10,8 @@ resume-requires c = record {
   area_in_bounds = (omega (arith, c.requires.work_len.0), c.requires.work_len.1, c.requires.work_len.2);
 }
 
-pub returns : goal.returns
-returns c = taken_running c.args.work.now c.if-v-eq0.false c.if-v-eq1.false c.resume.ensures.stands c.resume.ensures.work_after
+pub returns-in-Unfinished : goal.returns-in-Unfinished
+returns-in-Unfinished c = taken_running c.args.work.now c.verdict-v.ensures c.in-Unfinished.is c.resume.ensures.stands c.resume.ensures.work_after
+
+pub returns-in_default : goal.returns-in_default
+returns-in_default c = taken_over c.args.work.now c.verdict-v.ensures c.in_default.not-Unfinished

@@ -1,5 +1,4 @@
 -- `roomareas::take_up_all` meets its contract: before each turn the searches passed are taken up. Assumes nothing.
-use Prim.Native.Nat.{◌-◌}
 use native.Mathlib.Omega.{arith}
 use Rattle.roomareas.proofs.Lends.{lendable}
 use Rattle.roomareas.proofs.Sitting.{goal_below, taking_none, taking_more, taking_all}
@@ -17,30 +16,12 @@ take_up_at-requires c = let k = c.loop-i.invariant.1 in
       lendable = lendable _ _ _ _ c.requires.roomy h k.work k.masks k.stacks;
     }
 
-pub bounds-verdicts-i : goal.bounds-verdicts-i
-bounds-verdicts-i c = omega (arith, c.loop-i.invariant.1.verdicts, c.requires.roomy.verdicts, c.requires.roomy.few, c.loop-i-test.true)
-
-pub overflow_add-i : goal.overflow_add-i
-overflow_add-i c = omega (arith, c.loop-i-test.true)
-
-pub loop-i-smaller : goal.loop-i-smaller
-loop-i-smaller c = omega (arith, c.loop-i-test.true)
-
 pub loop-i-preserved : goal.loop-i-preserved
-loop-i-preserved c = let h = c.loop-i-test.true in
-    (omega (arith, h), taking_more c.loop-i.invariant.1 (omega (arith, h, c.requires.roomy.few, c.requires.roomy.verdicts)) c.take_up_at.ensures)
-
-pub shape_of-work : goal.shape_of-work
-shape_of-work c = c.loop-i.invariant.1.work
-
-pub shape_of-masks : goal.shape_of-masks
-shape_of-masks c = c.loop-i.invariant.1.masks
-
-pub shape_of-opens : goal.shape_of-opens
-shape_of-opens c = c.loop-i.invariant.1.stacks
-
-pub shape_of-verdicts : goal.shape_of-verdicts
-shape_of-verdicts c = c.loop-i.invariant.1.verdicts
+loop-i-preserved c = let h = c.loop-i-test.true in (
+  omega (arith, h),
+  rw c.number.ensures (taking_more c.loop-i.invariant.1
+      (omega (arith, h, c.requires.roomy.few, c.requires.roomy.verdicts)) c.take_up_at.ensures),
+)
 
 pub returns : goal.returns
 returns c = taking_all c.loop-i.invariant.1 (omega (arith, c.loop-i-test.false, c.loop-i.invariant.0))

@@ -1,12 +1,13 @@
--- `roomareas::verdict` meets its contract: by the two tests. Assumes nothing.
+-- `roomareas::verdict` meets its contract: by the number. Assumes nothing.
+use native.Mathlib.Omega.{arith}
 use Rattle.roomareas.proofs.Resting.{number_closed, number_found, number_running}
 use Rattle.roomareas.proofs.verdict.Goals as goal
 
-pub returns-then-v-eq0 : goal.returns-then-v-eq0
-returns-then-v-eq0 c G = number_closed _ G c.if-v-eq0.true
+pub returns-in-0 : goal.returns-in-0
+returns-in-0 c G = number_closed _ G c.in-0.is
 
-pub returns-then-v-eq1 : goal.returns-then-v-eq1
-returns-then-v-eq1 c G = number_found _ G c.if-v-eq1.true
+pub returns-in-1 : goal.returns-in-1
+returns-in-1 c G = number_found _ G c.in-1.is
 
-pub returns : goal.returns
-returns c G = number_running _ G c.if-v-eq0.false c.if-v-eq1.false
+pub returns-in_default : goal.returns-in_default
+returns-in_default c G = number_running _ G (λ e. omega arith) (λ e. omega arith)

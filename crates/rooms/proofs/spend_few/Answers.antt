@@ -31,6 +31,8 @@ put_next-requires c = let f = c.requires.fit in
 pub returns : goal.returns
 returns c = let q = c.args.questions.now in
     let d = c.put_next.ensures in record {
-      went = went-few q c.look.ensures c.next-up.ensures c.spend_few-next.ensures (next_kept (expand (index_node c.args.x.now)) q d) d.next c.spend_few-next.auto.settings;
-      reported = reported-few q c.look.ensures c.next-up.ensures c.spend_few-next.ensures (c.spend_few-next.auto.turns ∙ c.requires.turns_len.0) (c.spend_few-next.auto.verdicts ∙ c.look.auto.verdicts ∙ c.requires.turns_len.1) c.requires.by_index_2;
+      went = went-few q c.look.ensures c.next-up.ensures c.spend_few-next.ensures
+          (next_kept (expand (index_node c.args.x.now)) q d) d.next c.spend_few-next.auto.settings;
+      reported = reported-few q c.look.ensures c.next-up.ensures c.spend_few-next.ensures (c.spend_few-next.auto.turns
+          ∙ c.requires.turns_len.0) (c.spend_few-next.auto.verdicts ∙ c.look.auto.verdicts ∙ c.requires.turns_len.1) c.requires.by_index_2;
     }

@@ -21,7 +21,13 @@ spend-next-requires c = let f = c.requires.fit in
       indexed = c.requires.indexed;
       pointed = c.requires.pointed;
       goals = c.requires.goals;
-      roomy = record { few = f.few; work = omega (arith, f.work, c.take_up_all.auto.work); masks = omega (arith, m.0, c.take_up_all.auto.masks); stacks = omega (arith, m.1, c.take_up_all.auto.opens); verdicts = c.take_up_all.auto.verdicts ∙ c.requires.turns_len.1 };
+      roomy = record {
+        few = f.few;
+        work = omega (arith, f.work, c.take_up_all.auto.work);
+        masks = omega (arith, m.0, c.take_up_all.auto.masks);
+        stacks = omega (arith, m.1, c.take_up_all.auto.opens);
+        verdicts = c.take_up_all.auto.verdicts ∙ c.requires.turns_len.1;
+      };
       questions_in_bounds = (f.settings, c.requires.turns_len.0);
       by_index = c.requires.by_index;
       sits = c.take_up_all.ensures.sits;
@@ -31,12 +37,18 @@ pub overflow_cast-next : goal.overflow_cast-next
 overflow_cast-next c = omega (arith, up_low c.next-first.ensures c.take_up_all.ensures c.spend-next.ensures.spent (search rules) c.requires.fit.few)
 
 pub put_down-requires : goal.put_down-requires
-put_down-requires c = let f = c.requires.fit in
-    (f.some, f.few, omega (arith, f.work, c.take_up_all.auto.work, c.spend-next.auto.work), c.spend-next.auto.verdicts ∙ c.take_up_all.auto.verdicts ∙ c.requires.turns_len.1)
+put_down-requires c = let f = c.requires.fit in (
+  f.some,
+  f.few,
+  omega (arith, f.work, c.take_up_all.auto.work, c.spend-next.auto.work),
+  c.spend-next.auto.verdicts ∙ c.take_up_all.auto.verdicts
+      ∙ c.requires.turns_len.1,
+)
 
 pub returns : goal.returns
 returns c = let d = c.put_down.ensures in
     record {
       went = went c.next-first.ensures c.take_up_all.ensures c.spend-next.ensures.spent d (λ i. refl) c.spend-next.auto.settings;
-      reported = reported c.next-first.ensures c.take_up_all.ensures c.spend-next.ensures.spent (c.spend-next.auto.turns ∙ c.requires.turns_len.0) (c.spend-next.auto.verdicts ∙ c.take_up_all.auto.verdicts ∙ c.requires.turns_len.1) c.requires.by_index_2;
+      reported = reported c.next-first.ensures c.take_up_all.ensures c.spend-next.ensures.spent (c.spend-next.auto.turns
+          ∙ c.requires.turns_len.0) (c.spend-next.auto.verdicts ∙ c.take_up_all.auto.verdicts ∙ c.requires.turns_len.1) c.requires.by_index_2;
     }

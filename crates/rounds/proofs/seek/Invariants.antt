@@ -6,6 +6,3 @@ use Rattle.rounds.proofs.seek.Given as goal
 
 abbrev pub invariant-loop-i : goal.invariant-loop-i
 invariant-loop-i l = seek_from (runs_by l.verdicts) l.i (l.to - l.i) ≡ seek_from (runs_by l.verdicts) l.from (l.to - l.from)
-
-abbrev pub decreases-loop-i : goal.decreases-loop-i
-decreases-loop-i l = l.to - l.i

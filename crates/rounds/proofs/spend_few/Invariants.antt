@@ -1,6 +1,3 @@
-use mathlib.Core.Path.{◌≡◌}
-use Prim.Native.Nat.{◌≤◌, ◌-◌}
-use lib.ListN.{length}
 use Rattle.calculus.specs.Expansion.{expand}
 use Rattle.index.specs.Index.{index_node}
 use Rattle.roomareas.specs.Areas.{search_in}
@@ -8,12 +5,6 @@ use Rattle.rounds.specs.Spent.{Spent}
 use Rattle.rounds.proofs.spend_few.Given as goal
 
 abbrev pub invariant-loop-spent : goal.invariant-loop-spent
-invariant-loop-spent l = (l.spent ≤ l.allowance)
-    × Spent (index_node l.x) l.n l.questions l.initial.settings l.initial.verdicts (search_in (expand (index_node l.x)) l.questions l.initial.work) l.first l.spent l.settings l.verdicts l.turns (search_in (expand (index_node l.x)) l.questions l.work) l.next
-    × (length l.settings ≡ length l.initial.settings)
-    × (length l.work ≡ length l.initial.work)
-    × (length l.verdicts ≡ length l.initial.verdicts)
-    × (length l.turns ≡ length l.initial.turns)
-
-abbrev pub decreases-loop-spent : goal.decreases-loop-spent
-decreases-loop-spent l = l.allowance - l.spent
+invariant-loop-spent l = Spent (index_node l.x) l.n l.questions l.initial.settings l.initial.verdicts
+    (search_in (expand (index_node l.x)) l.questions l.initial.work) l.first l.spent l.settings l.verdicts l.turns
+    (search_in (expand (index_node l.x)) l.questions l.work) l.next

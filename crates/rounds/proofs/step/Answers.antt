@@ -24,7 +24,13 @@ spend-requires c = record {
   indexed = c.requires.indexed;
   pointed = c.requires.pointed;
   goals = c.requires.goals;
-  roomy = record { few = omega (arith, c.requires.goals_len.0); work = room_for 32768 c.requires.goals_len.0 (c.resume.auto.work ∙ c.requires.goals_len.1); masks = room_for 33 c.requires.goals_len.0 c.resume.auto.masks; stacks = room_for 2017 c.requires.goals_len.0 c.resume.auto.opens; verdicts = refl };
+  roomy = record {
+    few = omega (arith, c.requires.goals_len.0);
+    work = room_for 32768 c.requires.goals_len.0 (c.resume.auto.work ∙ c.requires.goals_len.1);
+    masks = room_for 33 c.requires.goals_len.0 c.resume.auto.masks;
+    stacks = room_for 2017 c.requires.goals_len.0 c.resume.auto.opens;
+    verdicts = refl;
+  };
   questions_in_bounds = (room_for 1024 c.requires.goals_len.0 c.requires.goals_len.2, refl);
   by_index = zeros-at 8;
   sits = sits_one twos c.requires.goals_len.0 refl (c.resume.auto.work ∙ c.requires.goals_len.1) c.resume.auto.masks c.resume.ensures.stands;
@@ -36,4 +42,5 @@ put-requires c = c.spend.auto.work ∙ c.resume.auto.work ∙ c.requires.goals_l
 pub returns : goal.returns
 returns c = let v = c.spend in
     let a = c.resume.auto.work ∙ c.requires.goals_len.1 in
-    stepped c.args.work.now {v = twos} c.requires.goals_len.0 refl a (c.spend.auto.work ∙ a) c.requires.goals_len.2 (c.spend.auto.settings ∙ c.requires.goals_len.2) c.resume.ensures.stands c.resume.ensures.work_after c.spend.ensures.spent c.put.ensures
+    stepped c.args.work.now {v = twos} c.requires.goals_len.0 refl a (c.spend.auto.work ∙ a) c.requires.goals_len.2 (c.spend.auto.settings
+    ∙ c.requires.goals_len.2) c.resume.ensures.stands c.resume.ensures.work_after c.spend.ensures.spent c.put.ensures

@@ -1,10 +1,9 @@
 -- `rounds::up_next` meets its contract: the first look, or else the second. Assumes nothing.
-use native.Mathlib.Omega.{arith}
-use Rattle.rounds.proofs.Spending.{up_early, up_late}
+use Rattle.rounds.proofs.Spending.{sought_early, sought_late}
 use Rattle.rounds.proofs.up_next.Goals as goal
 
-pub returns-then-i-q : goal.returns-then-i-q
-returns-then-i-q c = up_early _ _ _ c.seek-i.ensures c.if-i-q.true
+pub returns-in-Some : goal.returns-in-Some
+returns-in-Some c = sought_early _ _ _ c.in-Some.ensures
 
 pub returns : goal.returns
-returns c = up_late _ _ _ c.seek-i.ensures (omega (arith, c.if-i-q.false)) c.seek.ensures
+returns c = sought_late _ _ _ c.in_default.ensures _ c.seek-2.ensures

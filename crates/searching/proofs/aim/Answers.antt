@@ -11,20 +11,9 @@ returns-then-u-ne-NO_UNIT c = aimed_unit c.if-u-ne-NO_UNIT.true
 pub returns-then-c-ge-NONE : goal.returns-then-c-ge-NONE
 returns-then-c-ge-NONE c = search (rules, aimed_free)
 
-pub conflict_clause-j-requires : goal.conflict_clause-j-requires
-conflict_clause-j-requires c = let (H, e) = c.requires.holds in
-    record {
-      indexed = c.requires.indexed;
-      goals = c.requires.goals;
-      holds = H;
-      q_value = (c.conflict-c.ensures, omega (arith, c.if-c-ge-NONE.false), without c.requires.indexed.few c.requires.goals H e);
-    }
-
-pub overflow_cast-result : goal.overflow_cast-result
-overflow_cast-result c = omega (arith, c.if-c-ge-NONE.false)
-
-pub overflow_mul-result : goal.overflow_mul-result
-overflow_mul-result c = omega (arith, c.if-c-ge-NONE.false)
+pub conflict_clause-j-requires-clause-q_value : goal.conflict_clause-j-requires-clause-q_value
+conflict_clause-j-requires-clause-q_value c = let (H, e) = c.requires.holds in
+    (c.conflict-c.ensures, omega (arith, c.if-c-ge-NONE.false), without c.requires.indexed.few c.requires.goals H e)
 
 pub overflow_cast-result-2 : goal.overflow_cast-result-2
 overflow_cast-result-2 c = omega (arith, on_few c.conflict_clause-j.ensures)

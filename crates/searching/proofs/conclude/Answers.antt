@@ -3,10 +3,10 @@ use mathlib.Core.Path.{refl}
 use Rattle.searching.proofs.Searches.{looked}
 use Rattle.searching.proofs.conclude.Goals as goal
 
-pub returns-in-Done : goal.returns-in-Done
-returns-in-Done c = let m = rw c.in-Done.is at c.split_choice-choice.ensures in
+pub returns-in-None : goal.returns-in-None
+returns-in-None c = let m = rw c.in-None.is at c.split_choice-choice.ensures in
     record { holds = m.holds_on; list = m.list; ending = looked m.holds_on m.is m.list refl }
 
-pub returns-in-Split : goal.returns-in-Split
-returns-in-Split c = let m = rw c.in-Split.is at c.split_choice-choice.ensures in
+pub returns-in-Some : goal.returns-in-Some
+returns-in-Some c = let m = rw c.in-Some.is at c.split_choice-choice.ensures in
     record { holds = m.holds_on; list = m.list; ending = looked m.holds_on m.is m.list refl }

@@ -5,25 +5,12 @@ use Rattle.moves.proofs.Moves.{picked_next}
 use Rattle.rests.specs.Words.{sets_size}
 use Rattle.rests.proofs.Held.{slots_zero}
 use lib.ListN.{length}
-use Prim.Native.Nat.{◌-◌}
-use mathlib.Core.Path.{ap, ◌∙◌}
+use mathlib.Core.Path.{ap}
 use native.Mathlib.Omega.{arith}
 use Rattle.searching.proofs.first_units.Goals as goal
 
-pub pick-u-requires : goal.pick-u-requires
-pick-u-requires c = let H = c.requires.holds in
-    (H.ready.size, H.units)
-
 pub loop-u-init : goal.loop-u-init
 loop-u-init c = (rested_starts c.requires.holds (slots_zero _ sets_size (omega (arith, c.requires.indexed.few))), c.pick-u.ensures.picks)
-
-pub join-u-requires : goal.join-u-requires
-join-u-requires c = record {
-  indexed = c.requires.indexed;
-  goals = c.requires.goals;
-  holds = c.loop-u.invariant.0.run.holds;
-  picked = c.loop-u.invariant.1 c.if-u.true;
-}
 
 pub loop-u-smaller-then-u : goal.loop-u-smaller-then-u
 loop-u-smaller-then-u c = let r = c.loop-u.invariant.0 in
@@ -35,19 +22,6 @@ loop-u-preserved-then-u c = let r = c.loop-u.invariant.0 in
     let e = (picked_next c.requires.indexed.few c.requires.goals r.run.holds (c.loop-u.invariant.1 c.if-u.true)).1 in
     let S = stepped_blank c.requires.indexed.few r.run.holds e c.join-u.ensures.holds_2 c.join-u.ensures.work_after in
     (rested_stepped r c.requires.indexed.table c.requires.goals.below S c.join-u.auto.work c.join-u.auto.masks, c.join-u.ensures.leads.picks)
-
-pub next_move-m-requires : goal.next_move-m-requires
-next_move-m-requires c = record {
-  indexed = c.requires.indexed;
-  goals = c.requires.goals;
-  holds = c.loop-u.invariant.0.run.holds;
-}
-
-pub shape_of-work-in-Conflict : goal.shape_of-work-in-Conflict
-shape_of-work-in-Conflict c = c.next_move-m.auto.work ∙ c.loop-u.invariant.0.run.size
-
-pub shape_of-masks-in-Conflict : goal.shape_of-masks-in-Conflict
-shape_of-masks-in-Conflict c = c.loop-u.invariant.0.run.sets
 
 pub returns-in-Conflict : goal.returns-in-Conflict
 returns-in-Conflict c = let r = rested_looked c.loop-u.invariant.0 c.next_move-m.ensures.holds_2 c.next_move-m.ensures.work_unchanged c.next_move-m.auto.work in
@@ -65,15 +39,17 @@ assume-requires c = let r = rested_looked c.loop-u.invariant.0 c.next_move-m.ens
       fresh = run-fresh r.run c.requires.indexed.table c.requires.goals.below e;
     }
 
-pub pick-u-requires-in-Unit : goal.pick-u-requires-in-Unit
-pick-u-requires-in-Unit c = let H = c.assume.ensures.holds_2 in
-    (H.ready.size, H.units)
-
 pub loop-u-smaller : goal.loop-u-smaller
 loop-u-smaller c = let r = rested_looked c.loop-u.invariant.0 c.next_move-m.ensures.holds_2 c.next_move-m.ensures.work_unchanged c.next_move-m.auto.work in
     let g = c.in-Unit.is in
     let e = looked r.run.holds c.next_move-m.ensures.value c.next_move-m.ensures.work_unchanged g in
-    omega (arith, run_room r.run c.requires.indexed.table c.requires.goals.below e, ap length c.assume.ensures.work_after, ap length c.next_move-m.ensures.work_unchanged)
+    omega (
+      arith,
+      run_room r.run c.requires.indexed.table c.requires.goals.below e,
+      ap length c.assume.ensures.work_after,
+      ap length
+          c.next_move-m.ensures.work_unchanged,
+    )
 
 pub loop-u-preserved : goal.loop-u-preserved
 loop-u-preserved c = let r = rested_looked c.loop-u.invariant.0 c.next_move-m.ensures.holds_2 c.next_move-m.ensures.work_unchanged c.next_move-m.auto.work in
@@ -82,21 +58,9 @@ loop-u-preserved c = let r = rested_looked c.loop-u.invariant.0 c.next_move-m.en
     let S = stepped_blank c.requires.indexed.few r.run.holds e c.assume.ensures.holds_2 c.assume.ensures.work_after in
     (rested_stepped r c.requires.indexed.table c.requires.goals.below S c.assume.auto.work c.assume.auto.masks, c.pick-u-in-Unit.ensures.picks)
 
-pub shape_of-work-in-Done : goal.shape_of-work-in-Done
-shape_of-work-in-Done c = c.next_move-m.auto.work ∙ c.loop-u.invariant.0.run.size
-
-pub shape_of-masks-in-Done : goal.shape_of-masks-in-Done
-shape_of-masks-in-Done c = c.loop-u.invariant.0.run.sets
-
 pub returns-in-Done : goal.returns-in-Done
 returns-in-Done c = let r = rested_looked c.loop-u.invariant.0 c.next_move-m.ensures.holds_2 c.next_move-m.ensures.work_unchanged c.next_move-m.auto.work in
     rested_done r (looked r.run.holds c.next_move-m.ensures.value c.next_move-m.ensures.work_unchanged c.in-Done.is)
-
-pub shape_of-work-in-Split : goal.shape_of-work-in-Split
-shape_of-work-in-Split c = c.next_move-m.auto.work ∙ c.loop-u.invariant.0.run.size
-
-pub shape_of-masks-in-Split : goal.shape_of-masks-in-Split
-shape_of-masks-in-Split c = c.loop-u.invariant.0.run.sets
 
 pub returns-in-Split : goal.returns-in-Split
 returns-in-Split c = let r = rested_looked c.loop-u.invariant.0 c.next_move-m.ensures.holds_2 c.next_move-m.ensures.work_unchanged c.next_move-m.auto.work in

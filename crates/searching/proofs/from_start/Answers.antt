@@ -7,12 +7,5 @@ returns-then-not-join_goals c = let b = c.join_goals.ensures in
     let (s, e) = b.shut c.if-not-join_goals.true in
     counted_shut b.ready s e
 
-pub first_units-requires : goal.first_units-requires
-first_units-requires c = record {
-  indexed = c.requires.indexed;
-  goals = c.requires.goals;
-  holds = c.join_goals.ensures.holds c.if-not-join_goals.false;
-}
-
 pub returns : goal.returns
 returns c = opened c.first_units.result c.first_units.ensures (c.join_goals.ensures.same c.if-not-join_goals.false)

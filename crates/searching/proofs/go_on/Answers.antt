@@ -26,9 +26,6 @@ search-requires c = let q = c.requires.left_off.0.1 in
       slots = (sets, omega arith, record { idle = split_idle H q.splits; picks = λ e. absurd (e refl); none = λ _ _. none });
     }
 
-pub shape_of-rests : goal.shape_of-rests
-shape_of-rests c = omega (arith, c.search.auto.rests, c.clear.ensures.size)
-
 pub returns : goal.returns
 returns c = let q = c.requires.left_off.0.1 in
     let none = cleared_same c.count-held.result (omega (arith, held_most q.holds, c.requires.indexed.few, c.count-held.ensures)) c.clear.ensures in

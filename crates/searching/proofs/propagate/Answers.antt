@@ -4,7 +4,7 @@ use Rattle.searching.proofs.Jumps.{rested_starts, aimed_none, rested_concluded, 
 use Rattle.moves.proofs.Moves.{unit_on}
 use Rattle.searching.proofs.Searches.{run_room}
 use lib.ListN.{length}
-use Prim.Native.Nat.{suc, ◌-◌}
+use Prim.Native.Nat.{suc}
 use native.Mathlib.Numerals.{add-one}
 use mathlib.Core.Path.{ap, ◌∙◌}
 use native.Mathlib.Omega.{arith}
@@ -13,36 +13,14 @@ use Rattle.searching.proofs.propagate.Goals as goal
 pub loop-work-init : goal.loop-work-init
 loop-work-init c = (rested_starts c.requires.holds c.requires.slots.0, c.requires.slots.1)
 
-pub aim-on-requires : goal.aim-on-requires
-aim-on-requires c = let (r, L) = c.loop-work.invariant in
-    record {
-      indexed = c.requires.indexed;
-      goals = c.requires.goals;
-      holds = (r.run.holds, L.idle);
-    }
-
-pub conclude-requires : goal.conclude-requires
-conclude-requires c = let (r, L) = c.loop-work.invariant in
+pub conclude-requires-clause-work_value : goal.conclude-requires-clause-work_value
+conclude-requires-clause-work_value c = let (r, L) = c.loop-work.invariant in
     let A = c.aim-on.ensures in
     let f = aimed_none A c.if-on.true in
-    record {
-      indexed = c.requires.indexed;
-      goals = c.requires.goals;
-      holds = r.run.holds;
-      work_value = (L.idle, f.1, L.none f.0 f.1);
-    }
-
-pub shape_of-work-then-on : goal.shape_of-work-then-on
-shape_of-work-then-on c = c.conclude.auto.work ∙ c.loop-work.invariant.0.run.size
-
-pub shape_of-rests-then-on : goal.shape_of-rests-then-on
-shape_of-rests-then-on c = c.loop-work.invariant.0.words
+    (L.idle, f.1, L.none f.0 f.1)
 
 pub returns-then-on : goal.returns-then-on
 returns-then-on c = rested_concluded c.loop-work.invariant.0 c.conclude.result c.conclude.ensures c.conclude.auto.work
-
-pub count-requires : goal.count-requires
-count-requires c = c.loop-work.invariant.0.run.holds.ready.size
 
 pub put_clause-requires : goal.put_clause-requires
 put_clause-requires c = let (r, L) = c.loop-work.invariant in
@@ -54,25 +32,10 @@ put_clause-requires c = let (r, L) = c.loop-work.invariant in
       grounded = aimed-grounded r c.requires.indexed.few c.requires.goals L.picks c.aim-on.ensures c.if-on.false to;
     }
 
-pub shape_of-work-then-u : goal.shape_of-work-then-u
-shape_of-work-then-u c = c.loop-work.invariant.0.run.size
-
-pub shape_of-rests-then-u : goal.shape_of-rests-then-u
-shape_of-rests-then-u c = c.put_clause.ensures.size ∙ c.loop-work.invariant.0.words
-
 pub returns-then-u : goal.returns-then-u
 returns-then-u c = let (r, L) = c.loop-work.invariant in
     let to = add-one c.count.result ∙ ap suc c.count.ensures in
     aimed-closed r c.requires.indexed.few c.requires.goals L.picks c.aim-on.ensures c.if-on.false to c.put_clause.ensures c.if-u.true
-
-pub join-u-requires : goal.join-u-requires
-join-u-requires c = let (r, L) = c.loop-work.invariant in
-    record {
-      indexed = c.requires.indexed;
-      goals = c.requires.goals;
-      holds = r.run.holds;
-      picked = L.picks c.if-u.false;
-    }
 
 pub loop-work-smaller : goal.loop-work-smaller
 loop-work-smaller c = let (r, L) = c.loop-work.invariant in

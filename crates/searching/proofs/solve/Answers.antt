@@ -5,19 +5,8 @@ use native.Mathlib.Omega.{arith}
 use mathlib.Core.Path.{refl}
 use Rattle.searching.proofs.solve.Goals as goal
 
-pub put-stop-requires : goal.put-stop-requires
-put-stop-requires c = record {
-  indexed = c.requires.indexed;
-  goals = c.requires.goals;
-  ready = c.requires.ready.0;
-}
-
-pub go_on-e-requires : goal.go_on-e-requires
-go_on-e-requires c = record {
-  indexed = c.requires.indexed;
-  goals = c.requires.goals;
-  left_off = ((rw c.in-Fork.is at c.put-stop.ensures).0, sets_slots (omega (arith, c.requires.indexed.few)) c.requires.ready.1);
-}
+pub go_on-e-requires-clause-left_off : goal.go_on-e-requires-clause-left_off
+go_on-e-requires-clause-left_off c = ((rw c.in-Fork.is at c.put-stop.ensures).0, sets_slots (omega (arith, c.requires.indexed.few)) c.requires.ready.1)
 
 pub returns-in-Closed : goal.returns-in-Closed
 returns-in-Closed c = record {

@@ -14,21 +14,18 @@ base-start-requires c = (c.requires.ranged.0.size, omega (arith, c.requires.rang
 pub overflow_add-k : goal.overflow_add-k
 overflow_add-k c = omega (arith, c.requires.ranged.0.count, c.requires.ranged.1)
 
-pub base-s-requires : goal.base-s-requires
-base-s-requires c = (c.requires.ranged.0.size, omega (arith, c.requires.ranged.0.count, c.requires.ranged.1))
+pub base-end-requires : goal.base-end-requires
+base-end-requires c = (c.requires.ranged.0.size, omega (arith, c.requires.ranged.0.count, c.requires.ranged.1))
 
 pub loop-s-init : goal.loop-s-init
 loop-s-init c = let w = c.args.work.now in
     let k = c.args.k in
     let H = c.requires.ranged.1 in (
-      omega (arith, c.base-start.ensures, c.base-s.ensures, c.requires.ranged.0.ends k H),
-      omega (arith, c.base-s.ensures),
+      omega (arith, c.base-start.ensures, c.base-end.ensures, c.requires.ranged.0.ends k H),
+      omega (arith, c.base-end.ensures),
       (c.requires.ranged.0.ends k H).1,
-      summed_none w c.base-s.result (base_at w (k + 1)) 0 (omega (arith, c.base-s.ensures)),
+      summed_none w c.base-end.result (base_at w (k + 1)) 0 (omega (arith, c.base-end.ensures)),
     )
-
-pub overflow_sub-s : goal.overflow_sub-s
-overflow_sub-s c = omega (arith, c.loop-s-test.true)
 
 pub literal_in-l-requires : goal.literal_in-l-requires
 literal_in-l-requires c = (c.requires.ranged.0.size, omega (arith, c.loop-s.invariant.1, c.loop-s.invariant.2, c.loop-s-test.true))
@@ -37,15 +34,17 @@ pub value-requires : goal.value-requires
 value-requires c = let low = c.loop-s.s - 1 in
     let in-clause : low + 1 ≤ base_at c.args.work.now (c.args.k + 1) = omega (arith, c.loop-s.invariant.1, c.loop-s-test.true) in
     record {
-      area_size_in_bounds = (c.requires.ranged.0.size, c.requires.ranged.2, omega (arith, c.literal_in-l.ensures, c.requires.vals.1 low (omega (arith, in-clause))));
+      area_size_in_bounds = (
+        c.requires.ranged.0.size,
+        c.requires.ranged.2,
+        omega
+            (arith, c.literal_in-l.ensures, c.requires.vals.1 low (omega (arith, in-clause))),
+      );
       vals = c.requires.vals.0;
     }
 
 pub overflow_add-sum : goal.overflow_add-sum
 overflow_add-sum c = omega (arith, c.loop-s.invariant.3.0, c.loop-s.invariant.2, c.weight-w.ensures.1)
-
-pub loop-s-smaller : goal.loop-s-smaller
-loop-s-smaller c = omega (arith, c.loop-s-test.true)
 
 pub loop-s-preserved : goal.loop-s-preserved
 loop-s-preserved c = let w = c.args.work.now in

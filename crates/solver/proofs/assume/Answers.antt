@@ -3,11 +3,8 @@ use Rattle.solver.proofs.Assumes.{in_low, ready_attached, served_attached, holds
 use borrow.Author.Rules.{rules}
 use Rattle.solver.proofs.assume.Goals as goal
 
-pub serve-requires : goal.serve-requires
-serve-requires c = record {
-  area_in_bounds = search (rules, in_low);
-  units = search (rules, in_low);
-}
+pub serve-requires-clause-units : goal.serve-requires-clause-units
+serve-requires-clause-units c = search (rules, in_low)
 
 pub wait-requires : goal.wait-requires
 wait-requires c = let I = c.requires.indexed in

@@ -1,14 +1,6 @@
 -- `solver::fork` meets its contract. Assumes nothing.
 use Rattle.solver.proofs.Assumes.{taken_none, holds-joined, list-joined, leads-joined}
-use borrow.Author.Rules.{rules}
 use Rattle.solver.proofs.fork.Goals as goal
-
-pub attach-requires : goal.attach-requires
-attach-requires c = record {
-  indexed = search (rules, taken_none);
-  held = search (rules, taken_none);
-  fresh = search (rules, taken_none);
-}
 
 pub returns : goal.returns
 returns c = let I = c.requires.indexed in

@@ -3,12 +3,8 @@ use Rattle.solver.proofs.Assumes.{picked-fresh, picked_taken, holds-joined, list
 use borrow.Author.Rules.{rules}
 use Rattle.solver.proofs.join.Goals as goal
 
-pub attach-requires : goal.attach-requires
-attach-requires c = record {
-  indexed = search (rules, picked_taken, picked-fresh);
-  held = search (rules, picked_taken, picked-fresh);
-  fresh = search (rules, picked_taken, picked-fresh);
-}
+pub attach-requires-clause-fresh : goal.attach-requires-clause-fresh
+attach-requires-clause-fresh c = search (rules, picked_taken, picked-fresh)
 
 pub returns : goal.returns
 returns c = let I = c.requires.indexed in

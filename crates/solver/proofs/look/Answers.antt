@@ -7,11 +7,8 @@ use native.Mathlib.Omega.{arith}
 use borrow.Author.Rules.{rules}
 use Rattle.solver.proofs.look.Goals as goal
 
-pub returns-then-class-eq0 : goal.returns-then-class-eq0
-returns-then-class-eq0 c = record {
-  visited = search (rules, looked_none, onward_same);
-  onward = search (rules, looked_none, onward_same);
-}
+pub returns-then-class-eq0-clause-visited : goal.returns-then-class-eq0-clause-visited
+returns-then-class-eq0-clause-visited c = search (rules, looked_none, onward_same)
 
 pub overflow_sub-q : goal.overflow_sub-q
 overflow_sub-q c = let e : c.entry-e.result ≡ 0 → ⊥ = search (rules, looked-some) in omega arith
@@ -28,11 +25,8 @@ returns-then-class-eq1 c = record {
 pub kept-kept-requires : goal.kept-kept-requires
 kept-kept-requires c = search (rules, looked-kept)
 
-pub unit-requires : goal.unit-requires
-unit-requires c = record {
-  units = search (rules, looked-low);
-  area_in_bounds = search (rules, looked-low);
-}
+pub unit-requires-clause-area_in_bounds : goal.unit-requires-clause-area_in_bounds
+unit-requires-clause-area_in_bounds c = search (rules, looked-low)
 
 pub earlier-requires : goal.earlier-requires
 earlier-requires c = search (rules, looked-low)

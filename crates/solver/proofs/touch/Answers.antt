@@ -12,8 +12,5 @@ touch_threes-requires c = let K = c.touch_pairs-b.ensures.walk in
       node_lt_n = (c.requires.node_lt_n.0, c.requires.first_value.1);
     }
 
-pub returns : goal.returns
-returns c = record {
-  touched = walk-both c.requires.indexed.few c.requires.ready c.touch_pairs-b.ensures.walk c.touch_threes.ensures.touched;
-  onward = λ A. c.touch_threes.ensures.onward (c.touch_pairs-b.ensures.onward A);
-}
+pub returns-clause-touched : goal.returns-clause-touched
+returns-clause-touched c = walk-both c.requires.indexed.few c.requires.ready c.touch_pairs-b.ensures.walk c.touch_threes.ensures.touched

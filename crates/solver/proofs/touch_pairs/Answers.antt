@@ -1,7 +1,7 @@
 -- `solver::touch_pairs` meets its contract. The loop goes from edge to edge; the measure is how far the last is. Assumes nothing.
 use mathlib.Core.Path.{ap, ◌∙◌}
 use mathlib.Core.List.{List}
-use Prim.Native.Nat.{ℕ, ◌+◌, ◌-◌, ◌*◌, ◌%◌}
+use Prim.Native.Nat.{ℕ, ◌+◌, ◌*◌, ◌%◌}
 use Rattle.calculus.specs.Order.{value_of}
 use Rattle.index.specs.Edges.{PairAt}
 use Rattle.solver.proofs.Marks.{still_ready, still_list}
@@ -11,12 +11,19 @@ use Rattle.solver.proofs.touch_pairs.Goals as goal
 
 pub loop-k-init : goal.loop-k-init
 loop-k-init c = let (f, e) = c.requires.first_value in
-    let o = (c.requires.indexed.edges.order c.args.node c.requires.node_lt_n.0).0 in
-    (pairs_start c.requires.indexed c.requires.ready c.requires.node_lt_n.0 f c.requires.touchable, omega (arith, f), omega (arith, f, e, o), ap (◌% 2) f, λ A. A)
+    let o = (c.requires.indexed.edges.order c.args.node c.requires.node_lt_n.0).0 in (
+      pairs_start c.requires.indexed c.requires.ready c.requires.node_lt_n.0 f c.requires.touchable,
+      omega (arith, f),
+      omega (arith, f, e, o),
+      ap
+          (◌% 2) f,
+      λ A. A,
+    )
 
 pub look-b-requires : goal.look-b-requires
 look-b-requires c = let inv = c.loop-k.invariant in
-    let on = ap (λ (G : List ℕ). value_of G (2 * c.args.node + c.args.sign)) (still_list c.requires.indexed.few c.requires.ready inv.0.beside) ∙ c.requires.node_lt_n.2 in
+    let on = ap (λ (G : List ℕ). value_of G (2 * c.args.node + c.args.sign)) (still_list c.requires.indexed.few c.requires.ready inv.0.beside) ∙
+    c.requires.node_lt_n.2 in
     let at : PairAt c.args.x.now c.args.node c.loop-k.k =
     (inv.1, omega (arith, c.loop-k-test.true, c.requires.first_value.1), inv.3) in
     record {
@@ -25,9 +32,6 @@ look-b-requires c = let inv = c.loop-k.invariant in
       node_lt_n = (c.requires.node_lt_n.0, at, c.requires.node_lt_n.1);
       sign_value = on;
     }
-
-pub overflow_add-k : goal.overflow_add-k
-overflow_add-k c = omega (arith, c.loop-k.invariant.2, c.requires.first_value.1, c.requires.indexed.edges.order c.args.node c.requires.node_lt_n.0)
 
 pub loop-k-preserved : goal.loop-k-preserved
 loop-k-preserved c = let inv = c.loop-k.invariant in
@@ -40,9 +44,6 @@ loop-k-preserved c = let inv = c.loop-k.invariant in
       λ A. c.look-b.ensures.onward (inv.4 A),
     )
 
-pub returns : goal.returns
-returns c = let inv = c.loop-k.invariant in
-    record {
-      walk = pairs_end c.requires.indexed c.requires.ready c.requires.node_lt_n.0 c.requires.first_value.1 c.loop-k-test.false inv.0;
-      onward = inv.4;
-    }
+pub returns-clause-walk : goal.returns-clause-walk
+returns-clause-walk c = let inv = c.loop-k.invariant in
+    pairs_end c.requires.indexed c.requires.ready c.requires.node_lt_n.0 c.requires.first_value.1 c.loop-k-test.false inv.0

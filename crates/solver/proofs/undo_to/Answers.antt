@@ -5,13 +5,10 @@ use Rattle.state.specs.Work.{tail}
 use borrow.Author.Rules.{rules}
 use Rattle.solver.proofs.undo_to.Goals as goal
 
-pub leave-requires : goal.leave-requires
-leave-requires c = let w = c.args.work.now in
+pub leave-requires-clause-n_le_most_nodes : goal.leave-requires-clause-n_le_most_nodes
+leave-requires-clause-n_le_most_nodes c = let w = c.args.work.now in
     let e = trail-length (tail w 0) (tail w) in
-    record {
-      ready = search rules;
-      n_le_most_nodes = search rules;
-    }
+    search rules
 
 pub cursor_at-cursor-requires : goal.cursor_at-cursor-requires
 cursor_at-cursor-requires c = search (rules, cursor_low)

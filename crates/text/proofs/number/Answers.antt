@@ -14,7 +14,8 @@ put-requires c = omega (arith, twenty c.decimal-k.result c.args.n (omega arith) 
 
 pub returns : goal.returns
 returns c = let w = c.put.ensures in
-    let text : take c.decimal-k.result c.decimal-k.new.out ≡ decimal c.args.n = c.decimal-k.ensures.digits ∙ spelled c.decimal-k.result c.args.n c.decimal-k.ensures.len in record {
+    let text : take c.decimal-k.result c.decimal-k.new.out ≡ decimal c.args.n = c.decimal-k.ensures.digits
+    ∙ spelled c.decimal-k.result c.args.n c.decimal-k.ensures.len in record {
       put = subst (λ (s : List ℕ). Put c.args.out.now c.args.at s c.put.new.out c.put.result) text w;
       upper_bound = omega (arith, twenty c.decimal-k.result c.args.n (omega arith) c.decimal-k.ensures.len, c.decimal-k.ensures.in_bounds.1, w.ends);
     }

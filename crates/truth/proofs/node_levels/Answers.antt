@@ -2,7 +2,6 @@
 use mathlib.Core.Path.{◌≡◌, refl}
 use Prim.Native.Nat.{◌+◌, ◌*◌, ◌/◌, ◌%◌}
 use native.Mathlib.Omega.{arith}
-use borrow.Author.Rules.{rules}
 use Rattle.scope.specs.Table.{list_from}
 use Rattle.scope.specs.Truth.{joined}
 use Rattle.truth.specs.Evaluated.{level}
@@ -10,31 +9,29 @@ use Rattle.truth.proofs.Filling.{filled_none, evaluable_first}
 use Rattle.truth.proofs.node_levels.Goals as goal
 
 pub loop-j-init : goal.loop-j-init
-loop-j-init c = (search rules, refl, filled_none _ _ _ c.requires.1)
+loop-j-init c = filled_none _ _ _ c.requires.1
 
 pub block_levels-requires : goal.block_levels-requires
 unfolding list_from joined level
-block_levels-requires c = let inv = c.loop-j.invariant in
-    record {
-      joins_value = refl;
-      evaluable = (evaluable_first c.requires.0 (omega (arith, c.loop-j-test.true)) inv.1, omega arith);
-      filled = inv.2;
-    }
+block_levels-requires c = record {
+  joins_value = refl;
+  evaluable = (evaluable_first c.requires.0 (omega (arith, c.loop-j-test.true)) c.loop-j.auto.v, omega arith);
+  filled = c.loop-j.invariant;
+}
 
 pub loop-j-preserved : goal.loop-j-preserved
 loop-j-preserved c = let j = c.loop-j.j in
     let next : 63 * j + 63 ≡ 63 * (j + 1) = omega arith in
-    (omega (arith, c.loop-j-test.true), search rules, rw next at c.block_levels.ensures)
+    rw next at c.block_levels.ensures
 
 pub block_levels-requires-2 : goal.block_levels-requires-2
 unfolding list_from joined level
 block_levels-requires-2 c = let nodes = c.args.nodes in
-    let inv = c.loop-j.invariant in
-    let q : c.loop-j.j ≡ nodes / 63 = omega (arith, c.loop-j-test.false, inv.0) in
+    let q : c.loop-j.j ≡ nodes / 63 = omega (arith, c.loop-j-test.false) in
     record {
       joins_value = refl;
-      evaluable = (evaluable_first c.requires.0 (omega arith) inv.1, omega arith);
-      filled = rw q at inv.2;
+      evaluable = (evaluable_first c.requires.0 (omega arith) c.loop-j.auto.v, omega arith);
+      filled = rw q at c.loop-j.invariant;
     }
 
 pub returns : goal.returns

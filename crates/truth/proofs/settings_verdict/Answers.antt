@@ -3,7 +3,6 @@ use mathlib.Core.Path.{◌∙◌, sym}
 use Prim.Native.Nat.{◌<◌, ◌≤◌}
 use native.Mathlib.Omega.{arith}
 use lib.ListN.{get_or}
-use borrow.Author.Rules.{rules}
 use borrow.Author.Tests.{lt-ltb, le-ltb, lt-leb, le-leb}
 use Rattle.scope.specs.Calls.{settings_test}
 use Rattle.scope.proofs.First.{stops, goes, done, all_fine}
@@ -23,20 +22,18 @@ returns-then-all_low c = let s = c.args.s.now in
 
 pub loop-p-init : goal.loop-p-init
 unfolding settings_test
-loop-p-init c = (search rules, simp (le-leb _ _ c.if-s-lt1024.false))
+loop-p-init c = simp (le-leb _ _ c.if-s-lt1024.false)
 
 pub returns-then-s-p-gt2 : goal.returns-then-s-p-gt2
 returns-then-s-p-gt2 c = let s = c.args.s.now in
     let high : 3 ≤ get_or s c.loop-p.p 0 = omega (arith, c.if-s-p-gt2.true) in
     sym (stops (row s) c.loop-p.p 1024 22 c.loop-p.p c.loop-p-test.true (simp (le-ltb (get_or s c.loop-p.p 0) 3 high)))
-    ∙ c.loop-p.invariant.1
+    ∙ c.loop-p.invariant
 
 pub loop-p-preserved : goal.loop-p-preserved
 loop-p-preserved c = let s = c.args.s.now in
-    let low : get_or s c.loop-p.p 0 < 3 = omega (arith, c.if-s-p-gt2.false) in (
-      search rules,
-      sym (goes (row s) c.loop-p.p 1024 c.loop-p-test.true (met _ 22 c.loop-p.p (lt-ltb (get_or s c.loop-p.p 0) 3 low))) ∙ c.loop-p.invariant.1,
-    )
+    let low : get_or s c.loop-p.p 0 < 3 = omega (arith, c.if-s-p-gt2.false) in
+    sym (goes (row s) c.loop-p.p 1024 c.loop-p-test.true (met _ 22 c.loop-p.p (lt-ltb (get_or s c.loop-p.p 0) 3 low))) ∙ c.loop-p.invariant
 
 pub returns : goal.returns
-returns c = sym (done _ _ _ c.loop-p-test.false) ∙ c.loop-p.invariant.1
+returns c = sym (done _ _ _ c.loop-p-test.false) ∙ c.loop-p.invariant

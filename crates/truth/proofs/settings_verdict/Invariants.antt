@@ -1,5 +1,5 @@
 use mathlib.Core.Path.{◌≡◌}
-use Prim.Native.Nat.{ℕ, ◌≤◌, ◌-◌}
+use Prim.Native.Nat.{ℕ, ◌-◌}
 use Rattle.scope.specs.Outcome.{Outcome, first, require}
 use mathlib.Core.List.{List}
 use lib.ListN.{get_or}
@@ -12,7 +12,4 @@ abbrev pub row : List ℕ → ℕ → Outcome (Unit {0})
 row s p = require (ltb (get_or s p 0) 3) 22 p
 
 abbrev pub invariant-loop-p : goal.invariant-loop-p
-invariant-loop-p l = (l.p ≤ 1024) × (first (row l.s) l.p (1024 - l.p) ≡ settings_test l.s)
-
-abbrev pub decreases-loop-p : goal.decreases-loop-p
-decreases-loop-p l = 1024 - l.p
+invariant-loop-p l = first (row l.s) l.p (1024 - l.p) ≡ settings_test l.s

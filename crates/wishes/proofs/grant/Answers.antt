@@ -1,12 +1,13 @@
 -- `wishes::grant` meets its contract: a refusal is the first row's that refuses, and else the questions decide. Assumes nothing.
+use Rattle.std.proofs.lemmas.Result.{err_from_is_err_and}
 use borrow.Author.Rules.{rules}
 use Rattle.asking.proofs.Lends.{new_index}
 use Rattle.codec.specs.Valid.{Bytes}
 use Rattle.wishes.proofs.Answers.{refuses, roomy, posed, ends}
 use Rattle.wishes.proofs.grant.Goals as goal
 
-pub ask-a-requires : goal.ask-a-requires
-ask-a-requires c = record {
+pub ask-requires : goal.ask-requires
+ask-requires c = record {
   list_len = search rules;
   zeros = new_index;
 }
@@ -14,20 +15,23 @@ ask-a-requires c = record {
 pub questions-requires : goal.questions-requires
 questions-requires c =
     let bytes : Bytes c.args.t.now = λ i. (c.type_inv.t i).fits in
-    let p = c.ask-a.ensures.asks.reached _ c.in-Nodes.is in
+    let p = c.ask.ensures.asks.reached _ c.in_ok-n.was in
     let a = c.args in
     record {
       indexed = p.indexed;
-      posed = posed a.t.now a.goals.now a.wishes.now a.allowance a.settings.now a.work.now bytes p _ c.ask-a.auto.list (c.ask-a.ensures.gathered p.admitted.list);
+      posed =
+          posed a.t.now a.goals.now a.wishes.now a.allowance a.settings.now a.work.now bytes p _ c.ask.auto.list
+          (c.ask.ensures.gathered p.admitted.list);
       room = roomy a.t.now a.goals.now a.wishes.now a.allowance a.settings.now a.work.now bytes p;
     }
 
-pub returns-in-Refused : goal.returns-in-Refused
-returns-in-Refused c =
+pub returns-in_err-n : goal.returns-in_err-n
+returns-in_err-n c =
     let bytes : Bytes c.args.t.now = λ i. (c.type_inv.t i).fits in
-    refuses _ _ _ _ _ _ bytes _ (c.ask-a.ensures.asks.refuses _ c.in-Refused.is)
+    let p = err_from_is_err_and c.from_residual.result c.from_residual.ensures.1 in
+    rw (p.1, p.2) (refuses _ _ _ _ _ _ bytes _ (c.ask.ensures.asks.refuses _ c.in_err-n.was))
 
-pub returns-in-Nodes : goal.returns-in-Nodes
-returns-in-Nodes c =
+pub returns : goal.returns
+returns c =
     let bytes : Bytes c.args.t.now = λ i. (c.type_inv.t i).fits in
-    ends _ _ _ _ _ _ bytes (c.ask-a.ensures.asks.reached _ c.in-Nodes.is) _ c.questions.ensures
+    ends _ _ _ _ _ _ bytes (c.ask.ensures.asks.reached _ c.in_ok-n.was) _ c.questions.ensures

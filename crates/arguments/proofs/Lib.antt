@@ -1,2 +1,0 @@
--- A law of loading. Assumes nothing.
-pub mod Loading
