@@ -20,10 +20,6 @@ use Rattle.clashing.proofs.Walks.{among-less, Needed, walk-needed}
 -- ---- the test, by the literals picked
 
 module _ (ask : List ℕ → Answer) where
-  pub refuted-none : (ls : List ℕ) → length ls ≡ 0 → refuted ask ls ≡ false
-  refuted-none [] h = refl
-  refuted-none (l ∷ ls) h = absurd (omega arith)
-
   pub refuted-some : (ls : List ℕ) → 0 < length ls → refuted ask ls ≡ is_impossible (ask ls)
   refuted-some [] h = absurd (omega arith)
   refuted-some (l ∷ ls) h = refl

@@ -23,17 +23,13 @@ use Rattle.clashing.specs.Clash.{clashes, walk, argued}
 use Rattle.clashing.specs.Walks.{list_size, refuted, Passed, Held, Grows}
 use Rattle.clashing.specs.Clashes.{clashed_of}
 use Rattle.clashing.proofs.Walks.{walk_keeps, walk_ends, walk-passes, walk-waits}
-use Rattle.clashing.proofs.Keeps.{refuted-none, refuted-some, clashes-refuted}
+use Rattle.clashing.proofs.Keeps.{refuted-some, clashes-refuted}
 
 -- ---- an answer
 
 -- all goals may be put together
 pub together : {n : ℕ} {goals : List ℕ} → Passed n goals → Goals n goals
 together g = record { most = omega (arith, g.most); below = g.below }
-
--- none are put
-pub refutes_none : (t : ℕ → Node) (n : ℕ) (list : List ℕ) → length list ≡ 0 → false ≡ refuted (asks t n) list
-refutes_none t n list e = sym (refuted-none (asks t n) list e)
 
 module _ {t : ℕ → Node} {n : ℕ} {goals work : List ℕ} {r : Found} (s : Solved t n goals work r) where
   whole : {y : Found} → r ≡ y → asks t n goals ≡ found_of y (g_of work)

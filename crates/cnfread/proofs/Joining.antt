@@ -16,7 +16,7 @@ use Rattle.scope.specs.Calls.{Added}
 use Rattle.scope.proofs.Tests.{bound, refused_no}
 use Rattle.codec.proofs.Rows.{row}
 use Rattle.growing.specs.Growing.{Table, state, Grows}
-use Rattle.cnf.specs.Fold.{put, yes_literal, no_literal, distinct_from, both_signs, or_clause, clause, and_join, and_all, goal_of, points, empty, build}
+use Rattle.cnf.specs.Fold.{put, yes_literal, no_literal, distinct_from, both_signs, or_clause, clause, and_all, goal_of, points, empty, build}
 use Rattle.cnftext.specs.declared.Heading.{Heading}
 use Rattle.cnffold.proofs.Built.{Over, grows_as, grows_in, grows_refused, grows_next, grows_turned}
 use Rattle.cnfread.specs.declared.Gathered.{Gathered}
@@ -46,16 +46,6 @@ module _ {both : Bool} (t : Added) (d : List ℕ) where
   pub folded-true : both ≡ true → folded both t d ≡ put t 1 0 0
   unfolding yes_literal
   folded-true e = rw e
-
-  pub folded_or : both ≡ false → folded both t d ≡ or_clause t d
-  folded_or e = rw e
-
--- the first clause, or another
-pub joined-first : {first : Bool} (both : Bool) (t : Added) (d : List ℕ) (goal : ℕ) → first ≡ true → joined_clause first goal both t d ≡ folded both t d
-joined-first both t d goal e = rw e (sym (bind_same (folded both t d)))
-
-pub joined_other : {first : Bool} (goal : ℕ) (u : Added) → first ≡ false → joined first goal u ≡ and_join goal u
-joined_other goal u e = rw e
 
 -- nothing is left
 pub ended-none : {none : Bool} (t : Added) → none ≡ true → remaining none t [] ≡ put t 1 0 0

@@ -65,12 +65,6 @@ mark_clear true e = absurd (omega arith)
 mark_clear false e = refl
 
 module _ {marks held : List ℕ} {n : ℕ} (k : Kept marks held n) (l : ℕ) (h : l < 2048) where
-  -- it is there already
-  pub keep_old : (get_or marks l 0 ≡ 0 → ⊥) → Keeps held n l marks held n
-  keep_old e =
-      let here : holds l (take n held) ≡ true = mark_set (holds l (take n held)) (λ q. e (k.marked l h ∙ q)) in
-      record { holds = k; list = rw here }
-
   module _ (e : get_or marks l 0 ≡ 0) where
     -- there is room
     pub keep-room : n < 2048
@@ -120,9 +114,6 @@ pub record Clearing (marks held : List ℕ) (n i : ℕ) : Type 0 where
   pub room : length held ≡ 2048
   pub small : Small held n
   pub left : (l : ℕ) → l < 2048 → holds l (drop i (take n held)) ≡ false → get_or marks l 0 ≡ 0
-
-pub clear_start : {marks held : List ℕ} {n : ℕ} → Kept marks held n → Clearing marks held n 0
-clear_start k = record { size = k.size; room = k.room; small = k.small; left = λ l h e. k.marked l h ∙ ap mark e }
 
 module _ {marks held : List ℕ} {n i : ℕ} (k : Clearing marks held n i) where
   pub clear_low : i < n → get_or held i 0 < 2048

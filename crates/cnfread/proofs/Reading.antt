@@ -9,18 +9,18 @@ use Rattle.std.specs.Prelude.{Option, Some, None, Result, Ok, Err}
 use Rattle.scope.specs.declared.Refusal.{Refusal}
 use Rattle.scope.specs.Outcome.{Outcome, answer, refused, require, ◌>>◌, ◌>>=◌}
 use Rattle.scope.specs.Calls.{Added as Written}
-use Rattle.scope.proofs.Tests.{refused_no, bound}
+use Rattle.scope.proofs.Tests.{refused_no}
 use Rattle.codec.specs.Valid.{Bytes}
 use Rattle.adding.specs.declared.Mark.{Mark}
 use Rattle.adding.specs.Added.{marked}
-use Rattle.growing.specs.Growing.{Table, state, room_of, outcome_of, Writes}
+use Rattle.growing.specs.Growing.{Table, state, outcome_of, Writes}
 use Rattle.cnf.specs.Text.{File, file_of}
 use Rattle.cnf.specs.Fold.{build}
 use Rattle.cnf.specs.Reader.{dimacs, Turns}
 use Rattle.cnf.proofs.Reader.{dimacs-builds, dimacs_refuses}
 use Rattle.cnftext.specs.declared.Heading.{Heading}
 use Rattle.cnftext.specs.Scanned.{Headed}
-use Rattle.cnfread.specs.Clauses.{body_at, filed, Folds}
+use Rattle.cnfread.specs.Clauses.{body_at}
 use Rattle.cnfread.specs.Reads.{file_with, Starts, Told, FirstRefusal, Reads}
 
 -- the heading was found, or not
@@ -45,28 +45,6 @@ module _ {text : List ℕ} {r : Option Heading} (d : Headed text r) where
     few = d.few h e;
     file = rw (← d.answered, e) (filed_file h (body_at h.variables text h.body));
   }
-
--- a text with a heading, whose body was folded
-module _ {text : List ℕ} {h : Heading} (b : Starts text h) where
-  pub body-told : (buf : List ℕ) {room : ℕ} {g : Result ℕ Refusal} {t : Table} → room ≡ room_of (length buf)
-      → Folds (filed h.variables text h.body h.clauses) (λ cs buf. build buf (file_with h cs)) room g t → Told text buf t g
-  body-told buf q folds = record {
-    table = λ x p.
-        let (cs, ok, same) = bound (filed h.variables text h.body h.clauses) (λ cs. answer (file_with h cs)) (sym b.file ∙ p) in
-        let file : ◌≡◌ {A = File} (file_with h cs) x = cc in
-        ap (build buf) (sym file) ∙ (folds.table cs ok).said buf (sym q);
-    there = λ l p.
-        let (cs, ok) = folds.there l p in
-        (file_with h cs, b.file ∙ ap (λ (o : Outcome (List (List ℕ))). o >>= λ cs. answer (file_with h cs)) ok);
-    room_is = folds.room_is ∙ q;
-  }
-
--- what refuses a text
-pub first_own : {text : List ℕ} (r f : Refusal) → file_of text ≡ refused f.number f.place → FirstRefusal text r f
-first_own r f e = record {
-  fine = λ x q. refused_no (sym e ∙ q);
-  turned = λ number place q. let same : ◌≡◌ {A = Outcome File} (refused f.number f.place) (refused number place) = sym e ∙ q in (cc, cc);
-}
 
 pub first-given : {text : List ℕ} (r : Refusal) {x : File} → file_of text ≡ answer x → FirstRefusal text r r
 first-given r e = record { fine = λ y q. refl; turned = λ number place q. refused_no (sym q ∙ e) }

@@ -58,10 +58,6 @@ module _ (text : List ℕ) (i : ℕ) (h : length text ≤ i) where
 pub no_more : (xs : List ℕ) {ys : List ℕ} → ys ≡ [] → xs ++ ys ≡ xs
 no_more xs e = rw (e, append-nil)
 
--- digits start
-pub digits_start : (text : List ℕ) (at : ℕ) → digits (drop at text) ≡ part text at at ++ digits (drop at text)
-digits_start text at = let none : at - at ≡ 0 = omega arith in rw none
-
 pub digits_all : (t : List ℕ) → all_digits (digits t) ≡ true
 unfolding digits all_digits
 digits_all [] = refl

@@ -3,10 +3,10 @@ use mathlib.Core.Path.{◌≡◌, ◌∙◌, ap, sym}
 use mathlib.Core.List.{List, []}
 use mathlib.Core.Bool.{Bool, true, false, ◌&&◌, and-false, and-true}
 use Prim.Native.Nat.{ℕ, ◌+◌, ◌-◌, ◌*◌, ◌^◌, ◌<◌, ◌≤◌}
-use native.Mathlib.Nat.{pow-succ', pow-le-pow_right}
+use native.Mathlib.Nat.{pow-succ'}
 use native.Mathlib.Numerals.{add-one}
 use native.Mathlib.Omega.{arith}
-use lib.Dec.{eqb, leb, lit<}
+use lib.Dec.{eqb, leb}
 use lib.ListN.{length, get_or, take, drop, length-drop, drop_of_length-le}
 use lib.Seq.{take_all, drop-cons}
 use borrow.Author.Tests.{eqb-true, eqb-false, leb-true, le-ltb, lt-ltb, eq-eqb, ne_eqb}
@@ -110,6 +110,3 @@ behind_sign w = take_all (length w - 1) (drop 1 w) (omega (arith, length-drop 1 
 -- digits below 10^i, and one more
 pub ten_more : (n i d : ℕ) → n < 10 ^ i → d < 10 → 10 * n + d < 10 ^ (i + 1)
 ten_more n i d h l = rw (add-one, pow-succ') (omega arith)
-
-pub nine_digits : (n i : ℕ) → n < 10 ^ i → i ≤ 9 → n < 1000000000
-nine_digits n i h l = let most : 10 ^ i ≤ 1000000000 = pow-le-pow_right {n = 10} (lit< tt) {i = i} {j = 9} l in omega arith

@@ -13,7 +13,6 @@ use Rattle.scope.proofs.Tests.{and_left, and_right}
 use Rattle.calculus.specs.Expansion.{templates, chosen, expand}
 use Rattle.calculus.proofs.Lists.{every, every_all, all_at, all_imply, all_map}
 use Rattle.rules.specs.declared.Version.{Version}
-use Rattle.rules.specs.declared.Version.TheVariants.{One}
 use Rattle.state.specs.Work.{tail, lit_at, g_of, place_of, Numbered}
 use Rattle.state.proofs.Clauses.{at_goal, at_position}
 use Rattle.moves.specs.Place.{goals_at, place_number, Placed}
@@ -80,9 +79,6 @@ module _ {t : ℕ → Node} {goals w : List ℕ} (P : Placed t goals w (place_nu
       }
 
 -- ---- in a version
-
-pub sized_one : {v : Version} {t : ℕ → Node} {goals G : List ℕ} {k r : ℕ} (free : ℕ) → v ≡ One → Sized t goals G k r → SizedIn v t goals G k free r
-sized_one free e z = rw e (record { size = z.size; low = z.low })
 
 -- of the clause that the move looked up is on
 pub sized_on : {v : Version} {t : ℕ → Node} {goals w : List ℕ} {k free r : ℕ} → Placed t goals w k → SizedIn v t goals (g_of w) (place_number w) free r

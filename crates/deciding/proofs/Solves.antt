@@ -1,22 +1,16 @@
 -- What the search over an index came to, as decide's answer. Assumes nothing.
 use mathlib.Core.Path.{◌≡◌, sym, ap, ap₂, ◌∙◌}
-use mathlib.Core.List.{List, [], ◌++◌}
+use mathlib.Core.List.{List, []}
 use Prim.Native.Nat.{ℕ}
-use lib.ListN.{drop}
 use Rattle.scope.specs.declared.Node.{Node}
-use Rattle.scope.specs.Outcome.{answer}
-use Rattle.scope.specs.Table.{list_from}
 use Rattle.calculus.specs.Expansion.{expand}
-use Rattle.calculus.specs.Order.{Answer, setting_of}
+use Rattle.calculus.specs.Order.{Answer}
 use Rattle.calculus.specs.Jump.{jump, end_answer, stopped}
-use Rattle.calculus.specs.Decide.{settings_on}
 use Rattle.state.specs.Work.{g_of}
 use Rattle.searching.specs.Search.{found_of}
 use Rattle.searching.specs.Jumps.{made_by, found_by, Counted}
 use Rattle.searching.specs.declared.Ended.{Ended}
-use Rattle.searching.specs.declared.Ended.TheVariants.{Model, Closed}
-use Rattle.deciding.specs.Decides.{Said, word_of, Solved}
-use Rattle.deciding.specs.declared.Decision.TheVariants.{Possible, Impossible}
+use Rattle.deciding.specs.Decides.{Said, word_of}
 
 module _ {t : ℕ → Node} {n : ℕ} {goals w : List ℕ} {r : Ended} (f : Counted t n goals w r) (s : List ℕ) where
   -- the answer and the splits, of either case
@@ -29,9 +23,3 @@ module _ {t : ℕ → Node} {n : ℕ} {goals w : List ℕ} {r : Ended} (f : Coun
   said : {y : Ended} → r ≡ y → ◌≡◌ {A = Said} (record { word = word_of (found_of (found_by y) (g_of w)); splits = made_by y })
       (record { word = word_of (end_answer (jump 128 (expand t) goals n 0 []).end); splits = stopped (jump 128 (expand t) goals n 0 []).splits })
   said q = ap₂ (λ (a : Answer) (k : ℕ). record { word = word_of a; splits = k }) (ended q) (made q)
-
-  pub solved_closed : {c : ℕ} → r ≡ Closed c → Solved t n goals s s (Impossible c)
-  solved_closed q = record { verdict = ap answer (said q); settings = ap (settings_on (list_from t 0 n) s) (ended q) }
-
-  pub solved_model : {c : ℕ} → r ≡ Model c → {s' : List ℕ} → s' ≡ setting_of (list_from t 0 n) (g_of w) ++ drop 1024 s → Solved t n goals s s' (Possible c)
-  solved_model q y = record { verdict = ap answer (said q); settings = y ∙ ap (settings_on (list_from t 0 n) s) (ended q) }

@@ -19,14 +19,14 @@ use Rattle.wishing.specs.Wish.{Wished}
 use Rattle.wishing.specs.Walk.{Stage, asking, stopped, heard, step, visit, visits, finish}
 use Rattle.wishing.proofs.Walks.{visit_none, visit_stopped}
 use Rattle.wishing.proofs.Wishes.{granted_walks}
-use Rattle.granting.specs.Counts.{choose, Opposed}
+use Rattle.granting.specs.Counts.{Opposed}
 use Rattle.granting.specs.Visits.{wished_of, stage_of, Spends, Listed, Gathered, Stepped, Refused, Visited, Grants}
 use Rattle.granting.specs.declared.Way.{Way}
 use Rattle.std.specs.declared.ops.ControlFlow.{ControlFlow}
 use Rattle.std.specs.declared.ops.ControlFlow.TheVariants.{Continue, Break}
 use Rattle.granting.specs.declared.Grant.{Grant}
 use Rattle.granting.proofs.Opposites.{opposite_impossible}
-use Rattle.granting.proofs.Refusals.{spent, lasts, visit_refused}
+use Rattle.granting.proofs.Refusals.{visit_refused}
 
 -- ---- a step
 
@@ -74,13 +74,6 @@ module _ (x : List ℕ) (n g : ℕ) (q w : List ℕ) (on : Way) where
     }
 
 -- ---- questions refused at once
-
-module _ (m s size : ℕ) (on : Way) (c : ℕ) (e : c ≡ choose m s) where
-  pub refused_spent : on.left < c → Refused m s size on (Break (record { met = 0; bound = size; questions = on.put + on.left }))
-  refused_spent h = record { stage = λ first w. rw (← e) (sym (spent first c size on.put on.left h)); room = omega arith }
-
-  pub refused_lasts : c ≤ on.left → Refused m s size on (Continue (record { put = on.put + c; left = on.left - c }))
-  refused_lasts h = record { stage = λ first w. rw (← e) (sym (lasts first c size on.put on.left h)); room = omega arith }
 
 -- what is put and left of a stage on the way is that of those before
 spends_on : {st : ControlFlow Grant Way} {on : Way} (mid : ControlFlow Grant Way) → st ≡ Continue on → Spends mid (on.put + on.left) → (k : ℕ) → Spends st k → Spends mid k

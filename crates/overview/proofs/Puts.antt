@@ -12,7 +12,6 @@ use Rattle.state.specs.Work.{g_of}
 use Rattle.questions.specs.Asking.{asks}
 use Rattle.searching.specs.Search.{found_of, Solved}
 use Rattle.searching.specs.declared.Found.{Found}
-use Rattle.searching.specs.declared.Found.TheVariants.{Model, Closed}
 use Rattle.overview.specs.Overview.{byte_of, bytes_of}
 
 -- ---- one goal
@@ -20,12 +19,6 @@ use Rattle.overview.specs.Overview.{byte_of, bytes_of}
 module _ {t : ℕ → Node} {n : ℕ} {goals work : List ℕ} {r : Found} (s : Solved t n goals work r) where
   told : {y : Found} → r ≡ y → byte_of (found_of y (g_of work)) ≡ byte_of (asks t n goals)
   told e = ap byte_of (ap (λ (y : Found). found_of y (g_of work)) (sym e) ∙ s.answered)
-
-  pub byte_model : r ≡ Model → 1 ≡ byte_of (asks t n goals)
-  byte_model e = told e
-
-  pub byte_closed : r ≡ Closed → 0 ≡ byte_of (asks t n goals)
-  byte_closed e = told e
 
 -- ---- one after another
 

@@ -3,7 +3,6 @@ use mathlib.Core.Path.{◌≡◌, refl, sym, ap, ◌∙◌}
 use mathlib.Core.Bool.{true}
 use mathlib.Core.List.{List}
 use Prim.Native.Nat.{ℕ, ◌+◌, ◌*◌, ◌/◌, ◌%◌, ◌<◌, ◌≤◌}
-use native.Mathlib.Nat.{mul-le-mul_left}
 use native.Mathlib.Omega.{arith}
 use lib.ListN.{length, get_or, drop, length-drop}
 use lib.Seq.{get_or-drop, ext_get_or}
@@ -11,7 +10,7 @@ use Rattle.scope.specs.declared.Node.{Node}
 use Rattle.scope.specs.Table.{list_from}
 use Rattle.calculus.specs.Expansion.{expand}
 use Rattle.calculus.specs.Model.{Table, Below}
-use Rattle.turns.specs.Turn.{Search, running, found, closed, number_of, resumes, resumed}
+use Rattle.turns.specs.Turn.{Search, number_of, resumes, resumed}
 use Rattle.turns.specs.Round.{Round, turn_for, spend, turns_for}
 use Rattle.turns.proofs.Replay.{turn_resumes, resumed_resumes, resumes_resumed}
 use Rattle.turns.proofs.Rooms.{spend_resumes}
@@ -37,10 +36,6 @@ parts_beyond q xs ys e same =
         ap (λ (j : ℕ). get_or ys j 0) (sym z) ∙ sym (part_at points_size (k / 1024) ys (k % 1024) b)
         ∙ ap (λ (l : List ℕ). get_or l (k % 1024) 0) (same (k / 1024) (omega arith)) ∙ part_at points_size (k / 1024) xs (k % 1024) b
         ∙ ap (λ (j : ℕ). get_or xs j 0) z
-
--- room for eight is room for each
-pub rooms_for : (size : ℕ) {q k : ℕ} → q ≤ most_questions → k ≡ size * most_questions → size * q ≤ k
-rooms_for size h e = rw e (mul-le-mul_left size h)
 
 -- a search that can go on, and its turn
 abbrev Resumes : (ℕ → List (List ℕ)) → List ℕ → ℕ → Search → Type 0
@@ -108,21 +103,12 @@ module _ {t : ℕ → Node} {n : ℕ} {questions s w v₀ w₁ m₁ o₁ v₁ : 
 
 -- ---- one call, where each search is taken up for its turn
 
--- what the areas say that a search has come to, it has come to when it is taken up
-looked_number : (e : ℕ → List (List ℕ)) (goals : List ℕ) (s : Search) → number_of s ≡ number_of (resumed e goals s)
-looked_number e goals (running G) = refl
-looked_number e goals (found G) = refl
-looked_number e goals closed = refl
-
 -- whose turn is next was put down: the searches are there as before
 pub next_kept : (e : ℕ → List (List ℕ)) (questions : List ℕ) {up : ℕ} {w₂ w₃ : List ℕ} → NextPut up w₂ w₃ → (i : ℕ)
     → search_in e questions w₃ i ≡ search_in e questions w₂ i
 next_kept e questions d i = ap (resumed e (goals_of questions i)) (d.searches i)
 
 module _ (questions : List ℕ) {w v₀ v₁ : List ℕ} (a : Looked (length questions) w v₀ v₁) where
-  pub looked_numbers : (e : ℕ → List (List ℕ)) (i : ℕ) → i < length questions → get_or v₁ i 0 ≡ number_of (search_in e questions w i)
-  looked_numbers e i l = a.numbers i l ∙ looked_number e (goals_of questions i) (stored (part_of 32768 i w))
-
   module _ {t : ℕ → Node} {n : ℕ} {s : List ℕ} {first k : ℕ} {s' v₂ turns : List ℕ} {stand : ℕ → Search} {up : ℕ} (first-is : first ≡ get_or w next_at 0)
       (b : Spent t n questions s v₁ (search_in (expand t) questions w) first k s' v₂ turns stand up) where
     -- the call starts from what the areas held

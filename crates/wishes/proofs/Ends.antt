@@ -2,50 +2,26 @@
 use mathlib.Core.Path.{◌≡◌, ap, ◌∙◌}
 use mathlib.Core.List.{List, ◌++◌}
 use mathlib.Core.Bool.{Bool, true, false, cond}
-use Rattle.std.specs.Prelude.{Ok, Err}
+use Rattle.std.specs.Prelude.{Ok}
 use Prim.Native.Nat.{ℕ}
 use lib.Dec.{eqb}
 use lib.ListN.{length, drop}
 use lib.Seq.{drop_at}
-use borrow.Author.Tests.{eq-eqb, ne_eqb}
 use Rattle.scope.specs.declared.Node.{Node}
 use Rattle.scope.specs.Table.{list_from}
 use Rattle.calculus.specs.Order.{setting_of}
 use Rattle.calculus.proofs.Setting.{setting_length}
 use Rattle.index.specs.Index.{index_node}
-use Rattle.state.specs.Work.{g_of, Ready}
-use Rattle.searching.specs.declared.Found.TheVariants.{Model, Closed}
+use Rattle.state.specs.Work.{g_of}
+use Rattle.searching.specs.declared.Found.TheVariants.{Model}
 use Rattle.searching.specs.Search.{Solved}
 use Rattle.granting.specs.declared.Grant.{Grant}
-use Rattle.granting.specs.Visits.{Gathered, Grants}
+use Rattle.granting.specs.Visits.{Grants}
 use Rattle.wishes.specs.Wishes.{Stands, Posed, Answered}
-
--- ---- what stands
-
-module _ (t : ℕ → Node) (n met : ℕ) (G s : List ℕ) where
-  pub stands_first : met ≡ 0 → Stands t n met G s s
-  stands_first e = rw (eq-eqb met 0 e)
-
-  pub stands_met : (met ≡ 0 → ⊥) → Stands t n met G s (setting_of (list_from t 0 n) G ++ drop 1024 s)
-  stands_met e = rw (ne_eqb met 0 e)
-
--- the questions may be put
-pub walkable : (n : ℕ) (goals wishes list w : List ℕ) → Posed n goals wishes list → Ready n w → Gathered n (length goals) wishes list w
-walkable n goals wishes list w p y = record {
-  size = p.size;
-  literals = rw p.first p.goals_fit.below;
-  wishes_fit = p.wishes_fit;
-  few = p.few;
-  room = p.room;
-  ready = y;
-}
 
 -- ---- the answers
 
 module _ (x : List ℕ) (n : ℕ) (goals wishes : List ℕ) (m : ℕ) (s : List ℕ) where
-  pub alone_impossible : (w : List ℕ) → Solved (index_node x) n goals w Closed → Answered x n goals wishes m s s (Err (record { number = 67; place = 0 }))
-  alone_impossible w h = record { answered = rw (← h.answered); settings = rw (← h.answered) }
-
   module _ (w : List ℕ) (h : Solved (index_node x) n goals w Model) where
     abbrev rs : List Node
     rs = list_from (index_node x) 0 n

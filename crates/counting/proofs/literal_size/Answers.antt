@@ -7,36 +7,6 @@ use Rattle.index.specs.Index.{index_node}
 use Rattle.counting.proofs.Sizes.{lengths_are}
 use Rattle.counting.proofs.literal_size.Goals as goal
 
-pub overflow_cast-row-2 : goal.overflow_cast-row-2
-unfolding index_node
-overflow_cast-row-2 c =
-    let kind : get_or c.args.x.now (4 * (c.args.l / 2)) 0 + 1 < 9 = (c.requires.indexed.table.kinds (c.args.l / 2) (omega (arith, c.requires.l_bound))).1 in
-    omega (arith, kind)
-
-pub overflow_add-row : goal.overflow_add-row
-unfolding index_node
-overflow_add-row c =
-    let kind : get_or c.args.x.now (4 * (c.args.l / 2)) 0 + 1 < 9 = (c.requires.indexed.table.kinds (c.args.l / 2) (omega (arith, c.requires.l_bound))).1 in
-    omega (arith, kind)
-
-pub overflow_mul-row-2 : goal.overflow_mul-row-2
-unfolding index_node
-overflow_mul-row-2 c =
-    let kind : get_or c.args.x.now (4 * (c.args.l / 2)) 0 + 1 < 9 = (c.requires.indexed.table.kinds (c.args.l / 2) (omega (arith, c.requires.l_bound))).1 in
-    omega (arith, kind)
-
-pub overflow_add-row-2 : goal.overflow_add-row-2
-unfolding index_node
-overflow_add-row-2 c =
-    let kind : get_or c.args.x.now (4 * (c.args.l / 2)) 0 + 1 < 9 = (c.requires.indexed.table.kinds (c.args.l / 2) (omega (arith, c.requires.l_bound))).1 in
-    omega (arith, kind)
-
-pub overflow_mul-result : goal.overflow_mul-result
-unfolding index_node
-overflow_mul-result c =
-    let kind : get_or c.args.x.now (4 * (c.args.l / 2)) 0 + 1 < 9 = (c.requires.indexed.table.kinds (c.args.l / 2) (omega (arith, c.requires.l_bound))).1 in
-    omega (arith, kind)
-
 pub overflow_shr-result : goal.overflow_shr-result
 unfolding index_node
 overflow_shr-result c =

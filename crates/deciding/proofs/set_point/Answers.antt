@@ -1,6 +1,6 @@
 -- `deciding::set_point` meets its contract, by the kind of the literal's node. Assumes nothing.
-use Prim.Native.Nat.{◌+◌, ◌*◌, ◌/◌, ◌<◌}
-use lib.ListN.{get_or, length}
+use Prim.Native.Nat.{◌+◌, ◌*◌, ◌/◌}
+use lib.ListN.{get_or}
 use Rattle.index.specs.Index.{index_node}
 use native.Mathlib.Omega.{arith}
 use borrow.Author.Tests.{eq-eqb, ne_eqb}
@@ -9,11 +9,6 @@ use Rattle.deciding.proofs.set_point.Goals as goal
 pub returns-then-x-s-ne-ATOM : goal.returns-then-x-s-ne-ATOM
 unfolding index_node
 returns-then-x-s-ne-ATOM c = rw (ne_eqb (get_or c.args.x.now (4 * (c.args.l / 2)) 0 + 1) 2 (λ q. c.if-x-s-ne-ATOM.true (omega (arith, q))))
-
-pub overflow_cast-point : goal.overflow_cast-point
-unfolding index_node
-overflow_cast-point c = let b : get_or c.args.x.now (4 * (c.args.l / 2) + 1) 0 < length c.args.settings.now = c.requires.l_in_bounds (omega (arith, c.if-x-s-ne-ATOM.false)) in
-    omega (arith, b)
 
 pub bounds-settings-point : goal.bounds-settings-point
 unfolding index_node

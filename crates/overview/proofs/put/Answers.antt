@@ -9,6 +9,3 @@ put_each-requires c = record {
   ready = (c.blank.ensures.ready, sets_blank);
   goals_in_bounds = c.requires.goals_in_bounds;
 }
-
-pub returns : goal.returns
-returns c = c.put_each.ensures

@@ -4,29 +4,12 @@ use native.Mathlib.Omega.{arith}
 use borrow.Author.Rules.{rules}
 use Rattle.calculus.specs.Expansion.{expand}
 use Rattle.index.specs.Index.{index_node}
-use Rattle.rooms.proofs.Goes.{looked_numbers, next_kept, few-low, went-few, reported-few}
+use Rattle.rooms.proofs.Goes.{next_kept, few-low, went-few, reported-few}
 use Rattle.rooms.proofs.spend_few.Goals as goal
-
-pub spend_few-next-requires : goal.spend_few-next-requires
-spend_few-next-requires c = let f = c.requires.fit in
-    let q = c.args.questions.now in
-    record {
-      indexed = c.requires.indexed;
-      pointed = c.requires.pointed;
-      goals = c.requires.goals;
-      questions_len_bound = (f.few, f.work, c.look.auto.verdicts ∙ c.requires.turns_len.1);
-      questions_in_bounds = (f.settings, c.requires.turns_len.0);
-      by_index = c.requires.by_index;
-      by_index_2 = looked_numbers q c.look.ensures (expand (index_node c.args.x.now));
-    }
 
 pub overflow_cast-next : goal.overflow_cast-next
 overflow_cast-next c = let q = c.args.questions.now in
     omega (arith, few-low q c.look.ensures c.next-up.ensures c.spend_few-next.ensures (search rules) c.requires.fit.few)
-
-pub put_next-requires : goal.put_next-requires
-put_next-requires c = let f = c.requires.fit in
-    omega (arith, f.some, f.work, c.spend_few-next.auto.work)
 
 pub returns : goal.returns
 returns c = let q = c.args.questions.now in

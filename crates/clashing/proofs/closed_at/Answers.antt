@@ -1,6 +1,0 @@
--- `clashing::closed_at` meets its contract. Assumes nothing.
-use native.Mathlib.Omega.{arith}
-use Rattle.clashing.proofs.closed_at.Goals as goal
-
-pub overflow_cast-result : goal.overflow_cast-result
-overflow_cast-result c = omega (arith, c.type_inv.work 1)
