@@ -7,9 +7,6 @@ use Prim.Native.Nat.{ℕ, zero, suc, ◌+◌, ◌-◌, ◌*◌, ◌/◌, ◌%◌
 use native.Mathlib.Omega.{arith}
 use native.Mathlib.Decide.{ℕ_discrete, dec_lt}
 use lib.Dec.{leb, ltb}
-use borrow.Rule.Slice.PartMut.{put_mid}
-use Rattle.std.proofs.lemmas.Grind.{common_steps}
-use Rattle.std.proofs.lemmas.List.{places}
 use lib.ListN.{length, get_or, set, length-set, length-map, length-append, get_or-append}
 use lib.Seq.{get_or-set_same, get_or-set_other, get_or-append-add}
 use borrow.Author.Tests.{leb-true, le-ltb}
@@ -61,14 +58,6 @@ module _ {at : ℕ} {f : ℕ → ℕ} {w₀ : List ℕ} where
 
   pub filled_all : {m k : ℕ} {w : List ℕ} → Filled at m f w₀ w → m ≡ k → Filled at k f w₀ w
   filled_all {m} {k} {w} p e = subst (λ (i : ℕ). Filled at i f w₀ w) e p
-
--- a part that is copied from a list
-pub filled_part : (at m k : ℕ) (w ys xs : List ℕ) → at + m ≤ length w → m ≡ length xs → ys ≡ xs → k ≡ m → Filled at m (λ i. get_or xs i 0) w (put_mid at k w ys)
-filled_part at m k w ys xs b s e z = record {
-  size = grind (arith, common_steps);
-  here = λ i h. grind (arith, common_steps);
-  else = λ i o. grind (arith, common_steps, places);
-}
 
 -- ---- clauses that are appended
 

@@ -274,7 +274,9 @@ fn aim(goals: &[u16], work: &mut [u16])
     requires { (area_size ≤ length work.old) × (length goals.now ≤ goal_room) }
     ensures { Filled slots_from (length goals.now) (λ k. get_or goals.now k 0) work.old work.new }
 {
-    work[SLOTS..SLOTS + goals.len()].copy_from_slice(goals);
+    for k in 0..goals.len() {
+        work[SLOTS + k] = goals[k];
+    }
 }
 
 // The start: nothing is held, and the slots are cleared, so that none has a strike. What else is written before it is read is not.

@@ -71,7 +71,7 @@ key_reads k x y n p e = rw p (own_reads x y n e)
 -- the same outcome, said otherwise
 pub grows_as : {out out' : List ℕ → Outcome Added} {room : ℕ} {v : Result ℕ Refusal} {t : Table} → Over room (λ buf. out' buf ≡ out buf) → Grows out room v t
     → Grows out' room v t
-grows_as e g = record { said = λ buf q. e buf q ∙ g.said buf q; room_is = g.room_is; low = g.low }
+grows_as e g = record { said = λ buf q. e buf q ∙ g.said buf q; room_is = g.room_is; low = g.low; adds = g.adds }
 
 -- .. and over as much room
 pub grows_in : {out : List ℕ → Outcome Added} {room room' : ℕ} {v : Result ℕ Refusal} {t : Table} → room' ≡ room → Grows out room' v t → Grows out room v t
@@ -93,15 +93,20 @@ grows_answer {l = l} h r e = record {
   said = e;
   room_is = r;
   low = λ m q. let same : l ≡ m = cc in omega arith;
+  adds = λ x q. absurd (let z : ◌≡◌ {A = ℕ} 0 1 = cc in omega arith);
 }
 
 -- a refusal: nothing is kept
 pub grows_refused : {out : List ℕ → Outcome Added} {room : ℕ} {r : Refusal} {v : Result ℕ Refusal} {t : Table} → v ≡ Err r → t.room ≡ room
-    → Over room (λ buf. out buf ≡ refused r.number r.place) → Grows out room v t
-grows_refused {r = r} {t = t} e k f = record {
+    → r.number < 60 → Over room (λ buf. out buf ≡ refused r.number r.place) → Grows out room v t
+grows_refused {r = r} {t = t} e k h f = record {
   said = λ buf q. f buf q ∙ sym (ap (outcome_of t buf) e);
   room_is = k;
   low = λ l q. absurd (let p : Ok l ≡ Err r = sym q ∙ e in let z : ◌≡◌ {A = ℕ} 0 1 = cc in omega arith);
+  adds = λ x q.
+      let p : ◌≡◌ {A = Result ℕ Refusal} (Err r) (Err x) = sym e ∙ q in
+      let same : r ≡ x = cc in
+      subst (λ (y : Refusal). y.number < 60) same h;
 }
 
 module _ {out : List ℕ → Outcome Added} {room : ℕ} {v : Result ℕ Refusal} {t : Table} (g : Grows out room v t) where
@@ -122,7 +127,7 @@ module _ {out : List ℕ → Outcome Added} {room : ℕ} {v : Result ℕ Refusal
       → Grows (λ buf. out buf >>= f buf) room w t
   grows_stops {w = w} f e h =
       let p = err_from_is_err_and w h in
-      grows_refused (p.1 ∙ ap Err p.2) g.room_is (λ buf q. ap (λ (o : Outcome Added). o >>= f buf) (grows_turned e buf q))
+      grows_refused (p.1 ∙ ap Err p.2) g.room_is (g.adds _ e) (λ buf q. ap (λ (o : Outcome Added). o >>= f buf) (grows_turned e buf q))
 
 -- TRUE was answered: the other sign is false
 pub grows_false : (t : Table) {t' : Table} {room l m : ℕ} {v : Result ℕ Refusal} → Grows (λ buf. put (state 0 t buf) 1 0 0) room v t' → v ≡ Ok l

@@ -74,6 +74,13 @@ no_literal_of {r = r} {l = l} e q =
     let p : Ok l ≡ Err r = sym q ∙ e in
     let z : ◌≡◌ {A = ℕ} 0 1 = cc in omega arith
 
+-- a refusal of the table's is not 61
+no_61 : {g : Result ℕ Refusal} {r x : Refusal} → g ≡ Err r → r.number < 60 → g ≡ Err x → x.number ≡ 61 → ⊥
+no_61 {r = r} {x = x} e h q z =
+    let p : ◌≡◌ {A = Result ℕ Refusal} (Err r) (Err x) = sym e ∙ q in
+    let same : r ≡ x = cc in
+    let few : x.number < 60 = subst (λ (y : Refusal). y.number < 60) same h in omega arith
+
 -- what a body folded is: it is malformed
 pub folds_unread : {body : Outcome (List (List ℕ))} {out : List (List ℕ) → List ℕ → Outcome Added} {room : ℕ} {g : Result ℕ Refusal} {r : Refusal} {t : Table}
     → g ≡ Err r → t.room ≡ room → body ≡ refused 61 0
@@ -81,16 +88,18 @@ pub folds_unread : {body : Outcome (List (List ℕ))} {out : List (List ℕ) →
 folds_unread q k e = record {
   table = λ cs p. refused_no (sym e ∙ p);
   there = λ l p. absurd (no_literal_of q p);
+  unread = λ x p z. e;
   room_is = k;
 }
 
 -- a refusal
 pub folds_refused : {body : Outcome (List (List ℕ))} {out : List (List ℕ) → List ℕ → Outcome Added} {room : ℕ} {g : Result ℕ Refusal} {r : Refusal} {t : Table}
-    → g ≡ Err r → t.room ≡ room
+    → g ≡ Err r → t.room ≡ room → r.number < 60
     → ((cs : List (List ℕ)) → body ≡ answer cs → Over room (λ buf. out cs buf ≡ refused r.number r.place)) → Folds body out room g t
-folds_refused e k f = record {
-  table = λ cs q. grows_refused e k (f cs q);
+folds_refused {r = r} e k h f = record {
+  table = λ cs q. grows_refused e k h (f cs q);
   there = λ l p. absurd (no_literal_of e p);
+  unread = λ x p z. absurd (no_61 e h p z);
   room_is = k;
 }
 
@@ -98,7 +107,7 @@ folds_refused e k f = record {
 folds_as : {body : Outcome (List (List ℕ))} {out out' : List (List ℕ) → List ℕ → Outcome Added} {room : ℕ} {g : Result ℕ Refusal} {t : Table}
     → ((cs : List (List ℕ)) → Over room (λ buf. out' cs buf ≡ out cs buf))
     → Folds body out room g t → Folds body out' room g t
-folds_as e f = record { table = λ cs p. grows_as (e cs) (f.table cs p); there = f.there; room_is = f.room_is }
+folds_as e f = record { table = λ cs p. grows_as (e cs) (f.table cs p); there = f.there; unread = f.unread; room_is = f.room_is }
 
 -- .. and over as much room
 folds_in : {body : Outcome (List (List ℕ))} {out : List (List ℕ) → List ℕ → Outcome Added} {room room' : ℕ} {g : Result ℕ Refusal} {t : Table} → room' ≡ room
@@ -114,7 +123,7 @@ module _ (h : Heading) {room : ℕ} {g : Result ℕ Refusal} {t : Table} (p : Gr
   pub points_refused : {body : Outcome (List (List ℕ))} {r : Refusal} {w : Result ℕ Refusal} → g ≡ Err r → IsErrAnd w (λ x. x ≡ r)
       → Folds body (λ cs buf. build buf (file_with h cs)) room w t
   points_refused e q =
-      folds_refused (handed q) p.room_is (λ cs q buf w. build-is buf h cs ∙ ap (λ (o : Outcome Added). o >>= λ t. goal_of t cs) (grows_turned p e buf w))
+      folds_refused (handed q) p.room_is (p.adds _ e) (λ cs q buf w. build-is buf h cs ∙ ap (λ (o : Outcome Added). o >>= λ t. goal_of t cs) (grows_turned p e buf w))
 
   pub points-folded : {body : Outcome (List (List ℕ))} {l : ℕ} {w : Result ℕ Refusal} {t' : Table} → g ≡ Ok l
       → Folds body (λ cs buf. goal_of (state l t buf) cs) t.room w t' → Folds body (λ cs buf. build buf (file_with h cs)) room w t'
@@ -176,6 +185,7 @@ module _ {vars : ℕ} {text : List ℕ} {at : ℕ} {start : List ℕ → Added} 
               let same : f.done ++ [] ≡ cs = (let p : answer (f.done ++ []) ≡ answer cs = sym fine ∙ q in cc) in
               grows_as (λ buf w. ap (goal_of (start buf)) (sym same) ∙ f.so_far [] buf w) g;
           there = λ s q. (f.done ++ [], fine);
+          unread = λ x q z. absurd (let few : x.number < 60 = g.adds x q in omega arith);
           room_is = g.room_is;
         }
 
@@ -197,7 +207,7 @@ module _ {vars : ℕ} {text : List ℕ} {at : ℕ} {start : List ℕ → Added} 
     pub folding-refused : (n : ℕ) {x : Refusal} {w : Result ℕ Refusal} → g ≡ Err x → IsErrAnd w (λ y. y ≡ x)
         → Folds (filed vars text at n) (λ cs buf. goal_of (start buf) cs) room w t'
     folding-refused n {x} e h =
-        folds_refused (handed h) j.room_is
+        folds_refused (handed h) j.room_is (j.adds _ e)
         (λ cs q buf w.
         let (ds, first, rest) = bound (body_at vars text at) (λ cs. require (eqb (length cs) n) 61 0 >> answer cs) q in
         let same : ◌≡◌ {A = List (List ℕ)} ds cs =

@@ -73,8 +73,10 @@ remaining false t cs = and_all t cs
 abbrev pub filed : ℕ → List ℕ → ℕ → ℕ → Outcome (List (List ℕ))
 filed vars text at n = body_at vars text at >>= λ cs. require (eqb (length cs) n) 61 0 >> answer cs
 
--- a body folded: where its clauses are cs, the table under way is the outcome for cs, and a goal is answered only where there are such
+-- a body folded: where its clauses are cs, the table under way is the outcome for cs; a goal is answered only where there are such, and 61 only
+-- where there are none
 pub record Folds (body : Outcome (List (List ℕ))) (out : List (List ℕ) → List ℕ → Outcome Added) (room : ℕ) (g : Result ℕ Refusal) (t : Table) : Type 0 where
   pub table : (cs : List (List ℕ)) → body ≡ answer cs → Grows (out cs) room g t
   pub there : (l : ℕ) → g ≡ Ok l → (cs : List (List ℕ)) × (body ≡ answer cs)
+  pub unread : (r : Refusal) → g ≡ Err r → r.number ≡ 61 → body ≡ refused 61 0
   pub room_is : t.room ≡ room

@@ -203,8 +203,16 @@ fn settle(
     ensures { Reads text.now buf.old result buf.new }
 {
     match g {
-        Err(r) => Err(first_refusal(text, r)),
+        Err(r) => {
+            // the text's own, and so the first
+            if r.number == 61 {
+                return Err(MALFORMED);
+            }
+            Err(first_refusal(text, r))
+        }
         Ok(literal) => {
+            // known by it: there are no more nodes than there is room for
+            let _ = nodes.count();
             let used = nodes.write(buf);
             Ok(Mark { literal, used })
         }

@@ -1,5 +1,5 @@
 -- Laws of the nodes of numbers, and of one node more. Assumes nothing.
-use mathlib.Core.Path.{◌≡◌, ◌∙◌, ap, sym, refl}
+use mathlib.Core.Path.{◌≡◌, ◌∙◌, ap, sym, refl, subst}
 use mathlib.Core.List.{List, [], ◌∷◌, ◌++◌, map, map-append}
 use mathlib.Core.Bool.{true, false}
 use Prim.Native.Nat.{ℕ, zero, suc, ◌+◌, ◌-◌, ◌*◌, ◌/◌, ◌%◌, ◌≤◌, ◌<◌}
@@ -129,6 +129,7 @@ module _ {keys head next : List ℕ} {room n : ℕ} (u : Under keys head next ro
       said = λ buf e. rw (lt-ltb (index_of (node_in k) rs) (length rs) found-low, found_at);
       room_is = refl;
       low = λ l q. let same : 2 * s ≡ l = cc in omega (arith, inside, u.chains.most);
+      adds = λ r q. absurd (let z : ◌≡◌ {A = ℕ} 0 1 = cc in omega arith);
     }
 
   -- it was not
@@ -150,16 +151,18 @@ module _ {keys head next : List ℕ} {room n : ℕ} (u : Under keys head next ro
     size-now : (buf : List ℕ) → room_of (length buf) ≡ room → length (written (encode rs) buf) ≡ length buf
     size-now buf e = written-length (encode rs) buf (omega (arith, length-encode rs, count, room_fits (length buf) n (omega (arith, u.within))))
 
-    refused-here : (r : Refusal) → ((buf : List ℕ) → room_of (length buf) ≡ room → joins t k buf ≡ refused r.number r.place) → Grows (joins t k) room (Err r) t
-    refused-here r f = record {
+    refused-here : (r : Refusal) → r.number < 60 → ((buf : List ℕ) → room_of (length buf) ≡ room → joins t k buf ≡ refused r.number r.place)
+        → Grows (joins t k) room (Err r) t
+    refused-here r h f = record {
       said = f;
       room_is = refl;
       low = λ l q. absurd (let z : ◌≡◌ {A = ℕ} 0 1 = cc in omega arith);
+      adds = λ x q. let same : r ≡ x = cc in subst (λ (y : Refusal). y.number < 60) same h;
     }
 
     pub grown-51 : n ≡ 2016 → Grows (joins t k) room (Err (record { number = 51; place = n })) t
     unfolding add_node add_new
-    grown-51 h = refused-here (record { number = 51; place = n }) (λ buf e. rw (new, count, le-ltb n 2016 (omega arith)))
+    grown-51 h = refused-here (record { number = 51; place = n }) (omega arith) (λ buf e. rw (new, count, le-ltb n 2016 (omega arith)))
 
     more-length : length (encode (rs ++ node_in k ∷ [])) ≡ 512 * ((n + 1 + 62) / 63)
     more-length = length-encode (rs ++ node_in k ∷ []) ∙ ap (λ (i : ℕ). 512 * ((i + 62) / 63)) (length-append rs (node_in k ∷ []) ∙ ap (◌+ 1) count)
@@ -167,7 +170,7 @@ module _ {keys head next : List ℕ} {room n : ℕ} (u : Under keys head next ro
     pub grown-52 : (n ≡ 2016 → ⊥) → n ≡ room → Grows (joins t k) room (Err (record { number = 52; place = n })) t
     unfolding add_node add_new
     grown-52 d h =
-        refused-here (record { number = 52; place = n })
+        refused-here (record { number = 52; place = n }) (omega arith)
         (λ buf e.
         let over : length buf < 512 * ((n + 1 + 62) / 63) = rw (h, ← e) (room_full (length buf) (omega (arith, u.few))) in
         rw (new, count, lt-ltb n 2016 (omega (arith, u.few)), lt-leb (length (encode (rs ++ node_in k ∷ []))) (length (written (encode rs) buf)) (omega (arith, size-now buf e, more-length))))
@@ -185,6 +188,7 @@ module _ {keys head next : List ℕ} {room n : ℕ} (u : Under keys head next ro
               rw (new, count, lt-ltb n 2016 less, le-leb (length (encode (rs ++ node_in k ∷ []))) (length (written (encode rs) buf)) fits, after, written_over (encode rs) (encode (rs ++ node_in k ∷ [])) buf (omega (arith, more-length, length-encode rs, count)));
           room_is = refl;
           low = λ l p. let same : 2 * n ≡ l = cc in omega arith;
+          adds = λ r p. absurd (let z : ◌≡◌ {A = ℕ} 0 1 = cc in omega arith);
         }
 
     pub under_more : {head' next' : List ℕ} → (n ≡ room → ⊥) → read_record (node_bytes (node_in k)) n ≡ answer (node_in k)
@@ -200,15 +204,16 @@ module _ {keys head next : List ℕ} {room n : ℕ} (u : Under keys head next ro
           chains = g;
         }
 
--- no node yet
-room_low : (len : ℕ) → room_of len ≤ 2016
+-- no buffer has room for more nodes than a table may have
+pub room_low : (len : ℕ) → room_of len ≤ 2016
 unfolding room_of
 room_low len = by_test (ltb len 16384) (λ e. rw e (omega (arith, ltb-true len 16384 e))) (λ e. rw e (omega arith))
 
-pub none-under : (len : ℕ) {room : ℕ} → room ≡ room_of len → Under (replicate 2016 0) (replicate 4096 0) (replicate 2016 0) room 0
-none-under len e = record {
+-- no node yet
+pub none-under : (room : ℕ) → room ≤ 2016 → Under (replicate 2016 0) (replicate 4096 0) (replicate 2016 0) room 0
+none-under room h = record {
   within = omega arith;
-  few = omega (arith, room_low len);
+  few = h;
   valid = λ some. absurd (omega (arith, nodes_count (replicate 2016 0) 0 (length-replicate {A = ℕ} 2016 0) (omega arith)));
   chains = no_chains;
 }

@@ -1,5 +1,5 @@
 -- Nodes of at most two operands as numbers, the table under way that they are, and one node more. Assumes nothing.
-use Rattle.std.specs.Prelude.{◌≡◌, cond, ℕ, ◌+◌, ◌*◌, ◌/◌, ◌%◌, ◌<◌, ◌≤◌, ltb, length, take, drop, Result, Ok}
+use Rattle.std.specs.Prelude.{◌≡◌, cond, ℕ, ◌+◌, ◌*◌, ◌/◌, ◌%◌, ◌<◌, ◌≤◌, ltb, length, take, drop, Result, Ok, Err}
 use mathlib.Core.List.{List, map, flat_map}
 use Rattle.scope.specs.declared.Node.{Node}
 use Rattle.scope.specs.declared.Refusal.{Refusal}
@@ -53,11 +53,12 @@ pub record Sound (t : Table) : Type 0 where
   pub valid : 0 < length (nodes_in t.keys t.count) → Valid (nodes_in t.keys t.count)
   pub size : length t.keys ≡ 2016
 
--- over every buffer with so much room the answer is the outcome given, with the table that is left
+-- over every buffer with so much room the answer is the outcome given, with the table that is left; a refusal is one of add's, not of a text's
 pub record Grows (out : List ℕ → Outcome Added) (room : ℕ) (v : Result ℕ Refusal) (t : Table) : Type 0 where
   pub said : (buf : List ℕ) → room_of (length buf) ≡ room → out buf ≡ outcome_of t buf v
   pub room_is : t.room ≡ room
   pub low : (l : ℕ) → v ≡ Ok l → l < 4032
+  pub adds : (r : Refusal) → v ≡ Err r → r.number < 60
 
 -- the node of k joins a table
 abbrev pub joins : Table → ℕ → List ℕ → Outcome Added

@@ -136,17 +136,25 @@ fn write_blocks(buf: &mut [u8], keys: &[u32], nodes: usize) -> usize
 }
 
 impl Draft {
-    // No node yet, with room for those that a buffer of so many bytes holds.
-    pub fn new(len: usize) -> Draft
-        ensures { (result.count ≡ 0) × (result.room ≡ room_of len) }
+    // No node yet, with room for so many.
+    pub fn with_room(room: usize) -> Draft
+        requires { room ≤ 2016 }
+        ensures { (result.count ≡ 0) × (result.room ≡ room) }
     {
         Draft {
             keys: [0; 2016],
             head: [0; 4096],
             next: [0; 2016],
-            room: room_of(len),
+            room,
             count: 0,
         }
+    }
+
+    // No node yet, with room for those that a buffer of so many bytes holds.
+    pub fn new(len: usize) -> Draft
+        ensures { (result.count ≡ 0) × (result.room ≡ room_of len) }
+    {
+        Draft::with_room(room_of(len))
     }
 
     // How many nodes there are.
@@ -190,9 +198,9 @@ impl Draft {
         Ok(literal)
     }
 
-    // Writes the table to the start of a buffer that has room for as many nodes: its blocks, one after another.
+    // Writes the table to the start of a buffer that has room for its nodes: its blocks, one after another.
     pub fn write(&self, buf: &mut [u8]) -> usize
-        requires { self.now.room ≤ room_of (length buf.old) }
+        requires { self.now.count ≤ room_of (length buf.old) }
         ensures { Writes self.now buf.old buf.new result }
     {
         write_blocks(buf, &self.keys, self.count)

@@ -7,12 +7,11 @@ use lib.ListN.{length, get_or, set, drop, length-append, length-set}
 use lib.Seq.{drop-append-add}
 use Rattle.scope.specs.declared.Node.{Node}
 use Rattle.calculus.specs.Expansion.{neg, expand}
-use Rattle.calculus.specs.Model.{Goals, Fresh}
+use Rattle.calculus.specs.Model.{Table, Below, Fresh}
 use Rattle.calculus.proofs.Literals.{neg-fresh}
 use Rattle.calculus.proofs.Count.{at_most}
 use Rattle.calculus.proofs.Fresh.{split-fresh}
-use Rattle.index.specs.Index.{most_nodes, index_node}
-use Rattle.index.specs.Indexed.{Indexed}
+use Rattle.index.specs.Index.{most_nodes}
 use Rattle.trail.specs.Trail.{lit_at, trail}
 use Rattle.trail.proofs.Trails.{trail-length}
 use Rattle.state.specs.Work.{tail, g_of}
@@ -44,11 +43,8 @@ pub made_closed : {t : ℕ → Node} {n : ℕ} {goals w m o w' m' o' : List ℕ}
 made_closed {t} {goals = goals} {w} {o = o} s e =
     rw (none_open (expand t) goals (g_of w) (sym s.splits ∙ stack_none o e)) (record { number = refl; at = tt })
 
-module _ {x : List ℕ} {n : ℕ} {goals w m o : List ℕ} (I : Indexed x n) (G : Goals n goals) (s : Stands (index_node x) n goals w m o)
+module _ {t : ℕ → Node} {n : ℕ} {goals w m o : List ℕ} (s : Stands t n goals w m o) (T : Table n t) (B : Below n goals) (few : n ≤ most_nodes)
     (some : get_or o 0 0 ≡ 0 → ⊥) where
-  abbrev t : ℕ → Node
-  t = index_node x
-
   -- how many literals were held at the split, and the stack without it
   abbrev place : ℕ
   place = get_or o (get_or o 0 0) 0
@@ -63,13 +59,13 @@ module _ {x : List ℕ} {n : ℕ} {goals w m o : List ℕ} (I : Indexed x n) (G 
   sizes = omega (arith, ap length top.whole, length-append top.above (top.literal ∷ top.under), top.held)
 
   pub stack_low : get_or o 0 0 ≤ most_nodes
-  stack_low = omega (arith, I.few, few_open s, at_most n (g_of w) (good s))
+  stack_low = omega (arith, few_open s, at_most n (g_of w) (good s))
 
   pub place_less : place < length (g_of w)
   place_less = omega (arith, sizes)
 
   pub place_low : place < most_nodes
-  place_low = omega (arith, I.few, sizes, at_most n (g_of w) (good s))
+  place_low = omega (arith, sizes, at_most n (g_of w) (good s))
 
   under-is : drop (length (g_of w) - place) (g_of w) ≡ top.under
   under-is =
@@ -90,10 +86,10 @@ module _ {x : List ℕ} {n : ℕ} {goals w m o : List ℕ} (I : Indexed x n) (G 
     split-literal : Fresh n (g_of w₁) l
     split-literal =
         rw (left, literal_is e)
-        (split-fresh n t goals I.table G.below top.under (rw left at h.ready.trail.good) top.literal top.splits)
+        (split-fresh n t goals T B top.under (rw left at h.ready.trail.good) top.literal top.splits)
 
     pub literal_low : l < 2 * most_nodes
-    literal_low = omega (arith, I.few, split-literal.0)
+    literal_low = omega (arith, split-literal.0)
 
     module _ {k : ℕ} (z : k ≡ neg l) where
       pub right-fresh : Fresh n (g_of w₁) k

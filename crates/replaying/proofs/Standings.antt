@@ -16,8 +16,7 @@ use Rattle.calculus.specs.Model.{Table, Below, Goals, Fresh, Good}
 use Rattle.calculus.specs.declared.Move.{Move}
 use Rattle.calculus.specs.declared.Move.TheVariants.{Conflict, Unit as Single, Done, Split}
 use Rattle.calculus.proofs.Count.{room}
-use Rattle.index.specs.Index.{most_nodes, index_node}
-use Rattle.index.specs.Indexed.{Indexed}
+use Rattle.index.specs.Index.{most_nodes}
 use Rattle.trail.specs.Trail.{trail}
 use Rattle.trail.proofs.Trails.{trail-length}
 use Rattle.state.specs.Work.{tail, g_of}
@@ -213,21 +212,18 @@ module _ (e : ℕ → List (List ℕ)) (goals G : List ℕ) where
   taken_all : replays e goals G ≡ true → taken_up e goals G ≡ G
   taken_all z = rw z
 
-module _ {x : List ℕ} {n : ℕ} {goals w c : List ℕ} (I : Indexed x n) (B : Goals n goals) (k : Copied w c) where
-  abbrev t : ℕ → Node
-  t = index_node x
-
+module _ {t : ℕ → Node} {n : ℕ} {goals w c : List ℕ} (T : Table n t) (B : Goals n goals) (few : n ≤ most_nodes) (k : Copied w c) where
   -- more literals than nodes do not replay
   pub taken_long : n < length (g_of w) → taken_up (expand t) goals (g_of w) ≡ []
   taken_long h = on (replays (expand t) goals (g_of w)) refl
     where
       on : (b : Bool) → replays (expand t) goals (g_of w) ≡ b → taken_up (expand t) goals (g_of w) ≡ []
-      on true z = absurd (omega (arith, replays_short n t goals I.table B.below (g_of w) z))
+      on true z = absurd (omega (arith, replays_short n t goals T B.below (g_of w) z))
       on false z = taken_none (expand t) goals (g_of w) z
 
   module _ (h : length (g_of w) ≤ n) where
     few-held : tail w 0 ≤ most_nodes
-    few-held = omega (arith, I.few, trail-length (tail w 0) (tail w))
+    few-held = omega (arith, trail-length (tail w 0) (tail w))
 
     pub few-copied : get_or c 0 0 ≤ most_nodes
     few-copied = omega (arith, copied_count k, few-held)

@@ -27,6 +27,10 @@ module _ (d : List ℕ) (at : ℕ) where
   past_count h = simp (le-ltb at (records_in derivations d) h)
 
   module _ (h : at < records_in derivations d) where
+    pub ill-formed : {number : ℕ} → step_row d at ≡ refused number at → counted_step d at ≡ refused number at
+    unfolding counted_step
+    ill-formed e = rw (lt-ltb at (records_in derivations d) h, e)
+
     pub well-formed : step_row d at ≡ fine → counted_step d at ≡ answer (one (step_at d at))
     unfolding counted_step
     well-formed e = rw (lt-ltb at (records_in derivations d) h, e)

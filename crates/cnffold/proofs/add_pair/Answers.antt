@@ -29,14 +29,14 @@ reads c = let k = c.requires in
 pub returns-then-place-o : goal.returns-then-place-o
 returns-then-place-o c = let k = c.requires in
     let t = c.count-place.ensures in
-    grows_refused refl refl
+    grows_refused refl refl (omega arith)
     (λ buf q. put_refused t.1 buf q c.args.kind c.args.a c.args.b
     (rw (← t.0) (pair-15 c.args.kind k.0 k.1 c.args.a c.args.b c.count-place.result c.in_order-o.ensures c.if-place-o.true)))
 
 pub returns-then-o : goal.returns-then-o
 returns-then-o c = let k = c.requires in
     let t = c.count-place.ensures in
-    grows_refused refl refl
+    grows_refused refl refl (omega arith)
     (λ buf q. put_refused t.1 buf q c.args.kind c.args.a c.args.b
     (rw (← t.0) (pair-16 c.args.kind k.0 k.1 c.args.a c.args.b c.count-place.result c.in_order-o.ensures c.if-place-o.false c.if-o.true)))
 

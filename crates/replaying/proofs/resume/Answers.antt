@@ -8,7 +8,7 @@ use Rattle.replaying.proofs.resume.Goals as goal
 pub returns-then-n-held : goal.returns-then-n-held
 returns-then-n-held c = record {
   stands = c.begin.ensures.stands;
-  work_after = c.begin.ensures.work_after ∙ sym (taken_long c.requires.indexed c.requires.goals
+  work_after = c.begin.ensures.work_after ∙ sym (taken_long c.requires.indexed.table c.requires.goals c.requires.indexed.few
       (copied c.requires.area_in_bounds.0 c.copy_from_slice.ensures.after) (omega (arith, c.if-n-held.true, c.count-held.ensures)));
 }
 
@@ -19,7 +19,7 @@ replay-requires c = let k = copied c.requires.area_in_bounds.0 c.copy_from_slice
       goals = c.requires.goals;
       stands = c.begin.ensures.stands;
       work_value = c.begin.ensures.work_after;
-      literals_len = (k.size, few-copied c.requires.indexed c.requires.goals k (omega (arith, c.if-n-held.false, c.count-held.ensures)));
+      literals_len = (k.size, few-copied c.requires.indexed.table c.requires.goals c.requires.indexed.few k (omega (arith, c.if-n-held.false, c.count-held.ensures)));
     }
 
 pub begin-requires-then-not-replay : goal.begin-requires-then-not-replay
@@ -38,7 +38,7 @@ pub returns-then-not-replay : goal.returns-then-not-replay
 returns-then-not-replay c = record {
   stands = c.begin-then-not-replay.ensures.stands;
   work_after = c.begin-then-not-replay.ensures.work_after ∙ sym
-      (taken_back c.requires.indexed c.requires.goals (copied c.requires.area_in_bounds.0 c.copy_from_slice.ensures.after)
+      (taken_back c.requires.indexed.table c.requires.goals c.requires.indexed.few (copied c.requires.area_in_bounds.0 c.copy_from_slice.ensures.after)
       (omega (arith, c.if-n-held.false, c.count-held.ensures)) c.replay.ensures c.if-not-replay.true);
 }
 
@@ -47,6 +47,6 @@ returns-else-not-replay c = let a = c.replay.ensures in
     let e = c.if-not-replay.false in
     record {
       stands = a.stands e;
-      work_after = taken-up c.requires.indexed c.requires.goals (copied c.requires.area_in_bounds.0 c.copy_from_slice.ensures.after)
+      work_after = taken-up c.requires.indexed.table c.requires.goals c.requires.indexed.few (copied c.requires.area_in_bounds.0 c.copy_from_slice.ensures.after)
           (omega (arith, c.if-n-held.false, c.count-held.ensures)) a e;
     }

@@ -10,10 +10,10 @@ returns-then-k-eq0 c = record {
 }
 
 pub bounds-opens-k : goal.bounds-opens-k
-bounds-opens-k c = omega (arith, stack_low c.requires.indexed c.requires.goals c.requires.stands c.if-k-eq0.false, c.requires.stands.size)
+bounds-opens-k c = omega (arith, stack_low c.requires.stands c.requires.indexed.table c.requires.goals.below c.requires.indexed.few c.if-k-eq0.false, c.requires.stands.size)
 
 pub literal-l-requires : goal.literal-l-requires
-literal-l-requires c = (c.requires.stands.holds.ready.size, place_low c.requires.indexed c.requires.goals c.requires.stands c.if-k-eq0.false)
+literal-l-requires c = (c.requires.stands.holds.ready.size, place_low c.requires.stands c.requires.indexed.table c.requires.goals.below c.requires.indexed.few c.if-k-eq0.false)
 
 pub undo_to-requires : goal.undo_to-requires
 undo_to-requires c = let z = c.if-k-eq0.false in
@@ -21,12 +21,12 @@ undo_to-requires c = let z = c.if-k-eq0.false in
       indexed = c.requires.indexed;
       goals = c.requires.goals;
       holds = c.requires.stands.holds;
-      held_in_bounds = place_less c.requires.indexed c.requires.goals c.requires.stands z;
-      splits = place_splits c.requires.indexed c.requires.goals c.requires.stands z;
+      held_in_bounds = place_less c.requires.stands c.requires.indexed.table c.requires.goals.below c.requires.indexed.few z;
+      splits = place_splits c.requires.stands c.requires.indexed.table c.requires.goals.below c.requires.indexed.few z;
     }
 
 pub negated-requires : goal.negated-requires
-negated-requires c = literal_low c.requires.indexed c.requires.goals c.requires.stands c.if-k-eq0.false c.undo_to.ensures.holds_2
+negated-requires c = literal_low c.requires.stands c.requires.indexed.table c.requires.goals.below c.requires.indexed.few c.if-k-eq0.false c.undo_to.ensures.holds_2
     c.undo_to.ensures.work_after c.literal-l.ensures
 
 pub assume-requires : goal.assume-requires
@@ -34,13 +34,13 @@ assume-requires c = record {
   indexed = c.requires.indexed;
   goals = c.requires.goals;
   holds = c.undo_to.ensures.holds_2;
-  fresh = right-fresh c.requires.indexed c.requires.goals c.requires.stands c.if-k-eq0.false c.undo_to.ensures.holds_2 c.undo_to.ensures.work_after
+  fresh = right-fresh c.requires.stands c.requires.indexed.table c.requires.goals.below c.requires.indexed.few c.if-k-eq0.false c.undo_to.ensures.holds_2 c.undo_to.ensures.work_after
       c.literal-l.ensures c.negated.ensures;
 }
 
 pub returns : goal.returns
 returns c = record {
-  made = made-right c.requires.indexed c.requires.goals c.requires.stands c.if-k-eq0.false c.undo_to.ensures.holds_2 c.undo_to.ensures.work_after
+  made = made-right c.requires.stands c.requires.indexed.table c.requires.goals.below c.requires.indexed.few c.if-k-eq0.false c.undo_to.ensures.holds_2 c.undo_to.ensures.work_after
       c.literal-l.ensures c.negated.ensures c.assume.ensures.holds_2 c.assume.ensures.work_after;
   ready = c.assume.ensures.holds_2.ready;
 }
