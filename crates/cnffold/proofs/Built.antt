@@ -18,7 +18,7 @@ use Rattle.codec.proofs.Tables.{length-encode}
 use Rattle.codec.proofs.Used.{encode-none, encode_used, written_used, written-length}
 use Rattle.adding.proofs.Rows.{record-rows, add_is}
 use Rattle.growing.specs.Growing.{node_in, nodes_in, Table, state, room_of, outcome_of, Sound, Grows, joins}
-use Rattle.growing.proofs.Nodes.{nodes_count, room_fits}
+use Rattle.growing.proofs.Nodes.{one_of_adds, nodes_count, room_fits}
 use Rattle.cnf.specs.Fold.{node, put, at, opposite, no_literal, empty}
 use Rattle.cnffold.proofs.Folds.{false-is}
 
@@ -103,10 +103,7 @@ grows_refused {r = r} {t = t} e k h f = record {
   said = λ buf q. f buf q ∙ sym (ap (outcome_of t buf) e);
   room_is = k;
   low = λ l q. absurd (let p : Ok l ≡ Err r = sym q ∙ e in let z : ◌≡◌ {A = ℕ} 0 1 = cc in omega arith);
-  adds = λ x q.
-      let p : ◌≡◌ {A = Result ℕ Refusal} (Err r) (Err x) = sym e ∙ q in
-      let same : r ≡ x = cc in
-      subst (λ (y : Refusal). y.number < 60) same h;
+  adds = λ x q. one_of_adds e h q;
 }
 
 module _ {out : List ℕ → Outcome Added} {room : ℕ} {v : Result ℕ Refusal} {t : Table} (g : Grows out room v t) where

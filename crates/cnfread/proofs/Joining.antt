@@ -16,6 +16,7 @@ use Rattle.scope.specs.Calls.{Added}
 use Rattle.scope.proofs.Tests.{bound, refused_no}
 use Rattle.codec.proofs.Rows.{row}
 use Rattle.growing.specs.Growing.{Table, state, Grows}
+use Rattle.growing.proofs.Nodes.{one_of_adds}
 use Rattle.cnf.specs.Fold.{put, yes_literal, no_literal, distinct_from, both_signs, or_clause, clause, and_all, goal_of, points, empty, build}
 use Rattle.cnftext.specs.declared.Heading.{Heading}
 use Rattle.cnffold.proofs.Built.{Over, grows_as, grows_in, grows_refused, grows_next, grows_turned}
@@ -74,13 +75,6 @@ no_literal_of {r = r} {l = l} e q =
     let p : Ok l ≡ Err r = sym q ∙ e in
     let z : ◌≡◌ {A = ℕ} 0 1 = cc in omega arith
 
--- a refusal of the table's is not 61
-no_61 : {g : Result ℕ Refusal} {r x : Refusal} → g ≡ Err r → r.number < 60 → g ≡ Err x → x.number ≡ 61 → ⊥
-no_61 {r = r} {x = x} e h q z =
-    let p : ◌≡◌ {A = Result ℕ Refusal} (Err r) (Err x) = sym e ∙ q in
-    let same : r ≡ x = cc in
-    let few : x.number < 60 = subst (λ (y : Refusal). y.number < 60) same h in omega arith
-
 -- what a body folded is: it is malformed
 pub folds_unread : {body : Outcome (List (List ℕ))} {out : List (List ℕ) → List ℕ → Outcome Added} {room : ℕ} {g : Result ℕ Refusal} {r : Refusal} {t : Table}
     → g ≡ Err r → t.room ≡ room → body ≡ refused 61 0
@@ -99,7 +93,7 @@ pub folds_refused : {body : Outcome (List (List ℕ))} {out : List (List ℕ) �
 folds_refused {r = r} e k h f = record {
   table = λ cs q. grows_refused e k h (f cs q);
   there = λ l p. absurd (no_literal_of e p);
-  unread = λ x p z. absurd (no_61 e h p z);
+  unread = λ x p z. absurd (omega (arith, z, one_of_adds e h p));
   room_is = k;
 }
 

@@ -83,7 +83,8 @@ fn word(w: &[u8], vars: usize) -> Word
     literal(numeral(w), false, vars)
 }
 
-// Where the separators from a place on end. A while: as a for it takes two to five times the time on a long run of blanks and line feeds.
+// Where the separators from a place on end. A while: as a for it took two to five times the time on a megabyte of blanks and line feeds in one
+// repeated pattern.
 fn skip(text: &[u8], at: usize) -> usize
     requires { at ≤ length text.now }
     ensures { Skipped text.now at result }

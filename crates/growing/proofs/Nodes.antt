@@ -19,10 +19,17 @@ use Rattle.codec.proofs.Records.{same_is, same_self}
 use Rattle.codec.proofs.Nodes.{not_found, index_none, index_at, valid_more}
 use Rattle.codec.proofs.Tables.{length-encode}
 use Rattle.codec.proofs.Used.{written-length, written_over}
-use Rattle.std.specs.Prelude.{Ok, Err}
+use Rattle.std.specs.Prelude.{Result, Ok, Err}
 use Rattle.growing.specs.Chains.{Chains, Finds}
 use Rattle.growing.proofs.Chains.{no_chains}
 use Rattle.growing.specs.Growing.{node_in, nodes_in, room_of, Table, Under, Sound, Grows, joins}
+
+-- what is refused by one of add's numbers is refused by no other
+pub one_of_adds : {v : Result ℕ Refusal} {r x : Refusal} → v ≡ Err r → r.number < 60 → v ≡ Err x → x.number < 60
+one_of_adds {r = r} {x = x} e h q =
+    let p : ◌≡◌ {A = Result ℕ Refusal} (Err r) (Err x) = sym e ∙ q in
+    let same : r ≡ x = cc in
+    subst (λ (y : Refusal). y.number < 60) same h
 
 -- different numbers are of different nodes
 pub key_one : (x y : ℕ) → node_in x ≡ node_in y → x ≡ y
@@ -157,7 +164,7 @@ module _ {keys head next : List ℕ} {room n : ℕ} (u : Under keys head next ro
       said = f;
       room_is = refl;
       low = λ l q. absurd (let z : ◌≡◌ {A = ℕ} 0 1 = cc in omega arith);
-      adds = λ x q. let same : r ≡ x = cc in subst (λ (y : Refusal). y.number < 60) same h;
+      adds = λ x q. one_of_adds refl h q;
     }
 
     pub grown-51 : n ≡ 2016 → Grows (joins t k) room (Err (record { number = 51; place = n })) t
