@@ -17,7 +17,7 @@ use Rattle.codec.proofs.Records.{node_of_bytes, reads}
 use Rattle.codec.proofs.Tables.{length-encode}
 use Rattle.codec.proofs.Used.{encode-none, encode_used, written_used, written-length}
 use Rattle.adding.proofs.Rows.{record-rows, add_is}
-use Rattle.growing.specs.Growing.{node_in, nodes_in, Table, state, room_of, outcome_of, Sound, Grows, joins}
+use Rattle.growing.specs.Growing.{node_in, nodes_in, Table, state, room_of, outcome_of, Sound, Grows, FromAdd, joins}
 use Rattle.growing.proofs.Nodes.{one_of_adds, nodes_count, room_fits}
 use Rattle.cnf.specs.Fold.{node, put, at, opposite, no_literal, empty}
 use Rattle.cnffold.proofs.Folds.{false-is}
@@ -71,7 +71,7 @@ key_reads k x y n p e = rw p (own_reads x y n e)
 -- the same outcome, said otherwise
 pub grows_as : {out out' : List ℕ → Outcome Added} {room : ℕ} {v : Result ℕ Refusal} {t : Table} → Over room (λ buf. out' buf ≡ out buf) → Grows out room v t
     → Grows out' room v t
-grows_as e g = record { said = λ buf q. e buf q ∙ g.said buf q; room_is = g.room_is; low = g.low; adds = g.adds }
+grows_as e g = record { said = λ buf q. e buf q ∙ g.said buf q; room_is = g.room_is; low = g.low }
 
 -- .. and over as much room
 pub grows_in : {out : List ℕ → Outcome Added} {room room' : ℕ} {v : Result ℕ Refusal} {t : Table} → room' ≡ room → Grows out room' v t → Grows out room v t
@@ -93,18 +93,22 @@ grows_answer {l = l} h r e = record {
   said = e;
   room_is = r;
   low = λ m q. let same : l ≡ m = cc in omega arith;
-  adds = λ x q. absurd (let z : ◌≡◌ {A = ℕ} 0 1 = cc in omega arith);
 }
 
 -- a refusal: nothing is kept
 pub grows_refused : {out : List ℕ → Outcome Added} {room : ℕ} {r : Refusal} {v : Result ℕ Refusal} {t : Table} → v ≡ Err r → t.room ≡ room
-    → r.number < 60 → Over room (λ buf. out buf ≡ refused r.number r.place) → Grows out room v t
-grows_refused {r = r} {t = t} e k h f = record {
+    → Over room (λ buf. out buf ≡ refused r.number r.place) → Grows out room v t
+grows_refused {r = r} {t = t} e k f = record {
   said = λ buf q. f buf q ∙ sym (ap (outcome_of t buf) e);
   room_is = k;
   low = λ l q. absurd (let p : Ok l ≡ Err r = sym q ∙ e in let z : ◌≡◌ {A = ℕ} 0 1 = cc in omega arith);
-  adds = λ x q. one_of_adds e h q;
 }
+
+-- .. and by one of add's numbers, where it is handed on
+pub stops_adds : {v w : Result ℕ Refusal} {r : Refusal} → FromAdd v → v ≡ Err r → IsErrAnd w (λ x. x ≡ r) → FromAdd w
+stops_adds {w = w} a e h x =
+    let p = err_from_is_err_and w h in
+    one_of_adds (p.1 ∙ ap Err p.2) (a _ e)
 
 module _ {out : List ℕ → Outcome Added} {room : ℕ} {v : Result ℕ Refusal} {t : Table} (g : Grows out room v t) where
   -- it was answered: the table afterwards
@@ -124,7 +128,7 @@ module _ {out : List ℕ → Outcome Added} {room : ℕ} {v : Result ℕ Refusal
       → Grows (λ buf. out buf >>= f buf) room w t
   grows_stops {w = w} f e h =
       let p = err_from_is_err_and w h in
-      grows_refused (p.1 ∙ ap Err p.2) g.room_is (g.adds _ e) (λ buf q. ap (λ (o : Outcome Added). o >>= f buf) (grows_turned e buf q))
+      grows_refused (p.1 ∙ ap Err p.2) g.room_is (λ buf q. ap (λ (o : Outcome Added). o >>= f buf) (grows_turned e buf q))
 
 -- TRUE was answered: the other sign is false
 pub grows_false : (t : Table) {t' : Table} {room l m : ℕ} {v : Result ℕ Refusal} → Grows (λ buf. put (state 0 t buf) 1 0 0) room v t' → v ≡ Ok l

@@ -2,7 +2,7 @@
 #![tactic(auto)]
 
 ghost use Rattle.std.specs.Prelude.{◌≡◌, ◌<◌, ◌≤◌, take};
-ghost use Rattle.growing.specs.Growing.{state, Grows};
+ghost use Rattle.growing.specs.Growing.{state, Grows, FromAdd};
 ghost use Rattle.cnf.specs.Fold.{opposite, put, points, no_literal, or_clause, and_join, empty};
 ghost use Rattle.cnffold.specs.Built.{Small, InOrder};
 
@@ -26,7 +26,8 @@ pub fn opposite(l: usize) -> usize
 
 // TRUE.
 pub fn add_true(nodes: &mut Draft) -> Result<usize, Refusal>
-    ensures { Grows (λ buf. put (state 0 nodes.old buf) 1 0 0) nodes.old.room result nodes.new }
+    ensures grows { Grows (λ buf. put (state 0 nodes.old buf) 1 0 0) nodes.old.room result nodes.new }
+    ensures adds { FromAdd result }
 {
     nodes.grow(16777216)
 }
@@ -34,7 +35,8 @@ pub fn add_true(nodes: &mut Draft) -> Result<usize, Refusal>
 // A point.
 fn add_point(nodes: &mut Draft, p: usize) -> Result<usize, Refusal>
     requires { p < 1024 }
-    ensures { Grows (λ buf. put (state 0 nodes.old buf) 2 p 0) nodes.old.room result nodes.new }
+    ensures grows { Grows (λ buf. put (state 0 nodes.old buf) 2 p 0) nodes.old.room result nodes.new }
+    ensures adds { FromAdd result }
 {
     nodes.grow(33554432 + (p as u32))
 }
@@ -42,7 +44,8 @@ fn add_point(nodes: &mut Draft, p: usize) -> Result<usize, Refusal>
 // The points below `vars`, where there are no nodes yet.
 pub fn add_points(nodes: &mut Draft, vars: usize) -> Result<usize, Refusal>
     requires { (nodes.old.count ≡ 0) × (vars ≤ 1024) }
-    ensures { Grows (λ buf. points (empty buf) 0 vars) nodes.old.room result nodes.new }
+    ensures grows { Grows (λ buf. points (empty buf) 0 vars) nodes.old.room result nodes.new }
+    ensures adds { FromAdd result }
 {
     let mut literal = 0;
     for p in 0..vars {
@@ -53,7 +56,8 @@ pub fn add_points(nodes: &mut Draft, vars: usize) -> Result<usize, Refusal>
 
 // False: TRUE's negation.
 fn add_false(nodes: &mut Draft) -> Result<usize, Refusal>
-    ensures { Grows (λ buf. no_literal (state 0 nodes.old buf)) nodes.old.room result nodes.new }
+    ensures grows { Grows (λ buf. no_literal (state 0 nodes.old buf)) nodes.old.room result nodes.new }
+    ensures adds { FromAdd result }
 {
     let l = add_true(nodes)?;
     Ok(opposite(l))
@@ -72,7 +76,8 @@ fn in_order(a: usize, b: usize) -> Pair
 // AND or OR of two literals.
 fn add_pair(nodes: &mut Draft, kind: u32, a: usize, b: usize) -> Result<usize, Refusal>
     requires { (2 < kind) × (kind < 5) × (a < 4032) × (b < 4032) }
-    ensures { Grows (λ buf. put (state 0 nodes.old buf) kind a b) nodes.old.room result nodes.new }
+    ensures grows { Grows (λ buf. put (state 0 nodes.old buf) kind a b) nodes.old.room result nodes.new }
+    ensures adds { FromAdd result }
 {
     let o = in_order(a, b);
     let place = nodes.count();
@@ -88,7 +93,8 @@ fn add_pair(nodes: &mut Draft, kind: u32, a: usize, b: usize) -> Result<usize, R
 // The first `count` literals, folded left by OR; none are false.
 pub fn or_clause(nodes: &mut Draft, held: &[u16], count: usize) -> Result<usize, Refusal>
     requires { Small held.now count }
-    ensures { Grows (λ buf. or_clause (state 0 nodes.old buf) (take count held.now)) nodes.old.room result nodes.new }
+    ensures grows { Grows (λ buf. or_clause (state 0 nodes.old buf) (take count held.now)) nodes.old.room result nodes.new }
+    ensures adds { FromAdd result }
 {
     if count == 0 {
         return add_false(nodes);
@@ -103,7 +109,8 @@ pub fn or_clause(nodes: &mut Draft, held: &[u16], count: usize) -> Result<usize,
 // AND of the goal so far and a clause's literal.
 pub fn and_join(nodes: &mut Draft, goal: usize, literal: usize) -> Result<usize, Refusal>
     requires { (goal < 4032) × (literal < 4032) }
-    ensures { Grows (λ buf. and_join goal (state literal nodes.old buf)) nodes.old.room result nodes.new }
+    ensures grows { Grows (λ buf. and_join goal (state literal nodes.old buf)) nodes.old.room result nodes.new }
+    ensures adds { FromAdd result }
 {
     if goal == literal {
         return Ok(literal);

@@ -15,13 +15,12 @@ use Rattle.scope.specs.Outcome.{Outcome, answer, refused, require, ◌>>◌, ◌
 use Rattle.scope.specs.Calls.{Added}
 use Rattle.scope.proofs.Tests.{bound, refused_no}
 use Rattle.codec.proofs.Rows.{row}
-use Rattle.growing.specs.Growing.{Table, state, Grows}
-use Rattle.growing.proofs.Nodes.{one_of_adds}
+use Rattle.growing.specs.Growing.{Table, state, Grows, FromAdd}
 use Rattle.cnf.specs.Fold.{put, yes_literal, no_literal, distinct_from, both_signs, or_clause, clause, and_all, goal_of, points, empty, build}
 use Rattle.cnftext.specs.declared.Heading.{Heading}
 use Rattle.cnffold.proofs.Built.{Over, grows_as, grows_in, grows_refused, grows_next, grows_turned}
 use Rattle.cnfread.specs.declared.Gathered.{Gathered}
-use Rattle.cnfread.specs.Clauses.{body_at, ReadsClause, folded, joined, joined_clause, remaining, filed, Folds}
+use Rattle.cnfread.specs.Clauses.{body_at, ReadsClause, folded, joined, joined_clause, remaining, filed, Folds, Refuses}
 use Rattle.cnfread.specs.Reads.{file_with}
 
 bind_assoc : {A B C : Type 0} (o : Outcome A) (f : A → Outcome B) (g : B → Outcome C) → (o >>= f >>= g) ≡ (o >>= λ a. f a >>= g)
@@ -82,26 +81,32 @@ pub folds_unread : {body : Outcome (List (List ℕ))} {out : List (List ℕ) →
 folds_unread q k e = record {
   table = λ cs p. refused_no (sym e ∙ p);
   there = λ l p. absurd (no_literal_of q p);
-  unread = λ x p z. e;
   room_is = k;
 }
 
 -- a refusal
 pub folds_refused : {body : Outcome (List (List ℕ))} {out : List (List ℕ) → List ℕ → Outcome Added} {room : ℕ} {g : Result ℕ Refusal} {r : Refusal} {t : Table}
-    → g ≡ Err r → t.room ≡ room → r.number < 60
+    → g ≡ Err r → t.room ≡ room
     → ((cs : List (List ℕ)) → body ≡ answer cs → Over room (λ buf. out cs buf ≡ refused r.number r.place)) → Folds body out room g t
-folds_refused {r = r} e k h f = record {
-  table = λ cs q. grows_refused e k h (f cs q);
+folds_refused e k f = record {
+  table = λ cs q. grows_refused e k (f cs q);
   there = λ l p. absurd (no_literal_of e p);
-  unread = λ x p z. absurd (omega (arith, z, one_of_adds e h p));
   room_is = k;
 }
+
+-- what refuses it: anything, where it is malformed
+pub unread_refuses : {body : Outcome (List (List ℕ))} {g : Result ℕ Refusal} → body ≡ refused 61 0 → Refuses body g
+unread_refuses e = record { adds = λ cs p. refused_no (sym e ∙ p); unread = λ x p z. e }
+
+-- .. and one of add's wherever
+pub adds_refuses : {body : Outcome (List (List ℕ))} {g : Result ℕ Refusal} → FromAdd g → Refuses body g
+adds_refuses a = record { adds = λ cs p. a; unread = λ x p z. absurd (omega (arith, z, a x p)) }
 
 -- the same outcomes, said otherwise
 folds_as : {body : Outcome (List (List ℕ))} {out out' : List (List ℕ) → List ℕ → Outcome Added} {room : ℕ} {g : Result ℕ Refusal} {t : Table}
     → ((cs : List (List ℕ)) → Over room (λ buf. out' cs buf ≡ out cs buf))
     → Folds body out room g t → Folds body out' room g t
-folds_as e f = record { table = λ cs p. grows_as (e cs) (f.table cs p); there = f.there; unread = f.unread; room_is = f.room_is }
+folds_as e f = record { table = λ cs p. grows_as (e cs) (f.table cs p); there = f.there; room_is = f.room_is }
 
 -- .. and over as much room
 folds_in : {body : Outcome (List (List ℕ))} {out : List (List ℕ) → List ℕ → Outcome Added} {room room' : ℕ} {g : Result ℕ Refusal} {t : Table} → room' ≡ room
@@ -117,7 +122,7 @@ module _ (h : Heading) {room : ℕ} {g : Result ℕ Refusal} {t : Table} (p : Gr
   pub points_refused : {body : Outcome (List (List ℕ))} {r : Refusal} {w : Result ℕ Refusal} → g ≡ Err r → IsErrAnd w (λ x. x ≡ r)
       → Folds body (λ cs buf. build buf (file_with h cs)) room w t
   points_refused e q =
-      folds_refused (handed q) p.room_is (p.adds _ e) (λ cs q buf w. build-is buf h cs ∙ ap (λ (o : Outcome Added). o >>= λ t. goal_of t cs) (grows_turned p e buf w))
+      folds_refused (handed q) p.room_is (λ cs q buf w. build-is buf h cs ∙ ap (λ (o : Outcome Added). o >>= λ t. goal_of t cs) (grows_turned p e buf w))
 
   pub points-folded : {body : Outcome (List (List ℕ))} {l : ℕ} {w : Result ℕ Refusal} {t' : Table} → g ≡ Ok l
       → Folds body (λ cs buf. goal_of (state l t buf) cs) t.room w t' → Folds body (λ cs buf. build buf (file_with h cs)) room w t'
@@ -179,7 +184,6 @@ module _ {vars : ℕ} {text : List ℕ} {at : ℕ} {start : List ℕ → Added} 
               let same : f.done ++ [] ≡ cs = (let p : answer (f.done ++ []) ≡ answer cs = sym fine ∙ q in cc) in
               grows_as (λ buf w. ap (goal_of (start buf)) (sym same) ∙ f.so_far [] buf w) g;
           there = λ s q. (f.done ++ [], fine);
-          unread = λ x q z. absurd (let few : x.number < 60 = g.adds x q in omega arith);
           room_is = g.room_is;
         }
 
@@ -201,7 +205,7 @@ module _ {vars : ℕ} {text : List ℕ} {at : ℕ} {start : List ℕ → Added} 
     pub folding-refused : (n : ℕ) {x : Refusal} {w : Result ℕ Refusal} → g ≡ Err x → IsErrAnd w (λ y. y ≡ x)
         → Folds (filed vars text at n) (λ cs buf. goal_of (start buf) cs) room w t'
     folding-refused n {x} e h =
-        folds_refused (handed h) j.room_is (j.adds _ e)
+        folds_refused (handed h) j.room_is
         (λ cs q buf w.
         let (ds, first, rest) = bound (body_at vars text at) (λ cs. require (eqb (length cs) n) 61 0 >> answer cs) q in
         let same : ◌≡◌ {A = List (List ℕ)} ds cs =

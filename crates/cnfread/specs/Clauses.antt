@@ -3,7 +3,7 @@ use Rattle.std.specs.Prelude.{◌≡◌, Bool, true, false, cond, List, [], ◌�
 use Rattle.scope.specs.declared.Refusal.{Refusal}
 use Rattle.scope.specs.Outcome.{Outcome, answer, refused, require, ◌>>◌, ◌>>=◌}
 use Rattle.scope.specs.Calls.{Added}
-use Rattle.growing.specs.Growing.{Table, Grows}
+use Rattle.growing.specs.Growing.{Table, Grows, FromAdd}
 use Rattle.cnf.specs.Text.{words, clauses_from}
 use Rattle.cnf.specs.Fold.{holds, kept, distinct_from, both_signs, yes_literal, or_clause, and_join, and_all, goal_of}
 use Rattle.cnffold.specs.Built.{Small}
@@ -73,10 +73,17 @@ remaining false t cs = and_all t cs
 abbrev pub filed : ℕ → List ℕ → ℕ → ℕ → Outcome (List (List ℕ))
 filed vars text at n = body_at vars text at >>= λ cs. require (eqb (length cs) n) 61 0 >> answer cs
 
--- a body folded: where its clauses are cs, the table under way is the outcome for cs; a goal is answered only where there are such, and 61 only
--- where there are none
+-- a body folded: where its clauses are cs, the table under way is the outcome for cs, and a goal is answered only where there are such
 pub record Folds (body : Outcome (List (List ℕ))) (out : List (List ℕ) → List ℕ → Outcome Added) (room : ℕ) (g : Result ℕ Refusal) (t : Table) : Type 0 where
   pub table : (cs : List (List ℕ)) → body ≡ answer cs → Grows (out cs) room g t
   pub there : (l : ℕ) → g ≡ Ok l → (cs : List (List ℕ)) × (body ≡ answer cs)
-  pub unread : (r : Refusal) → g ≡ Err r → r.number ≡ 61 → body ≡ refused 61 0
   pub room_is : t.room ≡ room
+
+-- a refusal by 61 only where what was read is refused so
+abbrev pub Unread : {A : Type 0} → Outcome A → Result ℕ Refusal → Type 0
+Unread o g = (r : Refusal) → g ≡ Err r → r.number ≡ 61 → o ≡ refused 61 0
+
+-- what refuses a body folded: one of add's numbers where it has clauses, and 61 only where it is malformed
+pub record Refuses (body : Outcome (List (List ℕ))) (g : Result ℕ Refusal) : Type 0 where
+  pub adds : (cs : List (List ℕ)) → body ≡ answer cs → FromAdd g
+  pub unread : Unread body g

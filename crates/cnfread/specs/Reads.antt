@@ -22,11 +22,10 @@ pub record Starts (text : List ℕ) (h : Heading) : Type 0 where
   pub few : h.variables ≤ 1024
   pub file : file_of text ≡ (filed h.variables text h.body h.clauses >>= λ cs. answer (file_with h cs))
 
--- a table under way, or its refusal: that of the text's file, if there is one; 61 is the text's own
+-- a table under way, or its refusal: that of the text's file, if there is one
 pub record Told (text buf : List ℕ) (t : Table) (g : Result ℕ Refusal) : Type 0 where
   pub table : (f : File) → file_of text ≡ answer f → build buf f ≡ outcome_of t buf g
   pub there : (l : ℕ) → g ≡ Ok l → (f : File) × (file_of text ≡ answer f)
-  pub unread : (r : Refusal) → g ≡ Err r → r.number ≡ 61 → file_of text ≡ refused 61 0
   pub room_is : t.room ≡ room_of (length buf)
 
 -- f refuses the text: what the text's own refusal is, or else r

@@ -2,10 +2,11 @@
 #![tactic(auto)]
 
 ghost use Rattle.std.specs.Prelude.{◌≡◌, [], ◌<◌, ◌≤◌, length, take};
-ghost use Rattle.growing.specs.Growing.{state, Grows};
+ghost use Rattle.growing.specs.Growing.{state, Grows, FromAdd};
+ghost use Rattle.cnf.specs.Text.{file_of};
 ghost use Rattle.cnf.specs.Fold.{goal_of, build};
 ghost use Rattle.cnffold.specs.Built.{Small};
-ghost use Rattle.cnfread.specs.Clauses.{Kept, Keeps, Gathers, folded, joined_clause, remaining, filed, Folds};
+ghost use Rattle.cnfread.specs.Clauses.{Kept, Keeps, Gathers, folded, joined_clause, remaining, filed, Folds, Unread, Refuses};
 ghost use Rattle.cnfread.specs.Reads.{file_with, Starts, Told, FirstRefusal, Reads};
 
 use adding::Mark;
@@ -92,7 +93,8 @@ fn gather(
 // A clause: TRUE where it has both signs of a variable, else an OR.
 fn add_clause(nodes: &mut Draft, held: &[u16], count: usize, both: bool) -> Result<usize, Refusal>
     requires { Small held.now count }
-    ensures { Grows (λ buf. folded both (state 0 nodes.old buf) (take count held.now)) nodes.old.room result nodes.new }
+    ensures grows { Grows (λ buf. folded both (state 0 nodes.old buf) (take count held.now)) nodes.old.room result nodes.new }
+    ensures adds { FromAdd result }
 {
     if both {
         return cnffold::add_true(nodes);
@@ -110,7 +112,8 @@ fn join_clause(
     goal: usize,
 ) -> Result<usize, Refusal>
     requires { Small held.now count × (goal < 4032) }
-    ensures { Grows (λ buf. joined_clause first goal both (state 0 nodes.old buf) (take count held.now)) nodes.old.room result nodes.new }
+    ensures grows { Grows (λ buf. joined_clause first goal both (state 0 nodes.old buf) (take count held.now)) nodes.old.room result nodes.new }
+    ensures adds { FromAdd result }
 {
     let literal = add_clause(nodes, held, count, both)?;
     if first {
@@ -122,7 +125,8 @@ fn join_clause(
 // The goal where the body has ended: TRUE where it has no clause.
 fn end_body(nodes: &mut Draft, none: bool, goal: usize) -> Result<usize, Refusal>
     requires { goal < 4032 }
-    ensures { Grows (λ buf. remaining none (state goal nodes.old buf) []) nodes.old.room result nodes.new }
+    ensures grows { Grows (λ buf. remaining none (state goal nodes.old buf) []) nodes.old.room result nodes.new }
+    ensures adds { FromAdd result }
 {
     if none {
         return cnffold::add_true(nodes);
@@ -143,7 +147,8 @@ fn fold_body(
 ) -> Result<usize, Refusal>
     requires at_in_bounds { (at ≤ length text.now) × (vars ≤ 1024) × Kept marks.old held.old 0 }
     requires lt_literal { literal < 4032 }
-    ensures { Folds (filed vars text.now at clauses) (λ cs buf. goal_of (state literal nodes.old buf) cs) nodes.old.room result nodes.new }
+    ensures folds { Folds (filed vars text.now at clauses) (λ cs buf. goal_of (state literal nodes.old buf) cs) nodes.old.room result nodes.new }
+    ensures refuses { Refuses (filed vars text.now at clauses) result }
 {
     let mut place = at;
     let mut goal = literal;
@@ -165,7 +170,8 @@ fn fold_body(
 // The table of a text with a heading, under way: the points, then the clauses.
 fn grow_table(text: &[u8], h: Heading, nodes: &mut Draft) -> Result<usize, Refusal>
     requires { Starts text.now h × (nodes.old.count ≡ 0) }
-    ensures { Folds (filed h.variables text.now h.body h.clauses) (λ cs buf. build buf (file_with h cs)) nodes.old.room result nodes.new }
+    ensures folds { Folds (filed h.variables text.now h.body h.clauses) (λ cs buf. build buf (file_with h cs)) nodes.old.room result nodes.new }
+    ensures refuses { Refuses (filed h.variables text.now h.body h.clauses) result }
 {
     let literal = cnffold::add_points(nodes, h.variables)?;
     let mut marks = [0u8; 2048];
@@ -199,7 +205,7 @@ fn settle(
     g: Result<usize, Refusal>,
     buf: &mut [u8],
 ) -> Result<Mark, Refusal>
-    requires { Told text.now buf.old nodes.now g }
+    requires { Told text.now buf.old nodes.now g × Unread (file_of text.now) g }
     ensures { Reads text.now buf.old result buf.new }
 {
     match g {
@@ -211,8 +217,6 @@ fn settle(
             Err(first_refusal(text, r))
         }
         Ok(literal) => {
-            // known by it: there are no more nodes than there is room for
-            let _ = nodes.count();
             let used = nodes.write(buf);
             Ok(Mark { literal, used })
         }

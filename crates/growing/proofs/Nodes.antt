@@ -22,7 +22,13 @@ use Rattle.codec.proofs.Used.{written-length, written_over}
 use Rattle.std.specs.Prelude.{Result, Ok, Err}
 use Rattle.growing.specs.Chains.{Chains, Finds}
 use Rattle.growing.proofs.Chains.{no_chains}
-use Rattle.growing.specs.Growing.{node_in, nodes_in, room_of, Table, Under, Sound, Grows, joins}
+use Rattle.growing.specs.Growing.{node_in, nodes_in, room_of, Table, Under, Sound, Grows, FromAdd, joins}
+
+-- what is answered is refused by no number
+pub answer_adds : {v : Result ℕ Refusal} {l : ℕ} → v ≡ Ok l → FromAdd v
+answer_adds {l = l} e x q =
+    let p : Ok l ≡ Err x = sym e ∙ q in
+    absurd (let z : ◌≡◌ {A = ℕ} 0 1 = cc in omega arith)
 
 -- what is refused by one of add's numbers is refused by no other
 pub one_of_adds : {v : Result ℕ Refusal} {r x : Refusal} → v ≡ Err r → r.number < 60 → v ≡ Err x → x.number < 60
@@ -136,7 +142,6 @@ module _ {keys head next : List ℕ} {room n : ℕ} (u : Under keys head next ro
       said = λ buf e. rw (lt-ltb (index_of (node_in k) rs) (length rs) found-low, found_at);
       room_is = refl;
       low = λ l q. let same : 2 * s ≡ l = cc in omega (arith, inside, u.chains.most);
-      adds = λ r q. absurd (let z : ◌≡◌ {A = ℕ} 0 1 = cc in omega arith);
     }
 
   -- it was not
@@ -158,18 +163,16 @@ module _ {keys head next : List ℕ} {room n : ℕ} (u : Under keys head next ro
     size-now : (buf : List ℕ) → room_of (length buf) ≡ room → length (written (encode rs) buf) ≡ length buf
     size-now buf e = written-length (encode rs) buf (omega (arith, length-encode rs, count, room_fits (length buf) n (omega (arith, u.within))))
 
-    refused-here : (r : Refusal) → r.number < 60 → ((buf : List ℕ) → room_of (length buf) ≡ room → joins t k buf ≡ refused r.number r.place)
-        → Grows (joins t k) room (Err r) t
-    refused-here r h f = record {
+    refused-here : (r : Refusal) → ((buf : List ℕ) → room_of (length buf) ≡ room → joins t k buf ≡ refused r.number r.place) → Grows (joins t k) room (Err r) t
+    refused-here r f = record {
       said = f;
       room_is = refl;
       low = λ l q. absurd (let z : ◌≡◌ {A = ℕ} 0 1 = cc in omega arith);
-      adds = λ x q. one_of_adds refl h q;
     }
 
     pub grown-51 : n ≡ 2016 → Grows (joins t k) room (Err (record { number = 51; place = n })) t
     unfolding add_node add_new
-    grown-51 h = refused-here (record { number = 51; place = n }) (omega arith) (λ buf e. rw (new, count, le-ltb n 2016 (omega arith)))
+    grown-51 h = refused-here (record { number = 51; place = n }) (λ buf e. rw (new, count, le-ltb n 2016 (omega arith)))
 
     more-length : length (encode (rs ++ node_in k ∷ [])) ≡ 512 * ((n + 1 + 62) / 63)
     more-length = length-encode (rs ++ node_in k ∷ []) ∙ ap (λ (i : ℕ). 512 * ((i + 62) / 63)) (length-append rs (node_in k ∷ []) ∙ ap (◌+ 1) count)
@@ -177,7 +180,7 @@ module _ {keys head next : List ℕ} {room n : ℕ} (u : Under keys head next ro
     pub grown-52 : (n ≡ 2016 → ⊥) → n ≡ room → Grows (joins t k) room (Err (record { number = 52; place = n })) t
     unfolding add_node add_new
     grown-52 d h =
-        refused-here (record { number = 52; place = n }) (omega arith)
+        refused-here (record { number = 52; place = n })
         (λ buf e.
         let over : length buf < 512 * ((n + 1 + 62) / 63) = rw (h, ← e) (room_full (length buf) (omega (arith, u.few))) in
         rw (new, count, lt-ltb n 2016 (omega (arith, u.few)), lt-leb (length (encode (rs ++ node_in k ∷ []))) (length (written (encode rs) buf)) (omega (arith, size-now buf e, more-length))))
@@ -195,7 +198,6 @@ module _ {keys head next : List ℕ} {room n : ℕ} (u : Under keys head next ro
               rw (new, count, lt-ltb n 2016 less, le-leb (length (encode (rs ++ node_in k ∷ []))) (length (written (encode rs) buf)) fits, after, written_over (encode rs) (encode (rs ++ node_in k ∷ [])) buf (omega (arith, more-length, length-encode rs, count)));
           room_is = refl;
           low = λ l p. let same : 2 * n ≡ l = cc in omega arith;
-          adds = λ r p. absurd (let z : ◌≡◌ {A = ℕ} 0 1 = cc in omega arith);
         }
 
     pub under_more : {head' next' : List ℕ} → (n ≡ room → ⊥) → read_record (node_bytes (node_in k)) n ≡ answer (node_in k)

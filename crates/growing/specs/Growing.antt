@@ -53,12 +53,15 @@ pub record Sound (t : Table) : Type 0 where
   pub valid : 0 < length (nodes_in t.keys t.count) → Valid (nodes_in t.keys t.count)
   pub size : length t.keys ≡ 2016
 
--- over every buffer with so much room the answer is the outcome given, with the table that is left; a refusal is one of add's, not of a text's
+-- over every buffer with so much room the answer is the outcome given, with the table that is left
 pub record Grows (out : List ℕ → Outcome Added) (room : ℕ) (v : Result ℕ Refusal) (t : Table) : Type 0 where
   pub said : (buf : List ℕ) → room_of (length buf) ≡ room → out buf ≡ outcome_of t buf v
   pub room_is : t.room ≡ room
   pub low : (l : ℕ) → v ≡ Ok l → l < 4032
-  pub adds : (r : Refusal) → v ≡ Err r → r.number < 60
+
+-- a refusal is one of add's, not of a text's
+abbrev pub FromAdd : Result ℕ Refusal → Type 0
+FromAdd v = (r : Refusal) → v ≡ Err r → r.number < 60
 
 -- the node of k joins a table
 abbrev pub joins : Table → ℕ → List ℕ → Outcome Added

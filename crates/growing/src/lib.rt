@@ -6,7 +6,7 @@ ghost use Rattle.scope.specs.Outcome.{answer};
 ghost use Rattle.scope.specs.Block.{block_of};
 ghost use Rattle.scope.specs.Table.{node_bytes, read_record};
 ghost use Rattle.growing.specs.Chains.{hash_of, Chains, slot_of, Finds};
-ghost use Rattle.growing.specs.Growing.{node_in, records_in, room_of, Held, Table, Under, Sound, Grows, joins, WritesTo, Writes};
+ghost use Rattle.growing.specs.Growing.{node_in, records_in, room_of, Held, Table, Under, Sound, Grows, FromAdd, joins, WritesTo, Writes};
 
 use scope::Refusal;
 use std::marker::Model;
@@ -167,7 +167,8 @@ impl Draft {
     // The literal of the number k's node: found, or new where there is room for it.
     pub fn grow(&mut self, k: u32) -> Result<usize, Refusal>
         requires { read_record (node_bytes (node_in k)) self.old.count ≡ answer (node_in k) }
-        ensures { Sound self.old × Grows (joins self.old k) self.old.room result self.new }
+        ensures grows { Sound self.old × Grows (joins self.old k) self.old.room result self.new }
+        ensures adds { FromAdd result }
     {
         let h = hash(k);
         if let Some(s) = find(&self.keys, &self.head, &self.next, self.count, k, h) {
@@ -198,9 +199,10 @@ impl Draft {
         Ok(literal)
     }
 
-    // Writes the table to the start of a buffer that has room for its nodes: its blocks, one after another.
+    // Writes the table to the start of a buffer that has room for its nodes, which are no more than the draft has room for: its blocks, one
+    // after another.
     pub fn write(&self, buf: &mut [u8]) -> usize
-        requires { self.now.count ≤ room_of (length buf.old) }
+        requires { self.now.count ≤ self.now.room → self.now.count ≤ room_of (length buf.old) }
         ensures { Writes self.now buf.old buf.new result }
     {
         write_blocks(buf, &self.keys, self.count)

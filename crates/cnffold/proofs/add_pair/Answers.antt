@@ -5,6 +5,7 @@ use Rattle.scope.specs.Outcome.{answer}
 use Rattle.scope.specs.Table.{node_bytes, read_record}
 use Rattle.scope.specs.Calls.{normalized}
 use Rattle.growing.specs.Growing.{node_in, key_of}
+use Rattle.growing.proofs.Nodes.{one_of_adds}
 use Rattle.cnf.specs.Fold.{node}
 use Rattle.cnffold.specs.declared.Pair.{Pair}
 use Rattle.cnffold.specs.Built.{InOrder}
@@ -29,16 +30,22 @@ reads c = let k = c.requires in
 pub returns-then-place-o : goal.returns-then-place-o
 returns-then-place-o c = let k = c.requires in
     let t = c.count-place.ensures in
-    grows_refused refl refl (omega arith)
-    (λ buf q. put_refused t.1 buf q c.args.kind c.args.a c.args.b
-    (rw (← t.0) (pair-15 c.args.kind k.0 k.1 c.args.a c.args.b c.count-place.result c.in_order-o.ensures c.if-place-o.true)))
+    record {
+      grows = grows_refused refl refl
+          (λ buf q. put_refused t.1 buf q c.args.kind c.args.a c.args.b
+          (rw (← t.0) (pair-15 c.args.kind k.0 k.1 c.args.a c.args.b c.count-place.result c.in_order-o.ensures c.if-place-o.true)));
+      adds = λ x. one_of_adds refl (omega arith);
+    }
 
 pub returns-then-o : goal.returns-then-o
 returns-then-o c = let k = c.requires in
     let t = c.count-place.ensures in
-    grows_refused refl refl (omega arith)
-    (λ buf q. put_refused t.1 buf q c.args.kind c.args.a c.args.b
-    (rw (← t.0) (pair-16 c.args.kind k.0 k.1 c.args.a c.args.b c.count-place.result c.in_order-o.ensures c.if-place-o.false c.if-o.true)))
+    record {
+      grows = grows_refused refl refl
+          (λ buf q. put_refused t.1 buf q c.args.kind c.args.a c.args.b
+          (rw (← t.0) (pair-16 c.args.kind k.0 k.1 c.args.a c.args.b c.count-place.result c.in_order-o.ensures c.if-place-o.false c.if-o.true)));
+      adds = λ x. one_of_adds refl (omega arith);
+    }
 
 pub grow-requires : goal.grow-requires
 grow-requires c =
@@ -49,5 +56,9 @@ grow-requires c =
 pub returns : goal.returns
 returns c =
     let o = c.in_order-o.result in
-    grows_put c.grow.ensures.0 (key_of c.args.kind o.low o.high) c.args.kind c.args.a c.args.b (node c.args.kind o.low o.high)
-    (ordered c.args.kind c.in_order-o.ensures c.requires.2 c.requires.3) (reads (goal.at.returns c).Else-o) c.grow.ensures.1
+    let (s, g) = c.grow.ensures.grows in
+    record {
+      grows = grows_put s (key_of c.args.kind o.low o.high) c.args.kind c.args.a c.args.b (node c.args.kind o.low o.high)
+          (ordered c.args.kind c.in_order-o.ensures c.requires.2 c.requires.3) (reads (goal.at.returns c).Else-o) g;
+      adds = c.grow.ensures.adds;
+    }

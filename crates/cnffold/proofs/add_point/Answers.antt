@@ -12,4 +12,8 @@ grow-requires c = let p = c.args.p in
 
 pub returns : goal.returns
 returns c = let p = c.args.p in
-    grows_put c.grow.ensures.0 (33554432 + p) 2 p 0 (node 2 p 0) (point_node p c.requires) (point_reads p c.args.nodes.now.count c.requires) c.grow.ensures.1
+    let (s, g) = c.grow.ensures.grows in
+    record {
+      grows = grows_put s (33554432 + p) 2 p 0 (node 2 p 0) (point_node p c.requires) (point_reads p c.args.nodes.now.count c.requires) g;
+      adds = c.grow.ensures.adds;
+    }

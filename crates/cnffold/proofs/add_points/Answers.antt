@@ -2,8 +2,9 @@
 use mathlib.Core.Path.{◌∙◌, ap, sym, refl}
 use native.Mathlib.Nat.{sub-zero}
 use Rattle.scope.specs.Calls.{Added}
+use Rattle.growing.proofs.Nodes.{answer_adds}
 use Rattle.cnf.specs.Fold.{points}
-use Rattle.cnffold.proofs.Built.{grows_as, grows_in, grows_answer, grows_next, grows_stops, none-state}
+use Rattle.cnffold.proofs.Built.{grows_as, grows_in, grows_answer, grows_next, stops_adds, grows_stops, none-state}
 use Rattle.cnffold.proofs.Folds.{point_next, points-done}
 use native.Mathlib.Omega.{arith}
 use Rattle.cnffold.proofs.add_points.Goals as goal
@@ -16,12 +17,15 @@ add_point-requires c = omega (arith, c.loop-p-test.true, c.requires.1)
 
 pub returns-in_err-literal : goal.returns-in_err-literal
 returns-in_err-literal c = let inv = c.loop-p.invariant in
-    grows_as (λ buf q. sym (inv.2 buf q) ∙ point_next _ _ _ c.loop-p-test.true)
-    (grows_stops (grows_in inv.1 c.add_point.ensures) (λ buf u. points u _ _) c.in_err-literal.was c.from_residual.ensures.1)
+    record {
+      grows = grows_as (λ buf q. sym (inv.2 buf q) ∙ point_next _ _ _ c.loop-p-test.true)
+          (grows_stops (grows_in inv.1 c.add_point.ensures.grows) (λ buf u. points u _ _) c.in_err-literal.was c.from_residual.ensures.1);
+      adds = stops_adds c.add_point.ensures.adds c.in_err-literal.was c.from_residual.ensures.1;
+    }
 
 pub loop-p-preserved : goal.loop-p-preserved
 loop-p-preserved c = let inv = c.loop-p.invariant in
-    let g = grows_in inv.1 c.add_point.ensures in
+    let g = grows_in inv.1 c.add_point.ensures.grows in
     let told = c.in_ok-literal.was in (
       g.low _ told,
       g.room_is,
@@ -29,4 +33,5 @@ loop-p-preserved c = let inv = c.loop-p.invariant in
     )
 
 pub returns : goal.returns
-returns c = let inv = c.loop-p.invariant in grows_answer inv.0 inv.1 (λ buf q. sym (inv.2 buf q) ∙ points-done _ _ _ c.loop-p-test.false)
+returns c = let inv = c.loop-p.invariant in
+    record { grows = grows_answer inv.0 inv.1 (λ buf q. sym (inv.2 buf q) ∙ points-done _ _ _ c.loop-p-test.false); adds = answer_adds refl }

@@ -11,5 +11,8 @@ grow-requires c =
     key_reads 16777216 (node 1 0 0) (node 1 0 0) c.args.nodes.now.count (key_node 1 0 0 (omega arith) (omega arith)) (true-reads c.args.nodes.now.count)
 
 pub returns : goal.returns
-returns c =
-    grows_put c.grow.ensures.0 16777216 1 0 0 (node 1 0 0) (key_node 1 0 0 (omega arith) (omega arith)) (true-reads c.args.nodes.now.count) c.grow.ensures.1
+returns c = let (s, g) = c.grow.ensures.grows in
+    record {
+      grows = grows_put s 16777216 1 0 0 (node 1 0 0) (key_node 1 0 0 (omega arith) (omega arith)) (true-reads c.args.nodes.now.count) g;
+      adds = c.grow.ensures.adds;
+    }

@@ -1,14 +1,18 @@
 -- `cnffold::or_clause` meets its contract: the literals from i on are left to join. Assumes nothing.
 use mathlib.Core.Path.{◌∙◌, sym, refl}
 use Prim.Native.Nat.{◌<◌}
+use Rattle.growing.proofs.Nodes.{answer_adds}
 use Rattle.cnf.specs.Fold.{or_all}
-use Rattle.cnffold.proofs.Built.{grows_as, grows_in, grows_answer, grows_next, grows_stops}
+use Rattle.cnffold.proofs.Built.{grows_as, grows_in, grows_answer, grows_next, stops_adds, grows_stops}
 use Rattle.cnffold.proofs.Folds.{or_none, or_first, or_next, ors_done}
 use native.Mathlib.Omega.{arith}
 use Rattle.cnffold.proofs.or_clause.Goals as goal
 
 pub returns-then-count-eq0 : goal.returns-then-count-eq0
-returns-then-count-eq0 c = grows_as (λ buf q. sym (or_none c.args.held.now c.args.count c.args.nodes.now buf c.if-count-eq0.true)) c.add_false.ensures
+returns-then-count-eq0 c = record {
+  grows = grows_as (λ buf q. sym (or_none c.args.held.now c.args.count c.args.nodes.now buf c.if-count-eq0.true)) c.add_false.ensures.grows;
+  adds = c.add_false.ensures.adds;
+}
 
 pub bounds-held-0 : goal.bounds-held-0
 bounds-held-0 c = omega (arith, c.requires.within, c.if-count-eq0.false)
@@ -31,12 +35,15 @@ add_pair-requires c = (omega arith, omega arith, c.loop-i.invariant.0, omega (ar
 
 pub returns-in_err-literal : goal.returns-in_err-literal
 returns-in_err-literal c = let inv = c.loop-i.invariant in
-    grows_as (λ buf q. sym (inv.2 buf q) ∙ or_next c.args.held.now c.args.count _ c.requires.within _ c.loop-i-test.true)
-    (grows_stops (grows_in inv.1 c.add_pair.ensures) (λ buf u. or_all u _) c.in_err-literal.was c.from_residual.ensures.1)
+    record {
+      grows = grows_as (λ buf q. sym (inv.2 buf q) ∙ or_next c.args.held.now c.args.count _ c.requires.within _ c.loop-i-test.true)
+          (grows_stops (grows_in inv.1 c.add_pair.ensures.grows) (λ buf u. or_all u _) c.in_err-literal.was c.from_residual.ensures.1);
+      adds = stops_adds c.add_pair.ensures.adds c.in_err-literal.was c.from_residual.ensures.1;
+    }
 
 pub loop-i-preserved : goal.loop-i-preserved
 loop-i-preserved c = let inv = c.loop-i.invariant in
-    let g = grows_in inv.1 c.add_pair.ensures in
+    let g = grows_in inv.1 c.add_pair.ensures.grows in
     let told = c.in_ok-literal.was in (
       g.low _ told,
       g.room_is,
@@ -46,4 +53,7 @@ loop-i-preserved c = let inv = c.loop-i.invariant in
 
 pub returns : goal.returns
 returns c = let inv = c.loop-i.invariant in
-    grows_answer inv.0 inv.1 (λ buf q. sym (inv.2 buf q) ∙ ors_done c.args.held.now c.args.count _ c.requires.within _ c.loop-i-test.false)
+    record {
+      grows = grows_answer inv.0 inv.1 (λ buf q. sym (inv.2 buf q) ∙ ors_done c.args.held.now c.args.count _ c.requires.within _ c.loop-i-test.false);
+      adds = answer_adds refl;
+    }

@@ -6,4 +6,7 @@ use Rattle.cnfread.proofs.Joining.{folded-true}
 use Rattle.cnfread.proofs.add_clause.Goals as goal
 
 pub returns-then-both : goal.returns-then-both
-returns-then-both c = grows_as (λ buf q. folded-true (state 0 c.args.nodes.now buf) (take c.args.count c.args.held.now) c.if-both.true) c.add_true.ensures
+returns-then-both c = record {
+  grows = grows_as (λ buf q. folded-true (state 0 c.args.nodes.now buf) (take c.args.count c.args.held.now) c.if-both.true) c.add_true.ensures.grows;
+  adds = c.add_true.ensures.adds;
+}
