@@ -18,7 +18,7 @@ use Rattle.codec.proofs.Tables.{length-encode}
 use Rattle.codec.proofs.Used.{encode-none, encode_used, written_used, written-length}
 use Rattle.adding.proofs.Rows.{record-rows, add_is}
 use Rattle.growing.specs.Growing.{node_in, nodes_in, Table, state, room_of, outcome_of, Sound, Grows, FromAdd, joins}
-use Rattle.growing.proofs.Nodes.{one_of_adds, nodes_count, room_fits}
+use Rattle.growing.proofs.Nodes.{no_answer, one_of_adds, nodes_count, room_fits}
 use Rattle.cnf.specs.Fold.{node, put, at, opposite, no_literal, empty}
 use Rattle.cnffold.proofs.Folds.{false-is}
 
@@ -101,14 +101,18 @@ pub grows_refused : {out : List ℕ → Outcome Added} {room : ℕ} {r : Refusal
 grows_refused {r = r} {t = t} e k f = record {
   said = λ buf q. f buf q ∙ sym (ap (outcome_of t buf) e);
   room_is = k;
-  low = λ l q. absurd (let p : Ok l ≡ Err r = sym q ∙ e in let z : ◌≡◌ {A = ℕ} 0 1 = cc in omega arith);
+  low = λ l q. absurd (no_answer e q);
 }
 
--- .. and by one of add's numbers, where it is handed on
-pub stops_adds : {v w : Result ℕ Refusal} {r : Refusal} → FromAdd v → v ≡ Err r → IsErrAnd w (λ x. x ≡ r) → FromAdd w
-stops_adds {w = w} a e h x =
+-- what a `?` hands on is the refusal that it met
+pub same_refusal : {w : Result ℕ Refusal} {r : Refusal} → IsErrAnd w (λ x. x ≡ r) → w ≡ Err r
+same_refusal {w} h =
     let p = err_from_is_err_and w h in
-    one_of_adds (p.1 ∙ ap Err p.2) (a _ e)
+    p.1 ∙ ap Err p.2
+
+-- .. so it is one of add's where that was
+pub stops_adds : {v w : Result ℕ Refusal} {r : Refusal} → FromAdd v → v ≡ Err r → IsErrAnd w (λ x. x ≡ r) → FromAdd w
+stops_adds a e h x = one_of_adds (same_refusal h) (a _ e)
 
 module _ {out : List ℕ → Outcome Added} {room : ℕ} {v : Result ℕ Refusal} {t : Table} (g : Grows out room v t) where
   -- it was answered: the table afterwards
@@ -126,9 +130,8 @@ module _ {out : List ℕ → Outcome Added} {room : ℕ} {v : Result ℕ Refusal
   -- .. so is what comes next, where the refusal is handed on
   pub grows_stops : {r : Refusal} {w : Result ℕ Refusal} (f : List ℕ → Added → Outcome Added) → v ≡ Err r → IsErrAnd w (λ x. x ≡ r)
       → Grows (λ buf. out buf >>= f buf) room w t
-  grows_stops {w = w} f e h =
-      let p = err_from_is_err_and w h in
-      grows_refused (p.1 ∙ ap Err p.2) g.room_is (λ buf q. ap (λ (o : Outcome Added). o >>= f buf) (grows_turned e buf q))
+  grows_stops f e h =
+      grows_refused (same_refusal h) g.room_is (λ buf q. ap (λ (o : Outcome Added). o >>= f buf) (grows_turned e buf q))
 
 -- TRUE was answered: the other sign is false
 pub grows_false : (t : Table) {t' : Table} {room l m : ℕ} {v : Result ℕ Refusal} → Grows (λ buf. put (state 0 t buf) 1 0 0) room v t' → v ≡ Ok l

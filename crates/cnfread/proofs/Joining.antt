@@ -9,7 +9,6 @@ use lib.ListN.{length, take, length-append}
 use borrow.Author.Tests.{eq-eqb, ne_eqb}
 use Rattle.std.specs.Prelude.{Result, Ok, Err}
 use Rattle.std.specs.Result.{IsErrAnd}
-use Rattle.std.proofs.lemmas.Result.{err_from_is_err_and}
 use Rattle.scope.specs.declared.Refusal.{Refusal}
 use Rattle.scope.specs.Outcome.{Outcome, answer, refused, require, ◌>>◌, ◌>>=◌}
 use Rattle.scope.specs.Calls.{Added}
@@ -18,7 +17,8 @@ use Rattle.codec.proofs.Rows.{row}
 use Rattle.growing.specs.Growing.{Table, state, Grows, FromAdd}
 use Rattle.cnf.specs.Fold.{put, yes_literal, no_literal, distinct_from, both_signs, or_clause, clause, and_all, goal_of, points, empty, build}
 use Rattle.cnftext.specs.declared.Heading.{Heading}
-use Rattle.cnffold.proofs.Built.{Over, grows_as, grows_in, grows_refused, grows_next, grows_turned}
+use Rattle.growing.proofs.Nodes.{no_answer}
+use Rattle.cnffold.proofs.Built.{Over, same_refusal, grows_as, grows_in, grows_refused, grows_next, grows_turned}
 use Rattle.cnfread.specs.declared.Gathered.{Gathered}
 use Rattle.cnfread.specs.Clauses.{body_at, ReadsClause, folded, joined, joined_clause, remaining, filed, Folds, Refuses}
 use Rattle.cnfread.specs.Reads.{file_with}
@@ -65,14 +65,7 @@ remaining-step false t c cs = sym (bind_assoc (clause t c) (joined false t.liter
 
 -- what a `?` hands on
 pub handed : {w : Result ℕ Refusal} {r : Refusal} → IsErrAnd w (λ x. x ≡ r) → w ≡ Err r
-handed {w} h =
-    let p = err_from_is_err_and w h in
-    p.1 ∙ ap Err p.2
-
-no_literal_of : {g : Result ℕ Refusal} {r : Refusal} {l : ℕ} → g ≡ Err r → g ≡ Ok l → ⊥
-no_literal_of {r = r} {l = l} e q =
-    let p : Ok l ≡ Err r = sym q ∙ e in
-    let z : ◌≡◌ {A = ℕ} 0 1 = cc in omega arith
+handed h = same_refusal h
 
 -- what a body folded is: it is malformed
 pub folds_unread : {body : Outcome (List (List ℕ))} {out : List (List ℕ) → List ℕ → Outcome Added} {room : ℕ} {g : Result ℕ Refusal} {r : Refusal} {t : Table}
@@ -80,7 +73,7 @@ pub folds_unread : {body : Outcome (List (List ℕ))} {out : List (List ℕ) →
     → Folds body out room g t
 folds_unread q k e = record {
   table = λ cs p. refused_no (sym e ∙ p);
-  there = λ l p. absurd (no_literal_of q p);
+  there = λ l p. absurd (no_answer q p);
   room_is = k;
 }
 
@@ -90,7 +83,7 @@ pub folds_refused : {body : Outcome (List (List ℕ))} {out : List (List ℕ) �
     → ((cs : List (List ℕ)) → body ≡ answer cs → Over room (λ buf. out cs buf ≡ refused r.number r.place)) → Folds body out room g t
 folds_refused e k f = record {
   table = λ cs q. grows_refused e k (f cs q);
-  there = λ l p. absurd (no_literal_of e p);
+  there = λ l p. absurd (no_answer e p);
   room_is = k;
 }
 
@@ -98,7 +91,7 @@ folds_refused e k f = record {
 pub unread_refuses : {body : Outcome (List (List ℕ))} {g : Result ℕ Refusal} → body ≡ refused 61 0 → Refuses body g
 unread_refuses e = record { adds = λ cs p. refused_no (sym e ∙ p); unread = λ x p z. e }
 
--- .. and one of add's wherever
+-- .. or one of add's, whatever it is
 pub adds_refuses : {body : Outcome (List (List ℕ))} {g : Result ℕ Refusal} → FromAdd g → Refuses body g
 adds_refuses a = record { adds = λ cs p. a; unread = λ x p z. absurd (omega (arith, z, a x p)) }
 

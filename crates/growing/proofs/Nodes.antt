@@ -24,11 +24,15 @@ use Rattle.growing.specs.Chains.{Chains, Finds}
 use Rattle.growing.proofs.Chains.{no_chains}
 use Rattle.growing.specs.Growing.{node_in, nodes_in, room_of, Table, Under, Sound, Grows, FromAdd, joins}
 
--- what is answered is refused by no number
+-- a refusal is no answer
+pub no_answer : {v : Result ℕ Refusal} {r : Refusal} {l : ℕ} → v ≡ Err r → v ≡ Ok l → ⊥
+no_answer {r = r} {l = l} e q =
+    let p : Ok l ≡ Err r = sym q ∙ e in
+    let z : ◌≡◌ {A = ℕ} 0 1 = cc in omega arith
+
+-- so what is answered is refused by no number
 pub answer_adds : {v : Result ℕ Refusal} {l : ℕ} → v ≡ Ok l → FromAdd v
-answer_adds {l = l} e x q =
-    let p : Ok l ≡ Err x = sym e ∙ q in
-    absurd (let z : ◌≡◌ {A = ℕ} 0 1 = cc in omega arith)
+answer_adds e x q = absurd (no_answer q e)
 
 -- what is refused by one of add's numbers is refused by no other
 pub one_of_adds : {v : Result ℕ Refusal} {r x : Refusal} → v ≡ Err r → r.number < 60 → v ≡ Err x → x.number < 60
@@ -167,7 +171,7 @@ module _ {keys head next : List ℕ} {room n : ℕ} (u : Under keys head next ro
     refused-here r f = record {
       said = f;
       room_is = refl;
-      low = λ l q. absurd (let z : ◌≡◌ {A = ℕ} 0 1 = cc in omega arith);
+      low = λ l q. absurd (no_answer refl q);
     }
 
     pub grown-51 : n ≡ 2016 → Grows (joins t k) room (Err (record { number = 51; place = n })) t

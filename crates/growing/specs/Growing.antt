@@ -59,7 +59,7 @@ pub record Grows (out : List ℕ → Outcome Added) (room : ℕ) (v : Result ℕ
   pub room_is : t.room ≡ room
   pub low : (l : ℕ) → v ≡ Ok l → l < 4032
 
--- a refusal is one of add's, not of a text's
+-- a refusal is one of add's, which are below 60, and not of a text's, 60 and 61
 abbrev pub FromAdd : Result ℕ Refusal → Type 0
 FromAdd v = (r : Refusal) → v ≡ Err r → r.number < 60
 
